@@ -1,0 +1,67 @@
+-- The files, and what each call on a disk that ends well leaves of them.
+use Rattle.std.specs.Prelude.{ℕ, ◌+◌, ◌-◌, Bool, ◌==◌, if◌then◌else◌, List, [], ◌++◌, length, take, drop, replicate, Option, Some, None, unwrap_or}
+use Rattle.file_spec.specs.declared.FileName.{FileName}
+use Rattle.file_spec.specs.declared.FileName.TheVariants.{Target, Oal, Wal, Journal, Rbu, State, StateTemp}
+
+-- the files as a map from their names to their bytes; a name without a file has `None`
+abbrev pub Files : Type 0
+Files = FileName → Option (List ℕ)
+
+-- the place of a name in the list of names
+abbrev pub name_index : FileName → ℕ
+name_index Target = 0
+name_index Oal = 1
+name_index Wal = 2
+name_index Journal = 3
+name_index Rbu = 4
+name_index State = 5
+name_index StateTemp = 6
+
+-- whether two names are one
+abbrev pub is_name : FileName → FileName → Bool
+is_name a b = name_index a == name_index b
+
+-- the bytes under a name; a missing file has none
+abbrev pub content : Files → FileName → List ℕ
+content files name = unwrap_or (files name) []
+
+-- the files with these bytes, or no file, under one name
+abbrev pub with_file : Files → FileName → Option (List ℕ) → Files
+with_file files name bytes other = if is_name name other then bytes else files other
+
+-- bytes of the given length: cut there, or followed by zeros
+abbrev pub resized : List ℕ → ℕ → List ℕ
+resized bytes n = take n bytes ++ replicate (n - length bytes) 0
+
+-- bytes written over at a place; zeros lie between an earlier end and the place
+abbrev pub overwritten : List ℕ → ℕ → List ℕ → List ℕ
+overwritten old at bytes = resized old at ++ bytes ++ drop (at + length bytes) old
+
+-- a write at a place, which makes a missing file first
+abbrev pub after_write : Files → FileName → ℕ → List ℕ → Files
+after_write files name at bytes = with_file files name (Some (overwritten (content files name) at bytes))
+
+-- a change of length, which makes a missing file first
+abbrev pub after_set_len : Files → FileName → ℕ → Files
+after_set_len files name n = with_file files name (Some (resized (content files name) n))
+
+-- a name that has no file gets an empty one
+abbrev pub after_create : Files → FileName → Files
+after_create files name = with_file files name (Some (content files name))
+
+-- the name has no file
+abbrev pub after_remove : Files → FileName → Files
+after_remove files name = with_file files name None
+
+-- a missing file stays missing
+abbrev pub moved : Files → FileName → FileName → Option (List ℕ) → Files
+moved files from to None = files
+moved files from to (Some bytes) = with_file (with_file files from None) to (Some bytes)
+
+-- a file takes another name, in place of what that had; a missing one changes nothing
+abbrev pub after_rename : Files → FileName → FileName → Files
+after_rename files from to = moved files from to (files from)
+
+-- the bytes from a place on, as many as are asked for or fewer at the file's end
+abbrev pub part_of : List ℕ → ℕ → ℕ → List ℕ
+part_of bytes at n = take n (drop at bytes)

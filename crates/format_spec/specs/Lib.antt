@@ -1,0 +1,7 @@
+pub mod Numbers
+pub mod Varint
+pub mod Record
+pub mod Cell
+pub mod Page
+pub mod Header
+pub mod Log

@@ -1,0 +1,44 @@
+//! SQLite's file formats as relations between bytes and what they stand for.
+//!
+//! A crate of definitions. Crates above cite, from `specs/`:
+//!
+//! - `Numbers`: numbers at a place in bytes, and pages of a file (Database File Format, section 1.3);
+//! - `Varint`: variable-length integers (section 1.6);
+//! - `Record`: records and the canonical record of a list of values (section 2.1);
+//! - `Cell`: the cells of b-tree pages, and how much of a payload they keep (section 1.6);
+//! - `Page`: a b-tree page as a list of cells (section 1.6), and the page that is packed from its end;
+//! - `Header`: the fields of the database header (section 1.3);
+//! - `Log`: the write-ahead log, its frames and checksums, and the overlay of a file by a log (section 4).
+#![tactic(auto)]
+
+/// The kinds of b-tree page (Database File Format, section 1.6).
+#[derive(Clone, Copy, Debug, PartialEq, Eq)]
+pub enum PageKind {
+    /// A leaf of a table's tree: type 13.
+    TableLeaf,
+}
+
+/// What a cell holds, and where in the cell's bytes its payload lies. A field that its kind lacks is 0.
+#[derive(Clone, Copy, Debug, PartialEq, Eq)]
+pub struct CellView {
+    /// The length of the cell in bytes.
+    pub size: u32,
+    /// The key of a table's row.
+    pub rowid: i64,
+    /// The number of the left child's page.
+    pub child: u32,
+    /// The length of the whole payload in bytes, at most 2147483647.
+    pub payload: u64,
+    /// Where in the cell the local part of the payload begins.
+    pub local_at: u32,
+    /// The length in bytes of the part of the payload that lies in the cell.
+    pub local: u32,
+    /// The number of the first overflow page, or 0.
+    pub overflow: u32,
+}
+
+mod worked;
+
+pub use worked::{
+    worked_cell, worked_log_header, worked_page, worked_record, worked_sizes, worked_varints,
+};

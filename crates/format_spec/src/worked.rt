@@ -1,0 +1,57 @@
+// The definitions, computed on rows that were worked out apart from them.
+ghost use Rattle.std.specs.Prelude.{◌≡◌, pos, [], ◌∷◌, ◌++◌, true};
+ghost use Rattle.rbu_value.specs.declared.value.Value.TheVariants.{Null, Int, Text};
+ghost use Rattle.format_spec.specs.declared.PageKind.TheVariants.{TableLeaf};
+ghost use Rattle.format_spec.specs.Varint.{varint};
+ghost use Rattle.format_spec.specs.Record.{canonical_record};
+ghost use Rattle.format_spec.specs.Cell.{local_size, table_leaf_cell};
+ghost use Rattle.format_spec.specs.Page.{packed_leaf};
+ghost use Rattle.format_spec.specs.Log.{log_header};
+
+/// The shortest varints at the edges of their sizes.
+#[tactic(auto, unfolding(crate::specs::Varint::varint, crate::specs::Varint::varint_front))]
+pub fn worked_varints()
+    ensures one { varint 127 ≡ 0x7f ∷ [] }
+    ensures two { varint 128 ≡ 0x81 ∷ 0 ∷ [] }
+    ensures eight { varint 72057594037927935 ≡ 0xff ∷ 0xff ∷ 0xff ∷ 0xff ∷ 0xff ∷ 0xff ∷ 0xff ∷ 0x7f ∷ [] }
+    ensures nine { varint (18446744073709551615) ≡ 0xff ∷ 0xff ∷ 0xff ∷ 0xff ∷ 0xff ∷ 0xff ∷ 0xff ∷ 0xff ∷ 0xff ∷ [] }
+{}
+
+/// The record of (NULL, 'one', 10).
+#[tactic(auto, unfolding(crate::specs::Varint::varint, crate::specs::Varint::varint_front, crate::specs::Record::canonical_record))]
+pub fn worked_record()
+    ensures { canonical_record 4 (Null ∷ Text (111 ∷ 110 ∷ 101 ∷ []) ∷ Int (pos 10) ∷ [])
+        ≡ 0x04 ∷ 0x00 ∷ 0x13 ∷ 0x01 ∷ 0x6f ∷ 0x6e ∷ 0x65 ∷ 0x0a ∷ [] }
+{}
+
+/// The table leaf's cell of that record at rowid 1, and a row of the first path.
+#[tactic(auto, unfolding(crate::specs::Varint::varint, crate::specs::Varint::varint_front, crate::specs::Record::canonical_record, crate::specs::Cell::table_leaf_cell))]
+pub fn worked_cell()
+    ensures row { table_leaf_cell (pos 1) (canonical_record 4 (Null ∷ Text (111 ∷ 110 ∷ 101 ∷ []) ∷ Int (pos 10) ∷ []))
+        ≡ 0x08 ∷ 0x01 ∷ 0x04 ∷ 0x00 ∷ 0x13 ∷ 0x01 ∷ 0x6f ∷ 0x6e ∷ 0x65 ∷ 0x0a ∷ [] }
+    ensures first_path { table_leaf_cell (pos 3) (canonical_record 4 (Null ∷ Text (100 ∷ 114 ∷ 101 ∷ 105 ∷ []) ∷ []))
+        ≡ 0x07 ∷ 0x03 ∷ 0x03 ∷ 0x00 ∷ 0x15 ∷ 0x64 ∷ 0x72 ∷ 0x65 ∷ 0x69 ∷ [] }
+{}
+
+/// How much of a payload a table leaf of 512 bytes keeps.
+pub fn worked_sizes()
+    ensures whole { local_size TableLeaf 512 477 ≡ 477 }
+    ensures least { local_size TableLeaf 512 478 ≡ 39 }
+    ensures long { local_size TableLeaf 512 1048576 ≡ 64 }
+{}
+
+/// The log's header for pages of 4096 bytes and the salt 1, 2.
+#[tactic(auto, unfolding(crate::specs::Log::log_header))]
+pub fn worked_log_header()
+    ensures { log_header true 4096 0 (1, 2) ≡
+        0x37 ∷ 0x7f ∷ 0x06 ∷ 0x83 ∷ 0x00 ∷ 0x2d ∷ 0xe2 ∷ 0x18 ∷ 0x00 ∷ 0x00 ∷ 0x10 ∷ 0x00 ∷ 0x00 ∷ 0x00 ∷ 0x00 ∷ 0x00 ∷
+        0x00 ∷ 0x00 ∷ 0x00 ∷ 0x01 ∷ 0x00 ∷ 0x00 ∷ 0x00 ∷ 0x02 ∷ 0x16 ∷ 0x04 ∷ 0xe6 ∷ 0xd8 ∷ 0xbc ∷ 0xdd ∷ 0xce ∷ 0x93 ∷ [] }
+{}
+
+/// A table leaf of 32 bytes with cells of four and five bytes.
+#[tactic(auto, unfolding(crate::specs::Page::packed_leaf))]
+pub fn worked_page()
+    ensures { packed_leaf 32 ((1 ∷ 2 ∷ 3 ∷ 4 ∷ []) ∷ (5 ∷ 6 ∷ 7 ∷ 8 ∷ 9 ∷ []) ∷ []) ≡
+        13 ∷ 0 ∷ 0 ∷ 0 ∷ 2 ∷ 0 ∷ 23 ∷ 0 ∷ 0 ∷ 28 ∷ 0 ∷ 23 ∷ 0 ∷ 0 ∷ 0 ∷ 0 ∷
+        0 ∷ 0 ∷ 0 ∷ 0 ∷ 0 ∷ 0 ∷ 0 ∷ 5 ∷ 6 ∷ 7 ∷ 8 ∷ 9 ∷ 1 ∷ 2 ∷ 3 ∷ 4 ∷ [] }
+{}

@@ -1,0 +1,13 @@
+//! The devices of the updater as traits: a disk of seven files, and an output.
+//!
+//! The layer above may use `Disk`, `Sink`, the names of files and calls, and the faults. What the calls do to the
+//! files is said by `Files` and `Faults` of `file_spec`, and what every call owes by `Call` in `specs/`. Each device
+//! has a count of faults that never falls, and answers a fault only where that count rose in the call.
+#![tactic(auto)]
+
+mod disk;
+mod sink;
+
+pub use disk::{Disk, DiskFault};
+pub use file_spec::{DiskCall, FileName};
+pub use sink::{Sink, SinkFault};

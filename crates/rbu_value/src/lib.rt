@@ -1,0 +1,14 @@
+//! The values of SQLite's records: NULL, integers, texts and blobs
+//! (Datatypes In SQLite, section 2; floating point values are not among them).
+//!
+//! The layer above may use `Bytes`, which contracts see as a list of bytes, and `Value`.
+#![tactic(auto)]
+
+mod bytes;
+mod value;
+
+pub use bytes::Bytes;
+pub use value::Value;
+
+#[cfg(test)]
+mod tests;

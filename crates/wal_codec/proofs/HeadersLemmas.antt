@@ -1,7 +1,7 @@
 -- Two writes that fill an array, and what they make of a header.
-use Rattle.std.proofs.Common.{◌≡◌, ℕ, ◌+◌, ◌%◌, ◌^◌, ◌≤◌, true, List, [], ◌∷◌, ◌++◌, length, take, drop, slice_index, refl, sym, ap, ap₂, ◌∙◌, arith}
+use Rattle.std.proofs.Common.{◌≡◌, ℕ, ◌+◌, true, List, [], ◌∷◌, ◌++◌, length, take, drop, slice_index, refl, ap, ap₂, ◌∙◌, arith}
 use Rattle.std.specs.List.{flat_map}
-use Rattle.std.proofs.lemmas.List.{append-nil, drop_all, drop_at, length-append, length-drop, take_at}
+use Rattle.std.proofs.lemmas.List.{append-nil, drop_all, drop_at, length-drop, take_at}
 use borrow.Rule.Slice.PartMut.{put_mid}
 use Rattle.byteorder.specs.Endian.{big_bytes}
 use Rattle.format_spec.specs.Numbers.{pair_of}
@@ -37,7 +37,7 @@ log_header-written page_size salt old first sums second old_long sums_long first
     let second_is : second ≡ pair_bytes (pair_of sums) = second_is ∙ flat_map-pair sums sums_long in
     let second_long : length second ≡ 8 = ap length second_is in
     let summed : pair_of sums ≡ log_sums true page_size 0 (pair_of salt) =
-        sums_is ∙ ap (checksum true (0, 0)) (take_at first (drop 24 old) 24 first_long ∙ front) in
+    sums_is ∙ ap (checksum true (0, 0)) (take_at first (drop 24 old) 24 first_long ∙ front) in
     put_mid-halves first second old 24 8 first_long second_long old_long
     ∙ ap₂ (λ (a b : List ℕ). a ++ b) front (second_is ∙ ap pair_bytes summed)
 
@@ -56,6 +56,6 @@ frame_header-written number commit salt before page old first middle sums second
     let second_is : second ≡ pair_bytes (pair_of salt) ++ pair_bytes (pair_of sums) = second_is in
     let second_long : length second ≡ 16 = ap length second_is in
     let summed : pair_of sums ≡ frame_sums true (pair_of before) number commit page =
-        sums_is ∙ ap (λ (s : ℕ × ℕ). checksum true s page) (middle_is ∙ ap (checksum true (pair_of before)) (take_at first (drop 8 old) 8 first_long ∙ front)) in
+    sums_is ∙ ap (λ (s : ℕ × ℕ). checksum true s page) (middle_is ∙ ap (checksum true (pair_of before)) (take_at first (drop 8 old) 8 first_long ∙ front)) in
     put_mid-halves first second old 8 16 first_long second_long old_long
     ∙ ap₂ (λ (a b : List ℕ). a ++ b) front (second_is ∙ ap (λ (s : ℕ × ℕ). pair_bytes (pair_of salt) ++ pair_bytes s) summed)

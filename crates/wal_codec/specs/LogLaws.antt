@@ -1,5 +1,5 @@
 -- Laws about the definitions of the write-ahead log.
-use Rattle.std.proofs.Common.{◌≡◌, ℕ, ◌+◌, ◌-◌, ◌*◌, ◌%◌, ◌<◌, ◌≤◌, Bool, List, [], ◌∷◌, ◌++◌, length, take, drop, replicate, unwrap_or, zero, suc, refl, sym, ap, ap₂, ◌∙◌, arith}
+use Rattle.std.proofs.Common.{◌≡◌, ℕ, ◌-◌, ◌*◌, ◌%◌, ◌<◌, ◌≤◌, Bool, List, [], ◌∷◌, ◌++◌, length, take, drop, replicate, unwrap_or, zero, suc, refl, sym, ap, ap₂, ◌∙◌, arith}
 use Rattle.std.proofs.lemmas.List.{append-nil, append_assoc, drop_at, length-append, take_at}
 use Rattle.file_spec.specs.Files.{resized}
 use Rattle.format_spec.specs.Numbers.{page_at}
@@ -39,18 +39,18 @@ empty-append (x ∷ a) b some e = cc
 pub log-of_frames : (big : Bool) (page_size sequence : ℕ) (salt : ℕ × ℕ) (frames : List Frame) → AreFrames page_size frames
     → IsLog (log_header big page_size sequence salt ++ frames_bytes big salt (log_sums big page_size sequence salt) frames) page_size frames
 log-of_frames big page_size sequence salt frames valid = record {
-    big = big;
-    sequence = sequence;
-    salt = salt;
-    rest = [];
-    whole = ap (λ (b : List ℕ). log_header big page_size sequence salt ++ b) (sym (append-nil (frames_bytes big salt (log_sums big page_size sequence salt) frames)));
-    valid = valid;
-    longest = λ frame more is_frame e.
-        let sums = sums_behind big (log_sums big page_size sequence salt) frames in
-        let long = length-frame_header big salt sums frame.number frame.commit frame.page in
-        let header = frame_header big salt sums frame.number frame.commit frame.page in
-        empty-append header (frame.page ++ more) (omega (arith, long)) (e ∙ append_assoc header frame.page more)
-  }
+  big = big;
+  sequence = sequence;
+  salt = salt;
+  rest = [];
+  whole = ap (λ (b : List ℕ). log_header big page_size sequence salt ++ b) (sym (append-nil (frames_bytes big salt (log_sums big page_size sequence salt) frames)));
+  valid = valid;
+  longest = λ frame more is_frame e.
+      let sums = sums_behind big (log_sums big page_size sequence salt) frames in
+      let long = length-frame_header big salt sums frame.number frame.commit frame.page in
+      let header = frame_header big salt sums frame.number frame.commit frame.page in
+      empty-append header (frame.page ++ more) (omega (arith, long)) (e ∙ append_assoc header frame.page more);
+}
 
 -- a page is the bytes of its size at its place
 page_at-whole : (size number : ℕ) (front page rest : List ℕ) → length front ≡ (number - 1) * size → length page ≡ size
@@ -83,7 +83,7 @@ pub overlay-of_two_pages : (file page1 page2 : List ℕ) (size : ℕ) → length
 overlay-of_two_pages file page1 page2 size long1 long2 some =
     let one : page_at size 1 (page1 ++ page2) ≡ page1 = page_at-whole size 1 [] page1 page2 (omega arith) long1 in
     let two : page_at size 2 (page1 ++ page2) ≡ page2 =
-        ap (λ (b : List ℕ). page_at size 2 (page1 ++ b)) (sym (append-nil page2)) ∙ page_at-whole size 2 page1 page2 [] (omega arith) long2 in
+    ap (λ (b : List ℕ). page_at size 2 (page1 ++ b)) (sym (append-nil page2)) ∙ page_at-whole size 2 page1 page2 [] (omega arith) long2 in
     record {
       without = λ none. cc;
       size = λ commits. omega (arith, length-append page1 page2);

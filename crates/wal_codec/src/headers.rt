@@ -3,9 +3,8 @@ ghost use Rattle.std.specs.Prelude.{◌≡◌, ◌%◌, true, length};
 ghost use Rattle.format_spec.specs.Numbers.{pair_of};
 ghost use Rattle.format_spec.specs.Log.{log_header, log_sums, frame_header, frame_sums};
 
-use byteorder::{BigEndian, ByteOrder};
-
 use crate::sums::checksum;
+use byteorder::{BigEndian, ByteOrder};
 
 // The magic number of a log whose checksums take their words with the most significant byte first.
 const MAGIC: u32 = 0x377f0683;

@@ -15,3 +15,6 @@ mod sums;
 pub use headers::{frame_bytes, header_bytes};
 pub use laws::checksum_goes_on;
 pub use sums::checksum;
+
+#[cfg(test)]
+mod tests;

@@ -16,8 +16,12 @@ pub fn checksum(bytes: &[u8], big: bool, sums: [u32; 2]) -> [u32; 2]
     let [mut one, mut two] = sums;
     let mut left = bytes;
     while let [a, b, c, d, e, f, g, h, rest @ ..] = left {
-        one = one.wrapping_add(number([*a, *b, *c, *d], big)).wrapping_add(two);
-        two = two.wrapping_add(number([*e, *f, *g, *h], big)).wrapping_add(one);
+        one = one
+            .wrapping_add(number([*a, *b, *c, *d], big))
+            .wrapping_add(two);
+        two = two
+            .wrapping_add(number([*e, *f, *g, *h], big))
+            .wrapping_add(one);
         left = rest;
     }
     [one, two]

@@ -30,7 +30,7 @@ pub length-frame_header : (big : Bool) (salt sums : ℕ × ℕ) (number commit :
 unfolding frame_header
 length-frame_header big salt sums number commit page = refl
 
--- what begins with a header and has nothing is no list of bytes
+-- an empty list does not begin with a part that is not empty
 empty-append : (a b : List ℕ) → 0 < length a → [] ≡ a ++ b → ⊥
 empty-append [] b some e = omega arith
 empty-append (x ∷ a) b some e = cc
@@ -52,8 +52,8 @@ log-of_frames big page_size sequence salt frames valid = record {
       empty-append header (frame.page ++ more) (omega (arith, long)) (e ∙ append_assoc header frame.page more);
 }
 
--- a page is the bytes of its size at its place
-page_at-whole : (size number : ℕ) (front page rest : List ℕ) → length front ≡ (number - 1) * size → length page ≡ size
+-- the page at a place, as the bytes that stand there
+pub page_at-whole : (size number : ℕ) (front page rest : List ℕ) → length front ≡ (number - 1) * size → length page ≡ size
     → page_at size number (front ++ (page ++ rest)) ≡ page
 page_at-whole size number front page rest before long =
     let from : drop ((number - 1) * size) (front ++ (page ++ rest)) ≡ page ++ rest = drop_at front (page ++ rest) ((number - 1) * size) before in

@@ -1,0 +1,3 @@
+pub mod LogLaws
+pub use Rattle.format_spec.specs.Numbers
+pub use Rattle.format_spec.specs.Log

@@ -1,0 +1,91 @@
+-- Laws about the definitions of the write-ahead log.
+use Rattle.std.proofs.Common.{◌≡◌, ℕ, ◌-◌, ◌*◌, ◌%◌, ◌<◌, ◌≤◌, Bool, List, [], ◌∷◌, ◌++◌, length, take, drop, replicate, unwrap_or, zero, suc, refl, sym, ap, ap₂, ◌∙◌, arith}
+use Rattle.std.proofs.lemmas.List.{append-nil, append_assoc, drop_at, length-append, take_at}
+use Rattle.file_spec.specs.Files.{resized}
+use Rattle.format_spec.specs.Numbers.{page_at}
+use Rattle.format_spec.specs.Log.{checksum, word, sums_after, log_header, log_sums, Frame, frame_header, frames_bytes, sums_behind, AreFrames, IsLog, last_frame_of, IsOverlay}
+
+-- the checksum of whole pairs of words goes on over what follows them
+pub checksum-append : (big : Bool) (sums : ℕ × ℕ) (a b : List ℕ) → length a % 8 ≡ 0
+    → checksum big sums (a ++ b) ≡ checksum big (checksum big sums a) b
+checksum-append big sums [] b whole = refl
+checksum-append big sums (a ∷ []) rest whole = absurd (omega arith)
+checksum-append big sums (a ∷ b ∷ []) rest whole = absurd (omega arith)
+checksum-append big sums (a ∷ b ∷ c ∷ []) rest whole = absurd (omega arith)
+checksum-append big sums (a ∷ b ∷ c ∷ d ∷ []) rest whole = absurd (omega arith)
+checksum-append big sums (a ∷ b ∷ c ∷ d ∷ e ∷ []) rest whole = absurd (omega arith)
+checksum-append big sums (a ∷ b ∷ c ∷ d ∷ e ∷ f ∷ []) rest whole = absurd (omega arith)
+checksum-append big sums (a ∷ b ∷ c ∷ d ∷ e ∷ f ∷ g ∷ []) rest whole = absurd (omega arith)
+checksum-append big sums (a ∷ b ∷ c ∷ d ∷ e ∷ f ∷ g ∷ h ∷ more) rest whole =
+    checksum-append big (sums_after sums (word big (a ∷ b ∷ c ∷ d ∷ [])) (word big (e ∷ f ∷ g ∷ h ∷ []))) more rest (omega arith)
+
+-- a log's header has 32 bytes
+pub length-log_header : (big : Bool) (page_size sequence : ℕ) (salt : ℕ × ℕ) → length (log_header big page_size sequence salt) ≡ 32
+unfolding log_header
+length-log_header big page_size sequence salt = refl
+
+-- a frame's header has 24 bytes
+pub length-frame_header : (big : Bool) (salt sums : ℕ × ℕ) (number commit : ℕ) (page : List ℕ)
+    → length (frame_header big salt sums number commit page) ≡ 24
+unfolding frame_header
+length-frame_header big salt sums number commit page = refl
+
+-- an empty list does not begin with a part that is not empty
+empty-append : (a b : List ℕ) → 0 < length a → [] ≡ a ++ b → ⊥
+empty-append [] b some e = omega arith
+empty-append (x ∷ a) b some e = cc
+
+-- a header and frames are a log of these frames
+pub log-of_frames : (big : Bool) (page_size sequence : ℕ) (salt : ℕ × ℕ) (frames : List Frame) → AreFrames page_size frames
+    → IsLog (log_header big page_size sequence salt ++ frames_bytes big salt (log_sums big page_size sequence salt) frames) page_size frames
+log-of_frames big page_size sequence salt frames valid = record {
+  big = big;
+  sequence = sequence;
+  salt = salt;
+  rest = [];
+  whole = ap (λ (b : List ℕ). log_header big page_size sequence salt ++ b) (sym (append-nil (frames_bytes big salt (log_sums big page_size sequence salt) frames)));
+  valid = valid;
+  longest = λ frame more is_frame e.
+      let sums = sums_behind big (log_sums big page_size sequence salt) frames in
+      let long = length-frame_header big salt sums frame.number frame.commit frame.page in
+      let header = frame_header big salt sums frame.number frame.commit frame.page in
+      empty-append header (frame.page ++ more) (omega (arith, long)) (e ∙ append_assoc header frame.page more);
+}
+
+-- the page at a place, as the bytes that stand there
+pub page_at-whole : (size number : ℕ) (front page rest : List ℕ) → length front ≡ (number - 1) * size → length page ≡ size
+    → page_at size number (front ++ (page ++ rest)) ≡ page
+page_at-whole size number front page rest before long =
+    let from : drop ((number - 1) * size) (front ++ (page ++ rest)) ≡ page ++ rest = drop_at front (page ++ rest) ((number - 1) * size) before in
+    let cut : take size (page ++ rest) ≡ page = take_at page rest size long in
+    let none : size - length (page ++ rest) ≡ 0 = omega (arith, length-append page rest) in
+    ap (λ (b : List ℕ). resized b size) from
+    ∙ ap₂ (λ (a : List ℕ) (n : ℕ). a ++ replicate n 0) cut none
+    ∙ append-nil page
+
+-- page 1 not in a commit, and page 2 with the commit of a file of two pages
+abbrev pub two_pages : List ℕ → List ℕ → List Frame
+two_pages page1 page2 = record { number = 1; commit = 0; page = page1 } ∷ record { number = 2; commit = 2; page = page2 } ∷ []
+
+-- each of two pages comes from its frame
+each-of_two_pages : (file page1 page2 : List ℕ) (size : ℕ)
+    → page_at size 1 (page1 ++ page2) ≡ page1 → page_at size 2 (page1 ++ page2) ≡ page2
+    → (n : ℕ) → 0 < n → n ≤ 2
+    → page_at size n (page1 ++ page2) ≡ unwrap_or (last_frame_of n (two_pages page1 page2)) (page_at size n file)
+each-of_two_pages file page1 page2 size one two zero low high = absurd (omega arith)
+each-of_two_pages file page1 page2 size one two (suc zero) low high = one
+each-of_two_pages file page1 page2 size one two (suc (suc zero)) low high = two
+each-of_two_pages file page1 page2 size one two (suc (suc (suc n))) low high = absurd (omega arith)
+
+-- a log of both pages of a file of two pages lays that file over any other
+pub overlay-of_two_pages : (file page1 page2 : List ℕ) (size : ℕ) → length page1 ≡ size → length page2 ≡ size → 0 < size
+    → IsOverlay file size (two_pages page1 page2) (page1 ++ page2)
+overlay-of_two_pages file page1 page2 size long1 long2 some =
+    let one : page_at size 1 (page1 ++ page2) ≡ page1 = page_at-whole size 1 [] page1 page2 (omega arith) long1 in
+    let two : page_at size 2 (page1 ++ page2) ≡ page2 =
+    ap (λ (b : List ℕ). page_at size 2 (page1 ++ b)) (sym (append-nil page2)) ∙ page_at-whole size 2 page1 page2 [] (omega arith) long2 in
+    record {
+      without = λ none. cc;
+      size = λ commits. omega (arith, length-append page1 page2);
+      each = λ commits. each-of_two_pages file page1 page2 size one two;
+    }

@@ -1,0 +1,20 @@
+//! Spells the header and the frames of SQLite's write-ahead log (Database File Format, section 4).
+//!
+//! The layer above writes a whole log by `header_bytes`, and then for each page `frame_bytes` and the page itself. Each call gives
+//! the checksum that the next one takes. `checksum` is offered to readers of logs.
+//!
+//! The definitions stand in `format_spec`: `Log` has the log's, and `Numbers` has `pair_of`, an array of two words as a pair.
+//! `specs/LogLaws` has laws about them: a checksum goes on over what follows, a log's header has 32 bytes and a frame's 24,
+//! a header with frames is a log of these frames, and a log of both pages of a file of two pages overlays any other file by it.
+#![tactic(auto)]
+
+mod headers;
+mod laws;
+mod sums;
+
+pub use headers::{frame_bytes, header_bytes};
+pub use laws::checksum_goes_on;
+pub use sums::checksum;
+
+#[cfg(test)]
+mod tests;

@@ -3,8 +3,11 @@
 //! A crate of definitions. Crates above cite, from `specs/`:
 //!
 //! - `Files`: the files as a map from names to bytes, and what each call that ends well leaves;
+//! - `Names`: how files and calls are printed;
 //! - `Faults`: a count of faults that never falls, and what a call that fails leaves.
 #![tactic(auto)]
+
+ghost use Rattle.std.specs.Prelude.{◌≡◌, ◌≤◌, length};
 
 /// The files of one update, all in one folder.
 #[derive(Clone, Copy, Debug, PartialEq, Eq)]
@@ -25,6 +28,26 @@ pub enum FileName {
     StateTemp,
 }
 
+impl FileName {
+    ghost use Rattle.file_spec.specs.Names.{file_word};
+
+    /// The word that is printed, of at most 9 bytes.
+    pub fn word(self) -> &'static str
+        ensures word { result.now ≡ file_word self }
+        ensures short { length result.now ≤ 9 }
+    {
+        match self {
+            FileName::Target => "Target",
+            FileName::Oal => "Oal",
+            FileName::Wal => "Wal",
+            FileName::Journal => "Journal",
+            FileName::Rbu => "Rbu",
+            FileName::State => "State",
+            FileName::StateTemp => "StateTemp",
+        }
+    }
+}
+
 /// The calls on a disk.
 #[derive(Clone, Copy, Debug, PartialEq, Eq)]
 pub enum DiskCall {
@@ -38,4 +61,27 @@ pub enum DiskCall {
     Remove,
     Rename,
     SyncFolder,
+}
+
+impl DiskCall {
+    ghost use Rattle.file_spec.specs.Names.{call_word};
+
+    /// The word that is printed, of at most 10 bytes.
+    pub fn word(self) -> &'static str
+        ensures word { result.now ≡ call_word self }
+        ensures short { length result.now ≤ 10 }
+    {
+        match self {
+            DiskCall::Exists => "Exists",
+            DiskCall::Len => "Len",
+            DiskCall::Read => "Read",
+            DiskCall::Write => "Write",
+            DiskCall::SetLen => "SetLen",
+            DiskCall::Sync => "Sync",
+            DiskCall::Create => "Create",
+            DiskCall::Remove => "Remove",
+            DiskCall::Rename => "Rename",
+            DiskCall::SyncFolder => "SyncFolder",
+        }
+    }
 }

@@ -1,7 +1,10 @@
 //! What the updater refuses, each refusal with its number, its name and its fields.
 //!
-//! The layer above may use `Refusal` and the types of its fields. A variant comes with the crate that answers it.
+//! The layer above may use `Refusal` and the types of its fields; how they are printed is said by `Refusal` in
+//! `specs/`. A variant comes with the crate that answers it.
 #![tactic(auto)]
+
+ghost use Rattle.std.specs.Prelude.{◌≡◌, ◌≤◌, length};
 
 /// The part of the updater that an input needs and that is not built yet.
 #[derive(Clone, Copy, Debug, PartialEq, Eq)]
@@ -18,6 +21,25 @@ pub enum Part {
     Rows,
     /// The rows do not fit their page.
     Room,
+}
+
+impl Part {
+    ghost use Rattle.refusal.specs.Refusal.{part_word};
+
+    /// The word that is printed for the part, of at most 6 bytes.
+    pub fn word(self) -> &'static str
+        ensures word { result.now ≡ part_word self }
+        ensures short { length result.now ≤ 6 }
+    {
+        match self {
+            Part::Words => "words",
+            Part::Files => "files",
+            Part::Target => "target",
+            Part::Rbu => "rbu",
+            Part::Rows => "rows",
+            Part::Room => "room",
+        }
+    }
 }
 
 /// What the updater refuses.

@@ -1,14 +1,19 @@
 -- Which outcome a call of `apply` has over given files, in the order in which it looks at them, and what it leaves of them.
-use Rattle.std.specs.Prelude.{◌≡◌, ◌<◌, ◌≤◌, ◌⊎◌, false, List, Some, None, IsSome, Contains}
+use Rattle.std.specs.Prelude.{◌≡◌, ℕ, ◌<◌, ◌≤◌, ◌⊎◌, false, List, Option, Some, None, IsSome, Contains}
 use Rattle.file_spec.specs.declared.FileName.{FileName}
 use Rattle.file_spec.specs.declared.FileName.TheVariants.{Target, Oal, Wal, Journal, Rbu, State, StateTemp}
 use Rattle.file_spec.specs.Files.{Files, content, is_name}
 use Rattle.refusal.specs.declared.Part.{Part}
 use Rattle.refusal.specs.declared.Part.TheVariants as part
+use Rattle.refusal.specs.declared.Refusal.TheVariants.{NotYet}
 use Rattle.update_spec.specs.declared.TargetRow.{TargetRow}
 use Rattle.update_spec.specs.declared.PreparedRow.{PreparedRow}
 use Rattle.update_spec.specs.declared.Outcome.{Outcome}
-use Rattle.update_spec.specs.declared.Outcome.TheVariants.{Done, KeyPresent, NotYet}
+use Rattle.update_spec.specs.declared.Outcome.TheVariants.{Done, KeyPresent, Refused}
+use Rattle.update_spec.specs.declared.Answer.{Answer}
+use Rattle.update_spec.specs.declared.Answer.TheVariants.{Usage, Ended, Fault, NoMemory}
+use Rattle.update_spec.specs.Words.{IsUsage, AsksUpdate, AsksMore}
+use Rattle.file_spec.specs.Faults.{Leads}
 use Rattle.update_spec.specs.SmallFile.{IsSmallTarget, IsSmallRbu}
 use Rattle.update_spec.specs.View.{IsView, KeepsView}
 use Rattle.update_spec.specs.Outcome.{SharesKey, all_rows, page_room, IsPresent, IsFirstPresent, IsMerged, new_pages}
@@ -44,7 +49,7 @@ NeedsPart files part.Room = (old : List TargetRow) × (prepared : List PreparedR
 
 -- The outcome over the files: a part that is not built, else the constraint fault, else the update is done.
 abbrev pub HasOutcome : Files → Outcome → Type 0
-HasOutcome files (NotYet part) = NeedsPart files part
+HasOutcome files (Refused (NotYet part)) = NeedsPart files part
 HasOutcome files (KeyPresent data_rowid) =
     (old : List TargetRow) × (prepared : List PreparedRow) × (row : PreparedRow)
     × CanInsert files old prepared × IsFirstPresent old prepared row × (row.data_rowid ≡ data_rowid)
@@ -73,3 +78,17 @@ SeesNew before after =
 -- Whatever stopped the call, a reader sees the old database as it was, or all of the new one.
 abbrev pub SeesOldOrNew : Files → Files → Type 0
 SeesOldOrNew before after = KeepsView before after ⊎ SeesNew before after
+
+-- what an update that came to its outcome leaves of the files
+abbrev pub AfterOutcome : Outcome → Files → Files → Type 0
+AfterOutcome Done before after = IsFinished before after
+AfterOutcome (KeyPresent data_rowid) before after = HasOutcome before (KeyPresent data_rowid) × (after ≡ before)
+AfterOutcome (Refused refusal) before after = HasOutcome before (Refused refusal) × (after ≡ before)
+
+-- The answer of a command with these words, whose disk showed these files before and after, where it tells them.
+abbrev pub IsAnswer : List (List ℕ) → Option Files → Option Files → Answer → Type 0
+IsAnswer words before after Usage = IsUsage words × (after ≡ before)
+IsAnswer words before after (Ended (Refused (NotYet part.Words))) = AsksMore words × (after ≡ before)
+IsAnswer words before after (Ended outcome) = AsksUpdate words × Leads (AfterOutcome outcome) before after
+IsAnswer words before after (Fault file call) = AsksUpdate words × Leads SeesOldOrNew before after
+IsAnswer words before after NoMemory = AsksUpdate words × (after ≡ before)

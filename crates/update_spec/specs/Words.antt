@@ -45,7 +45,7 @@ IsUsage words = (command : Command) → ¬ AreWords words command
 
 -- the update as far as it is built: all of it in one call
 abbrev pub AsksUpdate : List (List ℕ) → Type 0
-AsksUpdate words = words ≡ codes "apply" ∷ codes "4294967295" ∷ []
+AsksUpdate words = AreWords words (Apply 4294967295)
 
 -- the words of a command that is not built
 abbrev pub AsksMore : List (List ℕ) → Type 0

@@ -9,8 +9,9 @@
 //! - `Words` and `Text`: the words of each command, and the line of each answer.
 #![tactic(auto)]
 
+use file_spec::{DiskCall, FileName};
 use rbu_value::{Bytes, Value};
-use refusal::Part;
+use refusal::Refusal;
 
 /// A row of the target's table, with the bytes of its cell.
 #[derive(Drop)]
@@ -53,8 +54,21 @@ pub enum Outcome {
     Done,
     /// A prepared insert has the key of an old row. The rowid is that of the prepared row.
     KeyPresent { data_rowid: i64 },
-    /// The input needs a part that is not built.
-    NotYet { part: Part },
+    /// The input is refused.
+    Refused { refusal: Refusal },
+}
+
+/// What a command comes to.
+#[derive(Clone, Copy, Debug, PartialEq, Eq)]
+pub enum Answer {
+    /// The words are those of no command.
+    Usage,
+    /// The command ended by itself.
+    Ended { outcome: Outcome },
+    /// A call on the disk failed.
+    Fault { file: FileName, call: DiskCall },
+    /// Memory ran out.
+    NoMemory,
 }
 
 mod worked;

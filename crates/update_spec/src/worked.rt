@@ -3,12 +3,14 @@ ghost use Rattle.std.specs.Prelude.{◌≡◌, [], ◌∷◌, ◌++◌, codes};
 ghost use Rattle.file_spec.specs.declared.FileName.TheVariants.{Oal};
 ghost use Rattle.file_spec.specs.declared.DiskCall.TheVariants.{Rename};
 ghost use Rattle.refusal.specs.declared.Part.TheVariants as part;
-ghost use Rattle.update_spec.specs.declared.Outcome.TheVariants.{Done, NotYet};
-ghost use Rattle.update_spec.specs.Text.{outcome_line, fault_line};
+ghost use Rattle.refusal.specs.declared.Refusal.TheVariants.{NotYet};
+ghost use Rattle.update_spec.specs.declared.Answer.TheVariants.{Ended, Fault};
+ghost use Rattle.update_spec.specs.declared.Outcome.TheVariants.{Done, Refused};
+ghost use Rattle.update_spec.specs.Text.{answer_line};
 
 /// The lines of three answers.
 pub fn worked_lines()
-    ensures done { outcome_line Done ≡ codes "done" ++ 10 ∷ [] }
-    ensures refused { outcome_line (NotYet part.Target) ≡ codes "refused 1 NotYet target" ++ 10 ∷ [] }
-    ensures fault { fault_line Oal Rename ≡ codes "fault Oal Rename" ++ 10 ∷ [] }
+    ensures done { answer_line (Ended Done) ≡ codes "done" ++ 10 ∷ [] }
+    ensures refused { answer_line (Ended (Refused (NotYet part.Target))) ≡ codes "refused 1 NotYet target" ++ 10 ∷ [] }
+    ensures fault { answer_line (Fault Oal Rename) ≡ codes "fault Oal Rename" ++ 10 ∷ [] }
 {}

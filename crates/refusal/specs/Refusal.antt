@@ -1,0 +1,17 @@
+-- How a refusal is printed: its number, its name and its fields, with a space between.
+use Rattle.std.specs.Prelude.{ℕ, List, ◌++◌, codes}
+use Rattle.refusal.specs.declared.Part.{Part}
+use Rattle.refusal.specs.declared.Part.TheVariants as part
+use Rattle.refusal.specs.declared.Refusal.{Refusal}
+use Rattle.refusal.specs.declared.Refusal.TheVariants.{NotYet}
+
+abbrev pub part_word : Part → List ℕ
+part_word part.Words = codes "words"
+part_word part.Files = codes "files"
+part_word part.Target = codes "target"
+part_word part.Rbu = codes "rbu"
+part_word part.Rows = codes "rows"
+part_word part.Room = codes "room"
+
+abbrev pub refusal_text : Refusal → List ℕ
+refusal_text (NotYet part) = codes "1 NotYet " ++ part_word part

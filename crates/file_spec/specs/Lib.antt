@@ -1,3 +1,5 @@
 pub mod Files
+pub mod FilesLaws
 pub mod Names
 pub mod Faults
+pub mod FaultsLaws

@@ -7,7 +7,11 @@
 //! - `Faults`: a count of faults that never falls, and what a call that fails leaves.
 #![tactic(auto)]
 
-ghost use Rattle.std.specs.Prelude.{◌≡◌, ◌≤◌, length};
+ghost use Rattle.std.specs.Prelude.{◌≡◌, ◌≤◌, ◌++◌, length, List, ℕ, Option, option_map};
+ghost use Rattle.file_spec.specs.Files.{Files, with_file, overwritten};
+ghost use Rattle.file_spec.specs.FilesLaws.{with_file-again, overwritten-end};
+ghost use Rattle.file_spec.specs.Faults.{Leads};
+ghost use Rattle.file_spec.specs.FaultsLaws.{Leads-then};
 
 /// The files of one update, all in one folder.
 #[derive(Clone, Copy, Debug, PartialEq, Eq)]
@@ -85,3 +89,16 @@ impl DiskCall {
         }
     }
 }
+
+/// Of two changes under one name the later counts, and a write at the end of a file appends.
+pub fn writes_join()
+    ensures again { (files : Files) (name : FileName) (a b : Option (List ℕ)) →
+        with_file (with_file files name a) name b ≡ with_file files name b }
+    ensures append { (old bytes : List ℕ) → overwritten old (length old) bytes ≡ old ++ bytes }
+{}
+
+/// Two calls that are known exactly leave what the second makes of what the first made.
+pub fn steps_join()
+    ensures { (h k : Files → Files) (a b c : Option Files) → b ≡ option_map h a → c ≡ option_map k b →
+        Leads (λ f g. g ≡ k (h f)) a c }
+{}

@@ -1,6 +1,10 @@
 -- How the steps of one device join, for proofs in the crates above.
-use Rattle.std.specs.Prelude.{◌≡◌, Option, Some, None, option_map}
-use Rattle.file_spec.specs.Faults.{Leads}
+use Rattle.std.specs.Prelude.{◌≡◌, ℕ, Option, Some, None, option_map}
+use Rattle.std.proofs.Common.{sym, subst, inl, inr}
+use Rattle.file_spec.specs.declared.FileName.{FileName}
+use Rattle.file_spec.specs.Files.{Files, OnlyChanges}
+use Rattle.file_spec.specs.FilesLaws.{OnlyChanges-none}
+use Rattle.file_spec.specs.Faults.{Leads, AfterTornWrite}
 
 -- a step that is known exactly
 pub Leads-map : {S : Type 0} (h : S → S) (before after : Option S) → after ≡ option_map h before → Leads (λ f g. g ≡ h f) before after
@@ -32,3 +36,8 @@ Leads-then P R Q None (Some g) after p r w = absurd p
 Leads-then P R Q (Some f) None after p r w = absurd p
 Leads-then P R Q (Some f) (Some g) None p r w = r
 Leads-then P R Q (Some f) (Some g) (Some h) p r w = w f g h p r
+
+-- a write that failed changes at most its file
+pub OnlyChanges-torn : (name : FileName) (at n : ℕ) (f g : Files) → AfterTornWrite name at n f g → OnlyChanges name f g
+OnlyChanges-torn name at n f g (inl same) = subst (OnlyChanges name f) (sym same) (OnlyChanges-none name f)
+OnlyChanges-torn name at n f g (inr torn) = (Some torn.0, torn.1)

@@ -1,5 +1,5 @@
 -- The files, and what each call on a disk that ends well leaves of them.
-use Rattle.std.specs.Prelude.{ℕ, ◌+◌, ◌-◌, Bool, ◌==◌, if◌then◌else◌, List, [], ◌++◌, length, take, drop, replicate, Option, Some, None, unwrap_or}
+use Rattle.std.specs.Prelude.{◌≡◌, ℕ, ◌+◌, ◌-◌, Bool, ◌==◌, if◌then◌else◌, List, [], ◌++◌, length, take, drop, replicate, Option, Some, None, unwrap_or}
 use Rattle.file_spec.specs.declared.FileName.{FileName}
 use Rattle.file_spec.specs.declared.FileName.TheVariants.{Target, Oal, Wal, Journal, Rbu, State, StateTemp}
 
@@ -65,3 +65,7 @@ after_rename files from to = moved files from to (files from)
 -- the bytes from a place on, as many as are asked for or fewer at the file's end
 abbrev pub part_of : List ℕ → ℕ → ℕ → List ℕ
 part_of bytes at n = take n (drop at bytes)
+
+-- at most the file under one name changes
+abbrev pub OnlyChanges : FileName → Files → Files → Type 0
+OnlyChanges name before after = (bytes : Option (List ℕ)) × (after ≡ with_file before name bytes)

@@ -1,0 +1,5 @@
+mod Copies
+mod Handovers
+mod LogWrites
+mod Numerals
+mod Parts

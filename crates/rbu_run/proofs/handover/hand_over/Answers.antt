@@ -1,0 +1,42 @@
+use Rattle.file_spec.specs.Faults.{Leads}
+use Rattle.format_spec.specs.Numbers.{pair_of}
+use Rattle.rbu_run.proofs.Parts.{on-err, on-ok-map, on-err-map}
+use Rattle.rbu_run.proofs.Handovers.{PagesCopied, log-moved, sees-log, sees-move, sees-copy, pages-copied, handed-over, sees-drop}
+use Rattle.rbu_run.proofs.handover.hand_over.Given as given
+use Rattle.rbu_run.proofs.handover.hand_over.Goals as goal
+
+pub returns-in_err-write_log-clause-failed : goal.returns-in_err-write_log-clause-failed
+returns-in_err-write_log-clause-failed g c =
+    on-err c.from_residual.result (sees-log (pair_of c.args.salt) c.args.pages.now c.requires (g.D.Disk.shown c.args.disk.now) (g.D.Disk.shown c.write_log.new.disk) c.write_log.ensures.only)
+
+pub returns-in_err-move_log-clause-failed : goal.returns-in_err-move_log-clause-failed
+returns-in_err-move_log-clause-failed g c =
+    on-err c.from_residual-in_err-move_log.result (sees-move (pair_of c.args.salt) c.args.pages.now c.requires
+    (g.D.Disk.shown c.args.disk.now) (g.D.Disk.shown c.write_log.new.disk) (g.D.Disk.shown c.move_log.new.disk)
+    c.in_ok-write_log.ensures.done c.in_err-move_log.ensures.failed)
+
+pub returns-in_err-copy_back-clause-failed : goal.returns-in_err-copy_back-clause-failed
+returns-in_err-copy_back-clause-failed g c =
+    on-err c.from_residual-in_err-copy_back.result (sees-copy (pair_of c.args.salt) c.args.pages.now c.requires
+    (g.D.Disk.shown c.args.disk.now) (g.D.Disk.shown c.move_log.new.disk) (g.D.Disk.shown c.copy_back.new.disk)
+    (log-moved (pair_of c.args.salt) c.args.pages.now c.requires (g.D.Disk.shown c.args.disk.now) (g.D.Disk.shown c.write_log.new.disk) (g.D.Disk.shown c.move_log.new.disk)
+    c.in_ok-write_log.ensures.done c.in_ok-move_log.ensures.done)
+    c.copy_back.ensures.only)
+
+-- the pages stand in the log and in the target
+copied : (g : given.Over) (c : goal.After-drop_log g) → Leads (PagesCopied (pair_of c.args.salt) c.args.pages.now c.requires) (g.D.Disk.shown c.args.disk.now) (g.D.Disk.shown c.copy_back.new.disk)
+copied g c =
+    pages-copied (pair_of c.args.salt) c.args.pages.now c.requires (g.D.Disk.shown c.args.disk.now) (g.D.Disk.shown c.move_log.new.disk) (g.D.Disk.shown c.copy_back.new.disk)
+    (log-moved (pair_of c.args.salt) c.args.pages.now c.requires (g.D.Disk.shown c.args.disk.now) (g.D.Disk.shown c.write_log.new.disk) (g.D.Disk.shown c.move_log.new.disk)
+    c.in_ok-write_log.ensures.done c.in_ok-move_log.ensures.done)
+    c.in_ok-copy_back.ensures.done
+
+pub returns-clause-done : goal.returns-clause-done
+returns-clause-done g c =
+    on-ok-map c.drop_log.result c.drop_log.ensures.done
+    (handed-over (pair_of c.args.salt) c.args.pages.now c.requires (g.D.Disk.shown c.args.disk.now) (g.D.Disk.shown c.copy_back.new.disk) (g.D.Disk.shown c.drop_log.new.disk) (copied g c))
+
+pub returns-clause-failed : goal.returns-clause-failed
+returns-clause-failed g c =
+    on-err-map c.drop_log.result c.drop_log.ensures.failed
+    (sees-drop (pair_of c.args.salt) c.args.pages.now c.requires (g.D.Disk.shown c.args.disk.now) (g.D.Disk.shown c.copy_back.new.disk) (g.D.Disk.shown c.drop_log.new.disk) (copied g c))

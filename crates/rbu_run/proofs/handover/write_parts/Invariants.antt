@@ -1,0 +1,16 @@
+use Rattle.std.proofs.Common.{◌≡◌, ◌≤◌, ℕ, [], length, take, Some}
+use Rattle.std.specs.List.{flat_map}
+use Rattle.file_spec.specs.declared.FileName.TheVariants.{Oal}
+use Rattle.file_spec.specs.Files.{with_file, OnlyChanges}
+use Rattle.file_spec.specs.Faults.{Leads}
+use Rattle.rbu_run.proofs.handover.write_parts.Given as goal
+
+abbrev pub invariant-loop-part : goal.invariant-loop-part
+invariant-loop-part g l =
+    let written = flat_map (λ part. part.now) (take l.part-index l.parts) in
+    record {
+      place : l.at ≡ length written;
+      wrote : Leads (λ f h. f Oal ≡ Some [] → h ≡ with_file f Oal (Some written)) (g.D.Disk.shown l.fn.disk) (g.D.Disk.shown l.disk);
+      only : Leads (OnlyChanges Oal) (g.D.Disk.shown l.fn.disk) (g.D.Disk.shown l.disk);
+      count : g.D.Disk.faults l.fn.disk ≤ g.D.Disk.faults l.disk;
+    }

@@ -1,0 +1,40 @@
+-- How the new pages reach the target: by a log that becomes the target's write-ahead log, and is then copied back.
+use Rattle.std.specs.Prelude.{◌≡◌, ◌⊎◌, ℕ, true, false, List, ◌++◌, length, take, drop, Option, Some, None}
+use Rattle.file_spec.specs.declared.FileName.{FileName}
+use Rattle.file_spec.specs.declared.FileName.TheVariants.{Target, Oal, Wal}
+use Rattle.file_spec.specs.Files.{Files, content, is_name, with_file}
+use Rattle.format_spec.specs.Log.{Frame, log_header, log_sums, frames_bytes}
+use Rattle.wal_codec.specs.LogLaws.{two_pages}
+use Rattle.update_spec.specs.View.{IsView, KeepsView}
+
+-- the frames of both pages, of which the second commits
+abbrev pub page_frames : List ℕ → List Frame
+page_frames pages = two_pages (take 4096 pages) (drop 4096 pages)
+
+-- the log with both pages
+abbrev pub log_of : ℕ × ℕ → List ℕ → List ℕ
+log_of salt pages = log_header true 4096 0 salt ++ frames_bytes true salt (log_sums true 4096 0 salt) (page_frames pages)
+
+-- neither log exists, and the target has two pages
+pub record IsAlone (files : Files) : Type 0 where
+  pub no_oal : files Oal ≡ None
+  pub no_wal : files Wal ≡ None
+  pub two_pages_long : length (content files Target) ≡ 8192
+
+-- the write-ahead log has both pages, and the target has two pages, whatever they hold
+pub record IsLogged (salt : ℕ × ℕ) (pages : List ℕ) (before after : Files) : Type 0 where
+  pub wal : after Wal ≡ Some (log_of salt pages)
+  pub no_oal : after Oal ≡ None
+  pub others : (name : FileName) → is_name Target name ≡ false → is_name Wal name ≡ false → after name ≡ before name
+
+-- the target has the pages, and every other file is as before
+abbrev pub HasPages : List ℕ → Files → Files → Type 0
+HasPages pages before after = after ≡ with_file before Target (Some pages)
+
+-- from files that stand alone the target comes to the pages
+abbrev pub HandsOver : List ℕ → Files → Files → Type 0
+HandsOver pages before after = IsAlone before → HasPages pages before after
+
+-- from files that stand alone, what a reader sees is as before, or the pages
+abbrev pub SeesPages : List ℕ → Files → Files → Type 0
+SeesPages pages before after = IsAlone before → KeepsView before after ⊎ IsView after pages

@@ -13,3 +13,6 @@ pub use cell::{
 pub use varint::{
     read_varint, varint_has_one_reading, varint_is_shortest, varint_length, write_varint,
 };
+
+#[cfg(test)]
+mod tests;

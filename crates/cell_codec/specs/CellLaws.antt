@@ -3,6 +3,7 @@ use Rattle.std.proofs.Common.{◌≡◌, ℕ, ℤ, ◌+◌, ◌-◌, ◌^◌, �
 use Rattle.std.proofs.lemmas.List.{append_cancel_left, append-nil, take_at, take_all, drop_at, take-append-drop}
 use Rattle.std.proofs.lemmas.Int.{ints, to_z-of_z}
 use Rattle.std.proofs.lemmas.Bool.{cond_both, cond-true, ltb-false, le-leb, le-ltb}
+use Rattle.std.proofs.lemmas.Bool.Decides.{nat_tests}
 use Rattle.std.specs.Int.{w64, cast_signed, cast_unsigned}
 use Rattle.std.specs.Int.RustNames.{FitsSigned}
 use Rattle.byteorder.specs.Endian.{big_bytes, big_number}
@@ -12,7 +13,7 @@ use Rattle.format_spec.specs.declared.PageKind.TheVariants.{TableLeaf}
 use Rattle.format_spec.specs.declared.CellView.{CellView}
 use Rattle.format_spec.specs.Varint.{varint}
 use Rattle.format_spec.specs.Cell.{IsCell, IsTableLeafCell, payload_limit, local_size, overflow_size, cell_bytes, table_leaf_cell}
-use Rattle.cell_codec.specs.VarintLaws.{same_varint, varint_spells}
+use Rattle.cell_codec.specs.VarintLaws.{spelling_one_to_nine, same_varint, varint_spells}
 use Rattle.cell_codec.specs.Cells.{BeginsWithCell, IsWritable, whole_cell}
 
 -- lists that are equal have equal fronts of one length
@@ -184,3 +185,26 @@ whole_cell_payload rowid payload =
     ap (λ s. take (length payload) (drop (whole_cell rowid payload).local_at s)) (sym (append_assoc (varint (length payload)) (varint (cast_unsigned w64 rowid)) payload))
     ∙ ap (take (length payload)) (drop_at head payload (whole_cell rowid payload).local_at size)
     ∙ take_all (length payload) payload (omega arith)
+
+-- the length of that cell
+pub table_leaf_cell_size : (rowid : ℤ) (payload : List ℕ) → length (table_leaf_cell rowid payload) ≡ length (varint (length payload)) + length (varint (cast_unsigned w64 rowid)) + length payload
+unfolding table_leaf_cell
+table_leaf_cell_size rowid payload =
+    let p = varint (length payload) in
+    let q = varint (cast_unsigned w64 rowid) in
+    omega (arith, length-append p (q ++ payload), length-append q payload)
+
+-- a cell's payload begins behind two varints
+pub local_at_bounds : (usable : ℕ) (bytes : List ℕ) (cell : CellView) → IsTableLeafCell usable bytes cell → (2 ≤ cell.local_at) × (cell.local_at ≤ 18)
+local_at_bounds usable bytes cell v =
+    let p = spelling_one_to_nine v.payload_bytes cell.payload v.payload in
+    let q = spelling_one_to_nine v.rowid_bytes v.rowid_number v.rowid_varint in
+    (omega (arith, v.local_at, p, q), omega (arith, v.local_at, p, q))
+
+-- a cell keeps no more than its payload has
+pub local_size_within : (usable payload : ℕ) → local_size TableLeaf usable payload ≤ payload
+local_size_within usable payload = grind (arith, nat_tests)
+
+-- and no more than a page has room for
+pub local_size_room : (usable payload : ℕ) → 480 ≤ usable → local_size TableLeaf usable payload + 35 ≤ usable
+local_size_room usable payload h = grind (arith, nat_tests)

@@ -26,7 +26,7 @@ pub enum CellFault {
     SizeOverLimit,
 }
 
-/// How many bytes of a payload its cell keeps, on pages with so many usable bytes.
+/// How many bytes of a payload its cell keeps, on pages of 480 to 32768 usable bytes (Database File Format, section 1.6). The rest fills overflow pages.
 pub fn local_size(kind: PageKind, usable: u32, payload: u64) -> u32
     requires least { 480 ≤ usable }
     requires most { usable ≤ 32768 }
@@ -99,7 +99,7 @@ fn read_table_leaf_cell(usable: u32, bytes: &[u8]) -> Result<CellView, CellFault
     })
 }
 
-/// Reads the cell at the front of the bytes, on pages with so many usable bytes. A payload over the limit comes before an end of the bytes behind its length.
+/// Reads the cell at the front of the bytes, on pages of 480 to 32768 usable bytes. Where the payload is longer than the limit, that is the fault, also where the bytes end behind its length.
 pub fn read_cell(kind: PageKind, usable: u32, bytes: &[u8]) -> Result<CellView, CellFault>
     requires least { 480 ≤ usable }
     requires most { usable ≤ 32768 }
@@ -125,7 +125,7 @@ fn put_varint(value: u64, into: &mut [u8]) -> usize
     size
 }
 
-/// The length of a cell's shortest spelling in bytes, whatever its payload is.
+/// The length of a cell's shortest spelling in bytes, whatever stands in its local payload.
 #[tactic(auto, using(crate::specs::CellLaws::cell_bytes_size))]
 pub fn cell_length(kind: PageKind, cell: &CellView) -> usize
     ensures { (local : List ℕ) → length local ≡ cell.now.local → result ≡ length (cell_bytes kind cell.now local) }
@@ -167,7 +167,7 @@ fn write_table_leaf_cell(cell: &CellView, local: &[u8], into: &mut [u8]) -> usiz
     overflow_at + overflow_length
 }
 
-/// Writes a cell's shortest spelling, with the local part of its payload, at the front of the buffer, and answers its length. `cell_length` tells beforehand whether it fits.
+/// Writes a cell's shortest spelling, with the local part of its payload, at the front of the buffer, and answers its length. `cell_length` tells beforehand whether it fits. The view's `size`, `local_at` and `child` are not read.
 pub fn write_cell(kind: PageKind, cell: &CellView, local: &[u8], into: &mut [u8]) -> usize
     requires local { length local.now ≡ cell.now.local }
     requires room { length (cell_bytes kind cell.now local.now) ≤ length into.old }
@@ -184,7 +184,7 @@ pub fn cell_has_one_reading()
     ensures { (kind : PageKind) (usable : ℕ) (a b x y : List ℕ) (c d : CellView) → IsCell kind usable a c → IsCell kind usable b d → a ++ x ≡ b ++ y → (a ≡ b) × (c ≡ d) }
 {}
 
-/// What is written of a view is a cell with that view.
+/// What is written of a view is a cell with that view. So is a row whose payload lies in its cell whole, and there it is read.
 pub fn written_cell_is_read()
     ensures cell { (kind : PageKind) (usable : ℕ) (cell : CellView) (local : List ℕ) → IsWritable kind usable cell local → IsCell kind usable (cell_bytes kind cell local) cell }
     ensures whole { (usable : ℕ) (rowid : ℤ) (payload : List ℕ) → FitsSigned w64 rowid → length payload ≤ usable - 35 → length payload ≤ payload_limit

@@ -1,5 +1,5 @@
 -- What a disk in memory holds.
-use Rattle.std.specs.Prelude.{ℕ, List, [], ◌∷◌, Option, Some, None, if◌then◌else◌, slice_index_or}
+use Rattle.std.specs.Prelude.{ℕ, ◌^◌, Bool, nat_lt, List, [], ◌∷◌, Option, Some, None, if◌then◌else◌, slice_index_or}
 use Rattle.file_spec.specs.declared.FileName.{FileName}
 use Rattle.file_spec.specs.Files.{Files, is_name, name_index}
 use Rattle.disk_memory.specs.Calls.{CallCounts}
@@ -21,3 +21,7 @@ Entry = FileName × List ℕ
 abbrev pub first_entries : List Entry → Files
 first_entries [] name = None
 first_entries (entry ∷ entries) name = if is_name entry.0 name then Some entry.1 else first_entries entries name
+
+-- whether a file may not end there
+abbrev pub is_over_limit : ℕ → Bool
+is_over_limit end = nat_lt (2 ^ 62) end

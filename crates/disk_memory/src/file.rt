@@ -1,5 +1,5 @@
 // The bytes of one file, and the work on them.
-ghost use Rattle.std.specs.Prelude.{◌≡◌, ◌+◌, ◌≤◌, ◌^◌, ◌++◌, [], length, take, drop, OnOk, OnErr, Some, unwrap_or};
+ghost use Rattle.std.specs.Prelude.{◌≡◌, ◌+◌, ◌-◌, ◌≤◌, ◌^◌, ◌++◌, [], length, take, drop, replicate, OnOk, OnErr, Some, unwrap_or};
 ghost use Rattle.file_spec.specs.Files.{overwritten, part_of, resized};
 
 use std::alloc::{AllocError, Global};
@@ -57,21 +57,29 @@ impl File {
         ensures done { OnOk result (self.new ≡ overwritten self.old at bytes.now) }
         ensures failed { OnErr result (self.new ≡ self.old) }
     {
-        let end = at + bytes.len();
-        if self.bytes.len() < end {
-            self.bytes.resize(end, 0)?;
-        }
-        put_at(self.bytes.as_mut_slice(), at, bytes);
+        grow(&mut self.bytes, at + bytes.len())?;
+        put_at(&mut self.bytes, at, bytes);
         Ok(())
     }
 }
 
-/// Writes the bytes over those at the place.
-fn put_at(text: &mut [u8], at: usize, bytes: &[u8])
-    requires { at + length bytes.now ≤ length text.old }
-    ensures { text.new ≡ take at text.old ++ bytes.now ++ drop (at + length bytes.now) text.old }
+/// Puts zeros behind a text up to an end.
+fn grow(text: &mut Vec<u8>, end: usize) -> Result<(), AllocError>
+    ensures done { OnOk result (text.new.items ≡ text.old.items ++ replicate (end - length text.old.items) 0) }
+    ensures failed { OnErr result (text.new.items ≡ text.old.items) }
 {
-    text[at..at + bytes.len()].copy_from_slice(bytes);
+    if text.len() < end {
+        text.resize(end, 0)?;
+    }
+    Ok(())
+}
+
+/// Writes the bytes over those at the place.
+fn put_at(text: &mut Vec<u8>, at: usize, bytes: &[u8])
+    requires { at + length bytes.now ≤ length text.old.items }
+    ensures { text.new.items ≡ take at text.old.items ++ bytes.now ++ drop (at + length bytes.now) text.old.items }
+{
+    text.as_mut_slice()[at..at + bytes.len()].copy_from_slice(bytes);
 }
 
 /// Copies the bytes from a place on to the front of a buffer, as many as there are or the buffer takes, and answers
@@ -117,5 +125,14 @@ pub fn resize_slot(slot: &mut Option<File>, alloc: Global, n: usize) -> Result<(
             *slot = Some(file);
             Ok(())
         }
+    }
+}
+
+/// Makes a file with no bytes where there is none. Takes no memory.
+pub fn create_slot(slot: &mut Option<File>, alloc: Global)
+    ensures { slot.new ≡ Some (unwrap_or slot.old []) }
+{
+    if slot.is_none() {
+        *slot = Some(File::new(alloc));
     }
 }

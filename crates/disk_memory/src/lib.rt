@@ -6,7 +6,9 @@
 #![tactic(auto)]
 
 mod calls;
+mod disk;
 mod file;
 mod sink;
 
+pub use disk::MemoryDisk;
 pub use sink::MemorySink;

@@ -1,8 +1,8 @@
 -- A text that grows by zeros and is then written over.
-use Rattle.std.proofs.Common.{◌≡◌, ◌≤◌, ◌<◌, ℕ, ◌+◌, ◌-◌, List, ◌++◌, [], length, take, drop, replicate, inl, inr, refl, sym, ap, ◌∙◌, arith}
+use Rattle.std.proofs.Common.{◌≡◌, ◌≤◌, ◌<◌, ℕ, ◌+◌, ◌-◌, List, ◌++◌, length, take, drop, replicate, inl, inr, sym, ap, ◌∙◌, arith}
 use Rattle.std.proofs.lemmas.Bool.{cases_lt}
-use Rattle.std.proofs.lemmas.List.{take-append-le, take-replicate, drop-replicate, drop_all, take_all, append-nil, length-append, length-replicate, drop-append-le}
-use Rattle.std.proofs.Math.Seq.{take-append-add, drop-append-add}
+use Rattle.std.proofs.lemmas.List.{take-append-le, take-replicate, drop_all, take_all, append-nil, length-append, length-replicate}
+use Rattle.std.proofs.Math.Seq.{take-append-add}
 use Rattle.file_spec.specs.Files.{overwritten}
 
 take_within : (old more : List ℕ) (at : ℕ) → at ≤ length old → take at (old ++ more) ≡ take at old ++ replicate (at - length old) 0
@@ -27,11 +27,12 @@ take_grown old at n within = elim (cases_lt (length old) at) [ inl past ↦ take
 -- behind the zeros stands nothing, and without zeros what stood there
 drop_grown : (old : List ℕ) (n : ℕ) → drop n (old ++ replicate (n - length old) 0) ≡ drop n old
 drop_grown old n =
-    elim (cases_lt (length old) n)
-    [ inl past ↦
-      let whole : length (old ++ replicate (n - length old) 0) ≤ n = omega (arith, length-append old (replicate (n - length old) 0), length-replicate {A = ℕ}) in
-      drop_all n (old ++ replicate (n - length old) 0) whole ∙ sym (drop_all n old (omega arith))
-    | inr h ↦ let none : n - length old ≡ 0 = omega arith in rw none (ap (drop n) (append-nil old)) ]
+    elim (cases_lt (length old) n) [
+      | inl past ↦
+          let whole : length (old ++ replicate (n - length old) 0) ≤ n = omega (arith, length-append old (replicate (n - length old) 0), length-replicate {A = ℕ}) in
+          drop_all n (old ++ replicate (n - length old) 0) whole ∙ sym (drop_all n old (omega arith))
+      | inr h ↦ let none : n - length old ≡ 0 = omega arith in rw none (ap (drop n) (append-nil old))
+    ]
 
 -- the bytes that stand after a text was grown to hold them and then written over
 pub overwritten_by_parts : (old bytes grown new : List ℕ) (at : ℕ) → grown ≡ old ++ replicate (at + length bytes - length old) 0 → new ≡ take at grown ++ bytes ++ drop (at + length bytes) grown → new ≡ overwritten old at bytes

@@ -9,9 +9,13 @@ pub record DiskState : Type 0 where
   pub places : List (Option (List ℕ))
   pub counts : CallCounts
 
--- the files as a map from their names to their bytes
+-- the files as a map from their names to their bytes, given by place
+abbrev pub files_at : List (Option (List ℕ)) → Files
+files_at places name = slice_index_or places (name_index name) None
+
+-- the files of a disk
 abbrev pub files_of : DiskState → Files
-files_of disk name = slice_index_or disk.places (name_index name) None
+files_of disk = files_at disk.places
 
 -- a file that a disk is made with
 abbrev pub Entry : Type 0

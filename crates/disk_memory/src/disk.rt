@@ -1,17 +1,17 @@
 // A disk in memory.
-ghost use Rattle.std.specs.Prelude.{◌≡◌, ◌≤◌, ◌<◌, ◌+◌, ◌^◌, ◌++◌, ◌||◌, ◌↔◌, IsTrue, IsSome, IsErr, IfOk, OnOk, OnErr, Some, IfErr, is_err, length, drop, map, option_map, slice_index_or, None};
-ghost use Rattle.file_spec.specs.declared.FileName.{FileName};
+ghost use Rattle.std.specs.Prelude.{◌≡◌, ◌≤◌, ◌<◌, ◌+◌, ◌^◌, ◌++◌, ◌||◌, ◌↔◌, IsTrue, IsSome, IsErr, IfOk, OnOk, OnErr, Some, IfErr, is_err, length, drop, map, option_map, None};
 ghost use Rattle.file_spec.specs.declared.FileName.TheVariants.{Target};
-ghost use Rattle.file_spec.specs.Files.{after_create, after_remove, after_rename, after_set_len, after_write, content, name_index, part_of};
+ghost use Rattle.file_spec.specs.Files.{after_create, after_remove, after_rename, after_set_len, after_write, content, name_index, part_of, with_file};
 ghost use Rattle.rbu_disk.specs.Call.{HasCause};
 ghost use Rattle.disk_memory.specs.Calls.{CountsRefusal, after_call, after_refusal, is_listed, one_more};
-ghost use Rattle.disk_memory.specs.Disk.{files_of, first_entries, is_over_limit as is_end_over_limit};
+ghost use Rattle.disk_memory.specs.Disk.{files_at, files_of, first_entries, is_over_limit};
 
 use crate::calls::Calls;
 use crate::file::{File, copy_part, create_slot, resize_slot, write_slot};
 use rbu_disk::{Disk, DiskCall, DiskFault, FileName};
 use std::alloc::Global;
 use std::marker::Model;
+use std::mem;
 
 /// The greatest length of a file, in bytes.
 const LIMIT: u64 = 1 << 62;
@@ -40,20 +40,28 @@ fn place(name: FileName) -> usize
     name as usize
 }
 
+/// Puts a file or none under a name, and gives what that had.
+fn replace_file(places: &mut [Option<File>; 7], name: FileName, file: Option<File>) -> Option<File>
+    ensures value { result ≡ files_at places.old name }
+    ensures after { files_at places.new ≡ with_file (files_at places.old) name file }
+{
+    mem::replace(&mut places[place(name)], file)
+}
+
 /// Whether an end is over the greatest length of a file.
-fn is_over_limit(at: u64, len: u64) -> bool
-    ensures { result ≡ is_end_over_limit (at + len) }
+fn exceeds_limit(at: u64, len: u64) -> bool
+    ensures { result ≡ is_over_limit (at + len) }
 {
     at > LIMIT || len > LIMIT - at
 }
 
 /// The bytes by the places of their names; of two entries with one name the first counts.
 fn places_of(mut files: Vec<(FileName, Vec<u8>)>) -> [Option<File>; 7]
-    ensures { (name : FileName) → slice_index_or result (name_index name) None ≡ first_entries (map (λ entry. (entry.0, entry.1.items)) files.items) name }
+    ensures { files_at result ≡ first_entries (map (λ entry. (entry.0, entry.1.items)) files.items) }
 {
     let mut places = [None, None, None, None, None, None, None];
     while let Some((name, bytes)) = files.pop() {
-        places[place(name)] = Some(File::from_vec(bytes));
+        let _ = replace_file(&mut places, name, Some(File::from_vec(bytes)));
     }
     places
 }
@@ -114,7 +122,12 @@ impl MemoryDisk {
     }
 
     /// Counts a call that sets an end, which fails where its number stands in the list or the end is over the limit.
-    fn count_growth(&mut self, file: FileName, call: DiskCall, over_limit: bool) -> Result<(), DiskFault>
+    fn count_growth(
+        &mut self,
+        file: FileName,
+        call: DiskCall,
+        over_limit: bool,
+    ) -> Result<(), DiskFault>
         ensures fails { is_err result ≡ (is_listed self.old.counts || over_limit) }
         ensures same { self.new.places ≡ self.old.places }
         ensures counts { self.new.counts ≡ after_call (is_err result) self.old.counts }
@@ -187,11 +200,16 @@ impl Disk for MemoryDisk {
         ensures done { OnOk result (files_of self.new ≡ after_write (files_of self.old) name at bytes.now) }
         ensures failed { OnErr result (files_of self.new ≡ files_of self.old) }
         ensures limit { 2 ^ 62 < at + length bytes.now → IsErr result }
-        ensures counts { CountsRefusal (is_listed self.old.counts || is_end_over_limit (at + length bytes.now)) (is_err result) self.old.counts self.new.counts }
+        ensures counts { CountsRefusal (is_listed self.old.counts || is_over_limit (at + length bytes.now)) (is_err result) self.old.counts self.new.counts }
         ensures cause { HasCause self.old.counts.faults self.new.counts.faults name DiskCall.Write result }
     {
-        self.count_growth(name, DiskCall::Write, is_over_limit(at, bytes.len() as u64))?;
-        match write_slot(&mut self.places[place(name)], self.alloc, at as usize, bytes) {
+        self.count_growth(name, DiskCall::Write, exceeds_limit(at, bytes.len() as u64))?;
+        match write_slot(
+            &mut self.places[place(name)],
+            self.alloc,
+            at as usize,
+            bytes,
+        ) {
             Ok(()) => Ok(()),
             Err(_) => Err(self.count_refusal(name, DiskCall::Write)),
         }
@@ -202,10 +220,10 @@ impl Disk for MemoryDisk {
         ensures done { OnOk result (files_of self.new ≡ after_set_len (files_of self.old) name n) }
         ensures failed { OnErr result (files_of self.new ≡ files_of self.old) }
         ensures limit { 2 ^ 62 < n → IsErr result }
-        ensures counts { CountsRefusal (is_listed self.old.counts || is_end_over_limit n) (is_err result) self.old.counts self.new.counts }
+        ensures counts { CountsRefusal (is_listed self.old.counts || is_over_limit n) (is_err result) self.old.counts self.new.counts }
         ensures cause { HasCause self.old.counts.faults self.new.counts.faults name DiskCall.SetLen result }
     {
-        self.count_growth(name, DiskCall::SetLen, is_over_limit(n, 0))?;
+        self.count_growth(name, DiskCall::SetLen, exceeds_limit(n, 0))?;
         match resize_slot(&mut self.places[place(name)], self.alloc, n as usize) {
             Ok(()) => Ok(()),
             Err(_) => Err(self.count_refusal(name, DiskCall::SetLen)),
@@ -241,7 +259,7 @@ impl Disk for MemoryDisk {
         ensures cause { HasCause self.old.counts.faults self.new.counts.faults name DiskCall.Remove result }
     {
         self.count_call(name, DiskCall::Remove)?;
-        self.places[place(name)] = None;
+        let _ = replace_file(&mut self.places, name, None);
         Ok(())
     }
 
@@ -253,9 +271,10 @@ impl Disk for MemoryDisk {
         ensures cause { HasCause self.old.counts.faults self.new.counts.faults from DiskCall.Rename result }
     {
         self.count_call(from, DiskCall::Rename)?;
-        if let Some(file) = self.places[place(from)].take() {
-            self.places[place(to)] = Some(file);
-        }
+        let Some(file) = replace_file(&mut self.places, from, None) else {
+            return Ok(());
+        };
+        let _ = replace_file(&mut self.places, to, Some(file));
         Ok(())
     }
 

@@ -96,7 +96,12 @@ pub fn copy_part(bytes: &[u8], at: u64, into: &mut [u8]) -> usize
 }
 
 /// Writes at a place of a file; a missing file is made first.
-pub fn write_slot(slot: &mut Option<File>, alloc: Global, at: usize, bytes: &[u8]) -> Result<(), AllocError>
+pub fn write_slot(
+    slot: &mut Option<File>,
+    alloc: Global,
+    at: usize,
+    bytes: &[u8],
+) -> Result<(), AllocError>
     requires { at + length bytes.now ≤ 2 ^ 62 }
     ensures done { OnOk result (slot.new ≡ Some (overwritten (unwrap_or slot.old []) at bytes.now)) }
     ensures failed { OnErr result (slot.new ≡ slot.old) }

@@ -9,6 +9,8 @@ mod calls;
 mod disk;
 mod file;
 mod sink;
+#[cfg(test)]
+mod tests;
 
 pub use disk::MemoryDisk;
 pub use sink::MemorySink;

@@ -25,7 +25,7 @@ after_call failed counts = record counts { calls = one_more counts.calls; faults
 abbrev pub after_refusal : CallCounts → CallCounts
 after_refusal counts = record counts { calls = one_more counts.calls; faults = one_more counts.faults; refused = one_more counts.refused }
 
--- The counts after a call that takes memory. Where it must fail it fails and is not refused memory; else it fails only where it is refused memory.
+-- The counts after a call that takes memory, given whether it must fail and whether it failed. Where it must, it fails and is not refused memory; else it fails only where it is refused memory.
 abbrev pub CountsRefusal : Bool → Bool → CallCounts → CallCounts → Type 0
 CountsRefusal true failed before after = IsTrue failed × (after ≡ after_call true before)
 CountsRefusal false failed before after = after ≡ (if failed then after_refusal before else after_call false before)

@@ -1,9 +1,9 @@
 // A disk in memory.
-ghost use Rattle.std.specs.Prelude.{◌≡◌, ◌≤◌, ◌<◌, ◌+◌, ◌^◌, ◌++◌, ◌||◌, ◌↔◌, IsTrue, IsSome, IsErr, IfOk, OnOk, OnErr, Some, IfErr, is_err, length, drop, map, option_map, None};
+ghost use Rattle.std.specs.Prelude.{◌≡◌, ◌≤◌, ◌<◌, ◌+◌, ◌^◌, ◌++◌, ◌||◌, ◌↔◌, IsTrue, IsSome, IsErr, IfOk, OnOk, OnErr, Some, is_err, length, drop, map, option_map};
 ghost use Rattle.file_spec.specs.declared.FileName.TheVariants.{Target};
 ghost use Rattle.file_spec.specs.Files.{after_create, after_remove, after_rename, after_set_len, after_write, content, name_index, part_of, with_file};
 ghost use Rattle.rbu_disk.specs.Call.{HasCause};
-ghost use Rattle.disk_memory.specs.Calls.{CountsRefusal, after_call, after_refusal, is_listed, one_more};
+ghost use Rattle.disk_memory.specs.Calls.{CountsRefusal, after_call, is_listed, one_more};
 ghost use Rattle.disk_memory.specs.Disk.{files_at, files_of, first_entries, is_over_limit};
 
 use crate::calls::Calls;
@@ -16,7 +16,8 @@ use std::mem;
 /// The greatest length of a file, in bytes.
 const LIMIT: u64 = 1 << 62;
 
-/// A disk in memory, whose calls fail where their numbers stand in a list or no memory is found.
+/// A disk in memory, whose calls fail where their numbers stand in a list or no memory is found. Only `write_at` and
+/// `set_len` take memory. A call that fails changes no file.
 #[derive(Drop)]
 pub struct MemoryDisk {
     alloc: Global,
@@ -195,7 +196,7 @@ impl Disk for MemoryDisk {
         Ok(copy_part(self.bytes_of(name), at, into))
     }
 
-    /// Takes memory where the file grows or is missing. Where it fails it changes no file.
+    /// Takes memory where the file grows.
     fn write_at(&mut self, name: FileName, at: u64, bytes: &[u8]) -> Result<(), DiskFault>
         ensures done { OnOk result (files_of self.new ≡ after_write (files_of self.old) name at bytes.now) }
         ensures failed { OnErr result (files_of self.new ≡ files_of self.old) }
@@ -215,7 +216,7 @@ impl Disk for MemoryDisk {
         }
     }
 
-    /// Takes memory where the file grows. Where it fails it changes no file.
+    /// Takes memory where the file grows.
     fn set_len(&mut self, name: FileName, n: u64) -> Result<(), DiskFault>
         ensures done { OnOk result (files_of self.new ≡ after_set_len (files_of self.old) name n) }
         ensures failed { OnErr result (files_of self.new ≡ files_of self.old) }

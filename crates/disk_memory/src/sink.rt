@@ -1,5 +1,5 @@
 // An output in memory.
-ghost use Rattle.std.specs.Prelude.{◌≡◌, ◌≤◌, ◌++◌, [], OnOk, OnErr, Some, is_err, option_map};
+ghost use Rattle.std.specs.Prelude.{◌≡◌, ◌≤◌, ◌++◌, [], OnOk, OnErr, Some, is_err};
 ghost use Rattle.file_spec.specs.Faults.{Rises};
 ghost use Rattle.disk_memory.specs.Calls.{CountsRefusal, is_listed};
 

@@ -1,0 +1,1 @@
+pub use Rattle.update_spec.specs.Outcome

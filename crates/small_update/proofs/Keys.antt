@@ -1,9 +1,9 @@
 -- Rows whose keys are signed numbers: keys that two rows share, and rows in the order of their keys.
-use Rattle.std.proofs.Common.{◌≡◌, ◌≢◌, ℕ, ◌+◌, ◌<◌, ◌≤◌, Bool, true, false, cond, eqb, List, [], ◌∷◌, ◌++◌, length, get_or, map, refl, sym, ap, ◌∙◌, subst, arith, rules, inl, inr, ◌⊎◌, ◌↔◌, IsTrue, ℤ, pos, ◌<ℤ◌, ◌≤ℤ◌, Result, Ok, Err, Ordering}
+use Rattle.std.proofs.Common.{◌≡◌, ◌≢◌, ℕ, ◌+◌, ◌<◌, ◌≤◌, false, cond, eqb, List, [], ◌∷◌, length, get_or, map, refl, sym, ap, ◌∙◌, arith, rules, inl, inr, ◌↔◌, IsTrue, ℤ, pos, ◌<ℤ◌, ◌≤ℤ◌, Result, Ok, Err}
 use Rattle.std.proofs.lemmas.Bool.{cases_lt, cases_eq, false≢true}
 use Rattle.std.proofs.lemmas.Bool.Decides.{nat_tests}
 use Rattle.std.proofs.lemmas.Int.{ints, by_lt_z}
-use Rattle.std.proofs.lemmas.Cmp.{int_cmp_total, int_ranked}
+use Rattle.std.proofs.lemmas.Cmp.{int_cmp_total}
 use Rattle.std.proofs.lemmas.Map.Lookups.{exact_signed}
 use Rattle.std.proofs.lemmas.List.{get_or-map, length-map, get_or_default}
 use Rattle.std.proofs.lemmas.List.Edits.{Swapped, swapped_from_swap}
@@ -99,10 +99,16 @@ rising_from_sorted {X} key (x ∷ xs) up apart j k less below =
     let at_j = get_or-map key (x ∷ xs) j x (pos 0) (omega arith) in
     let at_k = get_or-map key (x ∷ xs) k x (pos 0) n in
     let above : key (get_or (x ∷ xs) j x) <ℤ key (get_or (x ∷ xs) k x) =
-        by_lt_z _ _ (λ l. l) (λ ge.
-            let same : key (get_or (x ∷ xs) j x) ≡ key (get_or (x ∷ xs) k x) = omega (arith, ints) in
-            absurd (apart (j, k, less, n, λ d.
-                ap key (get_or_default (x ∷ xs) j d x (omega arith)) ∙ (same ∙ ap key (get_or_default (x ∷ xs) k x d n))))) in
+    by_lt_z _ _ (λ l. l) (λ ge.
+    let same : key (get_or (x ∷ xs) j x) ≡ key (get_or (x ∷ xs) k x) = omega (arith, ints) in
+    absurd (apart (
+      j,
+      k,
+      less,
+      n,
+      λ d.
+          ap key (get_or_default (x ∷ xs) j d x (omega arith)) ∙ (same ∙ ap key (get_or_default (x ∷ xs) k x d n)),
+    ))) in
     rw (at_j, at_k) above
 
 -- rising keys are in order
@@ -138,12 +144,12 @@ found_from_search key [] x (Err i) up bound at = (λ e. absurd (false≢true e),
 found_from_search {X} key (y ∷ ys) x (Err i) up bound at =
     let point = at (searchable_from_sorted int_cmp_total key (y ∷ ys) x (sorted_from_rising key (y ∷ ys) up)) in
     let absent : Contains (map key (y ∷ ys)) x → ⊥ = λ h.
-        let n : h.0 < length (y ∷ ys) = omega (arith, h.1, length-map (y ∷ ys) key) in
-        let same : key (get_or (y ∷ ys) h.0 y) ≡ x = sym (get_or-map key (y ∷ ys) h.0 y x n) ∙ h.2 in
-        elim (cases_lt h.0 i) [
-          | inl below ↦ not_less_same _ _ same (point.0 h.0 y (omega arith) below)
-          | inr above ↦ not_more_same _ _ same (point.1 h.0 y above n)
-        ] in
+    let n : h.0 < length (y ∷ ys) = omega (arith, h.1, length-map (y ∷ ys) key) in
+    let same : key (get_or (y ∷ ys) h.0 y) ≡ x = sym (get_or-map key (y ∷ ys) h.0 y x n) ∙ h.2 in
+    elim (cases_lt h.0 i) [
+      | inl below ↦ not_less_same _ _ same (point.0 h.0 y (omega arith) below)
+      | inr above ↦ not_more_same _ _ same (point.1 h.0 y above n)
+    ] in
     (λ e. absurd (false≢true e), λ h. absurd (absent h))
 
 -- what `sort_by_key` ensures, where each call gives the key of the element

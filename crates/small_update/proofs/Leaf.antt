@@ -1,5 +1,5 @@
 -- A table leaf while its cells are written, and the page that they make.
-use Rattle.std.proofs.Common.{get_or, subst, ◌≡◌, ℕ, ◌+◌, ◌-◌, ◌*◌, ◌<◌, ◌≤◌, List, [], ◌∷◌, ◌++◌, length, take, drop, replicate, map, refl, sym, ap, ◌∙◌, arith, rules}
+use Rattle.std.proofs.Common.{get_or, subst, ◌≡◌, ℕ, ◌+◌, ◌-◌, ◌*◌, ◌<◌, ◌≤◌, List, [], ◌∷◌, ◌++◌, length, take, drop, replicate, map, refl, sym, ap, ◌∙◌, arith}
 use Rattle.std.proofs.lemmas.List.{map_more, length-map, append_assoc, append-nil, length-append, length-replicate, length-drop, length-take, length-take-le, drop_all, take-append-drop, take_at, drop_at, drop-drop, drop-append-le, take-append-le, take-replicate, drop-replicate, replicate-append-replicate}
 use Rattle.std.proofs.lemmas.List.Concat.{flat_map-append}
 use Rattle.std.specs.List.{between, flat_map, sum_by}
@@ -95,21 +95,21 @@ with_cell-between front back cell number gap entry place two at room ends =
     let page = front ++ (replicate gap 0 ++ back) in
     let before : take entry page ≡ front = take_at front (replicate gap 0 ++ back) entry at in
     let unused : drop (entry + 2) page ≡ replicate (gap - 2) 0 ++ back =
-        sym (drop-drop 2 entry page)
-        ∙ (ap (drop 2) (drop_at front (replicate gap 0 ++ back) entry at)
-        ∙ (drop-append-le 2 (replicate gap 0) back (omega (arith, length-replicate {A = ℕ} gap 0))
-        ∙ ap (λ (x : List ℕ). x ++ back) (drop-replicate 2 gap 0))) in
+    sym (drop-drop 2 entry page)
+    ∙ (ap (drop 2) (drop_at front (replicate gap 0 ++ back) entry at)
+    ∙ (drop-append-le 2 (replicate gap 0) back (omega (arith, length-replicate {A = ℕ} gap 0))
+    ∙ ap (λ (x : List ℕ). x ++ back) (drop-replicate 2 gap 0))) in
     let middle : between (entry + 2) place page ≡ replicate (gap - (2 + length cell)) 0 =
-        let n : place - (entry + 2) ≡ gap - (2 + length cell) = omega arith in
-        ap (take (place - (entry + 2))) unused
-        ∙ (take-append-le (place - (entry + 2)) (replicate (gap - 2) 0) back (omega (arith, length-replicate {A = ℕ} (gap - 2) 0))
-        ∙ (take-replicate (place - (entry + 2)) (gap - 2) 0 (omega arith)
-        ∙ ap (λ (x : ℕ). replicate x 0) n)) in
+    let n : place - (entry + 2) ≡ gap - (2 + length cell) = omega arith in
+    ap (take (place - (entry + 2))) unused
+    ∙ (take-append-le (place - (entry + 2)) (replicate (gap - 2) 0) back (omega (arith, length-replicate {A = ℕ} (gap - 2) 0))
+    ∙ (take-replicate (place - (entry + 2)) (gap - 2) 0 (omega arith)
+    ∙ ap (λ (x : ℕ). replicate x 0) n)) in
     let rest : drop (place + length cell) page ≡ back =
-        ap (λ (x : ℕ). drop x page) ends
-        ∙ (sym (drop-drop gap entry page)
-        ∙ (ap (drop gap) (drop_at front (replicate gap 0 ++ back) entry at)
-        ∙ drop_at (replicate gap 0) back gap (length-replicate {A = ℕ} gap 0))) in
+    ap (λ (x : ℕ). drop x page) ends
+    ∙ (sym (drop-drop gap entry page)
+    ∙ (ap (drop gap) (drop_at front (replicate gap 0 ++ back) entry at)
+    ∙ drop_at (replicate gap 0) back gap (length-replicate {A = ℕ} gap 0))) in
     simp (before, middle, rest)
 
 -- how the room of rows falls to their places and their cells
@@ -133,7 +133,7 @@ IsPacking-none page size h e = record {
   whole =
       let parts : size ≡ 8 + (size - 8) = omega arith in
       let zeros : replicate size 0 ≡ replicate 8 0 ++ replicate (size - 8) 0 = ap (λ (n : ℕ). replicate n 0) parts ∙ sym (replicate-append-replicate 8 (size - 8) 0) in
-      e ∙ (zeros ∙ ap (λ (x : List ℕ). replicate 8 0 ++ x) (sym (append-nil (replicate (size - 8) 0))))
+      e ∙ (zeros ∙ ap (λ (x : List ℕ). replicate 8 0 ++ x) (sym (append-nil (replicate (size - 8) 0))));
 }
 
 -- a cell's place takes two bytes
@@ -159,20 +159,20 @@ IsPacking-more page size place place' cells cell p e h = record {
       let at : length (p.header ++ array) ≡ entry = omega (arith, p.long, length-append p.header array, length_places size cells) in
       let written = with_cell-between (p.header ++ array) back cell number gap entry place' refl at (omega (arith, p.room)) (omega (arith, p.room)) in
       let with_entry : flat_map (big_bytes 2) (places_below size (cells ++ cell ∷ [])) ≡ array ++ number =
-          let is : size - content cells - length cell ≡ place' = omega (arith, p.filled) in
-          ap (flat_map (big_bytes 2)) (places_below-push size cells cell)
-          ∙ (flat_map-append (big_bytes 2) (places_below size cells) ((size - content cells - length cell) ∷ [])
-          ∙ ap (λ (n : ℕ). array ++ (big_bytes 2 n ++ [])) is) in
+      let is : size - content cells - length cell ≡ place' = omega (arith, p.filled) in
+      ap (flat_map (big_bytes 2)) (places_below-push size cells cell)
+      ∙ (flat_map-append (big_bytes 2) (places_below size cells) ((size - content cells - length cell) ∷ [])
+      ∙ ap (λ (n : ℕ). array ++ (big_bytes 2 n ++ [])) is) in
       let unused : gap - (2 + length cell) ≡ place' - (8 + 2 * length (cells ++ cell ∷ [])) = omega (arith, length-append cells (cell ∷ [])) in
       let regroup = append_assoc p.header array (number ++ (replicate (gap - (2 + length cell)) 0 ++ (cell ++ back))) in
       let inner : array ++ (number ++ (replicate (gap - (2 + length cell)) 0 ++ (cell ++ back)))
-          ≡ flat_map (big_bytes 2) (places_below size (cells ++ cell ∷ [])) ++ (replicate (place' - (8 + 2 * length (cells ++ cell ∷ []))) 0 ++ stacked (cells ++ cell ∷ [])) =
-          sym (append_assoc array number (replicate (gap - (2 + length cell)) 0 ++ (cell ++ back)))
-          ∙ (ap (λ (x : List ℕ). x ++ (replicate (gap - (2 + length cell)) 0 ++ (cell ++ back))) (sym with_entry)
-          ∙ (ap (λ (n : ℕ). flat_map (big_bytes 2) (places_below size (cells ++ cell ∷ [])) ++ (replicate n 0 ++ (cell ++ back))) unused
-          ∙ ap (λ (x : List ℕ). flat_map (big_bytes 2) (places_below size (cells ++ cell ∷ [])) ++ (replicate (place' - (8 + 2 * length (cells ++ cell ∷ []))) 0 ++ x)) (sym (stacked-push cells cell)))) in
+      ≡ flat_map (big_bytes 2) (places_below size (cells ++ cell ∷ [])) ++ (replicate (place' - (8 + 2 * length (cells ++ cell ∷ []))) 0 ++ stacked (cells ++ cell ∷ [])) =
+      sym (append_assoc array number (replicate (gap - (2 + length cell)) 0 ++ (cell ++ back)))
+      ∙ (ap (λ (x : List ℕ). x ++ (replicate (gap - (2 + length cell)) 0 ++ (cell ++ back))) (sym with_entry)
+      ∙ (ap (λ (n : ℕ). flat_map (big_bytes 2) (places_below size (cells ++ cell ∷ [])) ++ (replicate n 0 ++ (cell ++ back))) unused
+      ∙ ap (λ (x : List ℕ). flat_map (big_bytes 2) (places_below size (cells ++ cell ∷ [])) ++ (replicate (place' - (8 + 2 * length (cells ++ cell ∷ []))) 0 ++ x)) (sym (stacked-push cells cell)))) in
       ap (λ (x : List ℕ). take entry x ++ (number ++ (between (entry + 2) place' x ++ (cell ++ drop (place' + length cell) x)))) before
-      ∙ (written ∙ (regroup ∙ ap (λ (x : List ℕ). p.header ++ x) inner))
+      ∙ (written ∙ (regroup ∙ ap (λ (x : List ℕ). p.header ++ x) inner));
 }
 
 -- with its header the page is the packed leaf
@@ -208,8 +208,8 @@ packing_step page page' size place k rows row cell p below is same room written 
     let cells = map (λ (x : TargetRow). x.cell) (take k rows) in
     let count : length cells ≡ k = omega (arith, length-map (take k rows) (λ (x : TargetRow). x.cell), length-take k rows) in
     let next : map (λ (x : TargetRow). x.cell) (take (k + 1) rows) ≡ cells ++ cell ∷ [] =
-        map_more (λ (x : TargetRow). x.cell) rows k row below ∙ ap (λ (x : List ℕ). cells ++ x ∷ []) (ap (λ (x : TargetRow). x.cell) (sym is) ∙ sym same) in
+    map_more (λ (x : TargetRow). x.cell) rows k row below ∙ ap (λ (x : List ℕ). cells ++ x ∷ []) (ap (λ (x : TargetRow). x.cell) (sym is) ∙ sym same) in
     let more = IsPacking-more page size place (place - length cell) cells cell p (omega arith) (omega arith) in
     let entry : take (8 + 2 * length cells) page ++ (big_bytes 2 (place - length cell) ++ (between (8 + 2 * length cells + 2) (place - length cell) page ++ (cell ++ drop (place - length cell + length cell) page))) ≡ page' =
-        ap (λ (n : ℕ). take (8 + 2 * n) page ++ (big_bytes 2 (place - length cell) ++ (between (8 + 2 * n + 2) (place - length cell) page ++ (cell ++ drop (place - length cell + length cell) page)))) count ∙ sym written in
+    ap (λ (n : ℕ). take (8 + 2 * n) page ++ (big_bytes 2 (place - length cell) ++ (between (8 + 2 * n + 2) (place - length cell) page ++ (cell ++ drop (place - length cell + length cell) page)))) count ∙ sym written in
     subst (λ (x : List (List ℕ)). IsPacking page' size (place - length cell) x) (sym next) (subst (λ (x : List ℕ). IsPacking x size (place - length cell) (cells ++ cell ∷ [])) entry more)

@@ -1,9 +1,7 @@
 -- Both pages of the target.
-use Rattle.std.proofs.Common.{◌≡◌, ℕ, ◌+◌, ◌-◌, List, [], ◌++◌, length, take, drop, replicate, map, refl, sym, ap, ◌∙◌, arith}
-use Rattle.std.proofs.lemmas.List.{append-nil, length-append, length-drop, length-take-le, take_at, drop_at, drop_all, take_rest, take_all}
+use Rattle.std.proofs.Common.{◌≡◌, ℕ, ◌+◌, ◌-◌, List, [], ◌++◌, length, take, drop, replicate, ap, ◌∙◌, arith}
+use Rattle.std.proofs.lemmas.List.{append-nil, length-append, length-drop, length-take-le, take_at, drop_all}
 use borrow.Rule.Slice.PartMut.{put_mid}
-use Rattle.format_spec.specs.Page.{packed_leaf}
-use Rattle.update_spec.specs.Outcome.{new_first_page}
 
 -- a page of a file that is longer
 pub first_page : (size : ℕ) (target : List ℕ) → length target ≡ size + size → take size target ++ replicate (size - length target) 0 ≡ take size target
@@ -17,7 +15,7 @@ pub second_page : (size k : ℕ) (target first second : List ℕ) → length tar
 second_page size k target first second long at e =
     let before = take_at first (drop size target) size at in
     let none : drop k (drop size (first ++ drop size target)) ≡ [] =
-        drop_all k (drop size (first ++ drop size target)) (omega (arith, length-drop size (first ++ drop size target))) in
+    drop_all k (drop size (first ++ drop size target)) (omega (arith, length-drop size (first ++ drop size target))) in
     ap (λ (x : List ℕ). x ++ (second ++ drop k (drop size (first ++ drop size target)))) before
     ∙ ap (λ (x : List ℕ). first ++ x) (ap (λ (x : List ℕ). second ++ x) none ∙ append-nil second)
 

@@ -11,15 +11,23 @@ use std::alloc::AllocError;
 use update_spec::{PreparedRow, TargetRow};
 
 // Puts prepared rows in the order of their keys.
-fn sort_by_key(rows: &mut Vec<PreparedRow>) -> Result<(), AllocError>
+pub fn sort_by_key(rows: &mut Vec<PreparedRow>) -> Result<(), AllocError>
     ensures same { IsPermutation rows.old.items rows.new.items }
     ensures sorted { OnOk result (IsSortedByKey (λ row. row.key) int_cmp rows.new.items) }
 {
     rows.sort_by_key(|row| row.key)
 }
 
+// Puts rows in the order of their rowids.
+pub fn sort_by_rowid(rows: &mut Vec<TargetRow>) -> Result<(), AllocError>
+    ensures same { IsPermutation rows.old.items rows.new.items }
+    ensures sorted { OnOk result (IsSortedByKey (λ row. row.rowid) int_cmp rows.new.items) }
+{
+    rows.sort_by_key(|row| row.rowid)
+}
+
 // Whether two rows have one key.
-fn shares_key(rows: &[PreparedRow]) -> bool
+pub fn shares_key(rows: &[PreparedRow]) -> bool
     requires { IsSortedByKey (λ row. row.key) int_cmp rows.now }
     ensures { IsTrue result ↔ SharesKey rows.now }
 {
@@ -40,7 +48,7 @@ fn is_present(old: &[TargetRow], key: i64) -> bool
 }
 
 // The rowid of the first row whose key is an old rowid.
-fn first_present(old: &[TargetRow], rows: &[PreparedRow]) -> Option<i64>
+pub fn first_present(old: &[TargetRow], rows: &[PreparedRow]) -> Option<i64>
     requires rising { IsRising (map (λ row. row.rowid) old.now) }
     requires sorted { IsSortedByKey (λ row. row.key) int_cmp rows.now }
     ensures present { IfSome result (λ data_rowid.

@@ -1,5 +1,5 @@
 // The target's pages after the update.
-ghost use Rattle.std.specs.Prelude.{◌≡◌, ◌<◌, ◌≤◌, ◌+◌, [], ◌∷◌, ◌++◌, length, map, take, drop};
+ghost use Rattle.std.specs.Prelude.{◌≡◌, ◌↔◌, IsTrue, ◌<◌, ◌≤◌, ◌+◌, [], ◌∷◌, ◌++◌, length, map, take, drop};
 ghost use Rattle.std.specs.List.{between};
 ghost use Rattle.byteorder.specs.Endian.{big_bytes};
 ghost use Rattle.format_spec.specs.Numbers.{with_number_at};
@@ -8,6 +8,20 @@ ghost use Rattle.update_spec.specs.Outcome.{page_room, new_first_page, new_pages
 
 use byteorder::{BigEndian, ByteOrder};
 use update_spec::TargetRow;
+
+// Whether one page has room for the rows.
+pub fn fits_page(rows: &[TargetRow]) -> bool
+    ensures { IsTrue result ↔ (page_room rows.now ≤ 4096) }
+{
+    let mut room = 8;
+    for row in rows {
+        room += row.cell.as_slice().len() + 2;
+        if room > 4096 {
+            return false;
+        }
+    }
+    true
+}
 
 // Writes a number over the four bytes at a place.
 fn write_number(page: &mut [u8], at: usize, number: u32)

@@ -1,9 +1,8 @@
-use Rattle.std.proofs.Common.{◌≡◌, ◌∙◌, ap, rules, subst, sym, IsTrue, Bool, ◌↔◌, map, ℤ, to_z, of_z, w64}
+use Rattle.std.proofs.Common.{rules, subst, ℤ, to_z, of_z, w64}
 use Rattle.std.specs.List.Sorted.{IsBinarySearchResult}
 use Rattle.std.specs.Ordering.{int_cmp}
 use Rattle.std.proofs.lemmas.Int.{to_z-of_z}
 use Rattle.std.proofs.lemmas.List.Sorted.{answers_always}
-use Rattle.std.specs.List.{Contains}
 use Rattle.update_spec.specs.declared.TargetRow.{TargetRow}
 use Rattle.small_update.proofs.Keys.{found_from_search}
 use Rattle.small_update.proofs.merge.is_present.Goals as goal

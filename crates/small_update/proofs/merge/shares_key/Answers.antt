@@ -1,7 +1,7 @@
-use Rattle.std.proofs.Common.{◌≡◌, ◌≢◌, ℕ, ◌-◌, ◌+◌, ap, rules, arith, sym, ◌∙◌, get_or, length}
+use Rattle.std.proofs.Common.{◌≡◌, ◌≢◌, ◌-◌, ap, rules, arith, sym, ◌∙◌, get_or, length}
 use Rattle.std.proofs.lemmas.Bool.{false≢true}
 use Rattle.std.proofs.lemmas.Int.{ints}
-use Rattle.std.proofs.lemmas.List.{get_or_read, get_or_default}
+use Rattle.std.proofs.lemmas.List.{get_or_default}
 use Rattle.std.specs.List.{AllAdjacentBelow}
 use Rattle.update_spec.specs.declared.PreparedRow.{PreparedRow}
 use Rattle.small_update.proofs.Keys.{not_shared}
@@ -12,10 +12,10 @@ returns-then-rows-i c =
     let i = c.loop-i.i in
     let rows = c.args.rows.now in
     let same = λ (d : PreparedRow).
-        let first = get_or_default rows (i - 1) d c.index-rows-i.result (omega arith) in
-        let second = get_or_default rows i d c.index-rows-i-in-loop-i.result c.loop-i-test.true in
-        let equal : (get_or rows (i - 1) c.index-rows-i.result).key ≡ (get_or rows i c.index-rows-i-in-loop-i.result).key = omega (arith, ints) in
-        ap (λ (row : PreparedRow). row.key) first ∙ (equal ∙ ap (λ (row : PreparedRow). row.key) (sym second)) in
+    let first = get_or_default rows (i - 1) d c.index-rows-i.result (omega arith) in
+    let second = get_or_default rows i d c.index-rows-i-in-loop-i.result c.loop-i-test.true in
+    let equal : (get_or rows (i - 1) c.index-rows-i.result).key ≡ (get_or rows i c.index-rows-i-in-loop-i.result).key = omega (arith, ints) in
+    ap (λ (row : PreparedRow). row.key) first ∙ (equal ∙ ap (λ (row : PreparedRow). row.key) (sym second)) in
     (λ _. (i - 1, i, omega arith, omega arith, same), λ _. search rules)
 
 pub returns : goal.returns

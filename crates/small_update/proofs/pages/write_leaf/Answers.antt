@@ -1,4 +1,4 @@
-use Rattle.std.proofs.Common.{◌≡◌, ℕ, ◌+◌, ◌*◌, ◌≤◌, ◌<◌, List, length, map, take, rules, arith, refl, ap, sym, ◌∙◌, ◌-◌, replicate, subst, drop, ◌++◌, ◌∷◌, []}
+use Rattle.std.proofs.Common.{◌≡◌, ℕ, List, length, map, take, rules, arith, ap, sym, ◌∙◌, replicate, subst, drop, ◌++◌, ◌∷◌, []}
 use Rattle.byteorder.specs.Endian.{big_bytes}
 use Rattle.std.proofs.lemmas.List.{take_all, length-map}
 use Rattle.update_spec.specs.declared.TargetRow.{TargetRow}
@@ -31,7 +31,7 @@ returns c =
     let cells = map (λ (row : TargetRow). row.cell) rows in
     let all : take c.loop-k.k rows ≡ rows = take_all c.loop-k.k rows c.loop-k-test.false in
     let packing : IsPacking c.loop-k.page size c.loop-k.place cells =
-        subst (λ (x : List TargetRow). IsPacking c.loop-k.page size c.loop-k.place (map (λ (row : TargetRow). row.cell) x)) all c.loop-k.invariant in
+    subst (λ (x : List TargetRow). IsPacking c.loop-k.page size c.loop-k.place (map (λ (row : TargetRow). row.cell) x)) all c.loop-k.invariant in
     let count = length-map rows (λ (row : TargetRow). row.cell) in
     c.write_header.ensures
     ∙ (ap (λ (n : ℕ). (13 ∷ (big_bytes 2 0 ++ (big_bytes 2 n ++ (big_bytes 2 c.loop-k.place ++ 0 ∷ [])))) ++ drop 8 c.loop-k.page) (sym count)

@@ -1,4 +1,4 @@
-use Rattle.std.proofs.Common.{rules, ◌≡◌, ◌<◌, ◌≤◌, ◌+◌, [], ◌∷◌, ◌++◌, length, map, take, drop, ℕ, ◌-◌, ◌*◌, arith, sym, ap, ◌∙◌, List, refl}
+use Rattle.std.proofs.Common.{◌≡◌, ◌++◌, length, map, take, ℕ, arith, sym, ap, ◌∙◌, List, refl}
 use Rattle.std.proofs.lemmas.List.{length-take-le}
 use Rattle.format_spec.specs.Page.{packed_leaf}
 use Rattle.update_spec.specs.Outcome.{new_first_page}

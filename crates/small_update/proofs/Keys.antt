@@ -65,7 +65,7 @@ Shares-permutation key xs ys moves h = IsPermutation-keeps xs (Shares key) h (λ
 le_from_not_less : (x y : ℤ) → is_lt (int_cmp x y) ≡ false → y ≤ℤ x
 le_from_not_less x y h = by_lt_z x y (λ less. absurd (grind (arith, ints))) (λ more. more)
 
-not_less_above : (x y : ℤ) → x <ℤ y → is_lt (int_cmp y x) ≡ false
+pub not_less_above : (x y : ℤ) → x <ℤ y → is_lt (int_cmp y x) ≡ false
 not_less_above x y h = grind (arith, ints)
 
 same_from_equal : (x y : ℤ) → int_cmp x y ≡ Equal → x ≡ y

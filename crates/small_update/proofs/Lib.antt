@@ -1,0 +1,5 @@
+pub mod Keys
+pub mod Leaf
+pub mod Whole
+pub mod Rows
+pub mod Decisions

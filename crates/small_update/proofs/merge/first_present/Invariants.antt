@@ -1,0 +1,7 @@
+use Rattle.std.proofs.Common.{ℕ, ◌<◌, get_or}
+use Rattle.update_spec.specs.declared.PreparedRow.{PreparedRow}
+use Rattle.update_spec.specs.Outcome.{IsPresent}
+use Rattle.small_update.proofs.merge.first_present.Given as goal
+
+abbrev pub invariant-loop-row : goal.invariant-loop-row
+invariant-loop-row l = (k : ℕ) (d : PreparedRow) → k < l.row-index → ¬ IsPresent l.old (get_or l.rows k d)

@@ -1,0 +1,4 @@
+pub mod Decision
+pub use Rattle.update_spec.specs.SmallFile
+pub use Rattle.update_spec.specs.Outcome
+pub use Rattle.update_spec.specs.Answer

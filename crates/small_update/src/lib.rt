@@ -1,0 +1,65 @@
+//! What prepared inserts make of a small target, and the target's new pages.
+//!
+//! The layer above decides by `decide`, and writes the pages of the merged rows by `write_pages`. What both mean is said by `Outcome` in the `specs/` of `update_spec`; `Decision` in this crate's `specs/` says which decision rows have.
+#![tactic(auto)]
+
+ghost use Rattle.std.specs.Prelude.{IfOk, map};
+ghost use Rattle.std.specs.List.{All};
+ghost use Rattle.update_spec.specs.SmallFile.{IsRising, IsNullOrText};
+ghost use Rattle.small_update.specs.Decision.{Decides};
+
+mod insert;
+mod merge;
+mod pages;
+
+use insert::{has_long_value, with_inserted};
+use merge::{first_present, shares_key, sort_by_key, sort_by_rowid};
+use pages::fits_page;
+pub use pages::write_pages;
+use std::alloc::{AllocError, Global};
+use update_spec::{PreparedRow, TargetRow};
+
+/// What prepared inserts make of a table: the first of these that holds.
+#[derive(Drop)]
+pub enum Decision {
+    /// Two prepared rows have one key.
+    SharedKey,
+    /// All rows together do not fit one page of 4096 bytes.
+    NoRoom,
+    /// A key is an old rowid. The rowid is that of the prepared row with the least such key.
+    KeyPresent { data_rowid: i64 },
+    /// All rows, in order of their rowids.
+    Merged(Vec<TargetRow>),
+}
+
+/// Decides what prepared rows, each of which has NULL or a text beside its key, make of a table's old rows, which are in order of their rowids.
+pub fn decide(
+    alloc: Global,
+    old: Vec<TargetRow>,
+    mut prepared: Vec<PreparedRow>,
+) -> Result<Decision, AllocError>
+    requires rising { IsRising (map (λ row. row.rowid) old.items) }
+    requires values { All (λ row. IsNullOrText row.value) prepared.items }
+    ensures { IfOk result (Decides old.items prepared.items) }
+{
+    sort_by_key(&mut prepared)?;
+    if shares_key(&prepared) {
+        return Ok(Decision::SharedKey);
+    }
+    if has_long_value(&prepared) {
+        return Ok(Decision::NoRoom);
+    }
+    let present = first_present(&old, &prepared);
+    let mut rows = with_inserted(alloc, old, &prepared)?;
+    if !fits_page(&rows) {
+        return Ok(Decision::NoRoom);
+    }
+    if let Some(data_rowid) = present {
+        return Ok(Decision::KeyPresent { data_rowid });
+    }
+    sort_by_rowid(&mut rows)?;
+    Ok(Decision::Merged(rows))
+}
+
+#[cfg(test)]
+mod tests;

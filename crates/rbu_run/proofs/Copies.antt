@@ -1,12 +1,12 @@
 -- What the copying of both pages leaves of the target.
-use Rattle.std.proofs.Common.{◌≡◌, ℕ, ◌+◌, ◌-◌, ◌≤◌, List, [], ◌++◌, length, take, drop, Option, Some, None, option_map, refl, sym, ap, ◌∙◌, subst, arith, append-nil, length-append, length-take, length-drop}
-use Rattle.std.proofs.lemmas.List.{take-append-drop, take_at}
+use Rattle.std.proofs.Common.{◌≡◌, ℕ, ◌+◌, ◌-◌, List, [], ◌++◌, length, take, drop, Option, Some, option_map, refl, sym, ap, ◌∙◌, subst, arith, append-nil, length-append, length-drop}
+use Rattle.std.proofs.lemmas.List.{take_at}
 use Rattle.std.proofs.Math.ListN.{drop_of_length-le}
 use Rattle.file_spec.specs.declared.FileName.TheVariants.{Target}
-use Rattle.file_spec.specs.Files.{Files, content, with_file, resized, overwritten, after_write}
+use Rattle.file_spec.specs.Files.{Files, content, with_file, overwritten, after_write}
 use Rattle.file_spec.specs.FilesLaws.{with_file-again, overwritten-front}
 use Rattle.file_spec.specs.Faults.{Leads}
-use Rattle.file_spec.specs.FaultsLaws.{Leads-map, Leads-same, Leads-then}
+use Rattle.file_spec.specs.FaultsLaws.{Leads-map, Leads-then}
 use Rattle.rbu_run.specs.Handover.{HasPages}
 
 -- the second page is written behind the first, over bytes of two pages

@@ -1,15 +1,14 @@
 -- How the log, its rename, the copying and its removal join.
-use Rattle.std.proofs.Common.{◌≡◌, ◌⊎◌, ◌<◌, ◌-◌, ℕ, true, List, ◌++◌, length, take, drop, Option, Some, None, option_map, refl, sym, ap, ◌∙◌, subst, inl, inr, arith, lit<, length-take, length-drop}
+use Rattle.std.proofs.Common.{◌≡◌, ◌⊎◌, ℕ, true, List, ◌++◌, length, take, drop, Option, Some, None, option_map, refl, sym, ap, ◌∙◌, subst, inl, inr, arith, lit<, length-take, length-drop}
 use Rattle.std.proofs.Math.Path.{fun_ext}
 use Rattle.std.proofs.lemmas.List.{take-append-drop}
 use Rattle.file_spec.specs.declared.FileName.{FileName}
 use Rattle.file_spec.specs.declared.FileName.TheVariants.{Target, Oal, Wal, Journal, Rbu, State, StateTemp}
 use Rattle.file_spec.specs.Files.{Files, content, with_file, after_rename, after_remove, OnlyChanges}
-use Rattle.file_spec.specs.FilesLaws.{with_file-again}
 use Rattle.file_spec.specs.Faults.{Leads}
 use Rattle.file_spec.specs.FaultsLaws.{Leads-map, Leads-same, Leads-weaken, Leads-then}
 use Rattle.format_spec.specs.Log.{IsOverlay, AreFrames}
-use Rattle.wal_codec.specs.LogLaws.{two_pages, log-of_frames, overlay-of_two_pages}
+use Rattle.wal_codec.specs.LogLaws.{log-of_frames, overlay-of_two_pages}
 use Rattle.update_spec.specs.View.{IsView, KeepsView}
 use Rattle.rbu_run.specs.Handover.{log_of, page_frames, IsAlone, HasPages, HandsOver, SeesPages}
 

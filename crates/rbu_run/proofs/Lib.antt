@@ -1,5 +1,9 @@
+mod Answering
 mod Copies
+mod Finishes
 mod Handovers
+mod Inspections
 mod LogWrites
 mod Numerals
+mod Outcomes
 mod Parts

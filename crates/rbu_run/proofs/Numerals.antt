@@ -1,5 +1,5 @@
 -- Words that are numbers without sign or leading zero.
-use Rattle.std.proofs.Common.{◌≡◌, ◌≢◌, ℕ, zero, suc, ◌+◌, ◌*◌, ◌/◌, ◌%◌, ◌^◌, ◌<◌, ◌≤◌, List, [], ◌∷◌, ◌++◌, length, get_or, Result, Ok, Err, IfOk, string_bytes, String, Global, ℤ, pos, negsuc, refl, sym, ap, ◌∙◌, subst, arith, lit<, length-append}
+use Rattle.std.proofs.Common.{◌≡◌, ◌≢◌, ℕ, zero, suc, ◌+◌, ◌/◌, ◌%◌, ◌^◌, ◌<◌, ◌≤◌, List, [], ◌∷◌, ◌++◌, length, get_or, Result, Ok, Err, IfOk, string_bytes, String, Global, ℤ, pos, negsuc, refl, sym, ap, ◌∙◌, subst, arith, lit<, length-append}
 use lib.Signed.{mag}
 use mir.Syntax.{w64}
 use mir.Val.{SFits}

@@ -1,5 +1,5 @@
 -- How the new pages reach the target: by a log that becomes the target's write-ahead log, and is then copied back.
-use Rattle.std.specs.Prelude.{◌≡◌, ◌⊎◌, ℕ, true, false, List, ◌++◌, length, take, drop, Option, Some, None}
+use Rattle.std.specs.Prelude.{◌≡◌, ◌⊎◌, ℕ, true, false, List, ◌++◌, length, take, drop, Some, None}
 use Rattle.file_spec.specs.declared.FileName.{FileName}
 use Rattle.file_spec.specs.declared.FileName.TheVariants.{Target, Oal, Wal}
 use Rattle.file_spec.specs.Files.{Files, content, is_name, with_file}

@@ -1,4 +1,7 @@
+pub mod Halt
+pub mod Inspection
 pub mod Handover
+pub mod Status
 pub mod Told
 pub use Rattle.rbu_disk.specs.Sink
 pub use Rattle.file_spec.specs.Files

@@ -1,11 +1,11 @@
 // The line and the status of an answer.
-ghost use Rattle.std.specs.Prelude.{◌≡◌, ◌≤◌, ◌++◌, ◌∷◌, [], ℤ, length, string_bytes, IfOk, OnErr};
+ghost use Rattle.std.specs.Prelude.{◌≡◌, ◌≤◌, ◌⊎◌, ◌++◌, ◌∷◌, [], ℤ, length, string_bytes, IfOk, OnErr};
 ghost use Rattle.std.specs.Fmt.{signed_decimal};
 ghost use Rattle.file_spec.specs.Faults.{Rises};
 ghost use Rattle.refusal.specs.Refusal.{refusal_text};
 ghost use Rattle.update_spec.specs.Text.{answer_line, answer_status};
 ghost use Rattle.update_spec.specs.declared.Outcome.TheVariants.{KeyPresent, Refused};
-ghost use Rattle.update_spec.specs.declared.Answer.TheVariants.{Ended, Fault};
+ghost use Rattle.update_spec.specs.declared.Answer.TheVariants.{Ended, Fault, NoMemory};
 ghost use Rattle.rbu_run.specs.Told.{IsTold};
 
 use arrayvec::ArrayString;
@@ -15,7 +15,7 @@ use std::alloc::{AllocError, Global};
 use update_spec::{Answer, Outcome};
 
 // A line of the program, with its line feed.
-type Line = ArrayString<64>;
+pub type Line = ArrayString<64>;
 
 // The status where the output failed.
 const OUTPUT_FAULT: u8 = 8;
@@ -111,7 +111,7 @@ fn line_of(alloc: Global, answer: &Answer) -> Result<Line, AllocError>
 }
 
 /// Writes the line of an answer at once, and answers its status, or that of an output that failed.
-fn write_line<O: Sink>(answer: &Answer, line: &Line, out: &mut O) -> u8
+pub fn write_line<O: Sink>(answer: &Answer, line: &Line, out: &mut O) -> u8
     requires { line.now.bytes ≡ answer_line answer.now }
     ensures told { IsTold answer.now result (O.written out.old) (O.written out.new) }
     ensures count { O.faults out.old ≤ O.faults out.new }
@@ -120,5 +120,16 @@ fn write_line<O: Sink>(answer: &Answer, line: &Line, out: &mut O) -> u8
     match out.write_all(line.as_bytes()) {
         Ok(()) => status_of(answer),
         Err(SinkFault) => OUTPUT_FAULT,
+    }
+}
+
+/// The answer with its line; want of memory where the line takes memory and there is none.
+pub fn tellable(alloc: Global, answer: Answer) -> (Answer, Line)
+    ensures line { result.1.bytes ≡ answer_line result.0 }
+    ensures answer { (result.0 ≡ answer) ⊎ ((result.0 ≡ NoMemory) × ((data_rowid : ℤ) × (answer ≡ Ended (KeyPresent data_rowid)))) }
+{
+    match line_of(alloc, &answer) {
+        Ok(line) => (answer, line),
+        Err(_) => (Answer::NoMemory, plain_line("no memory")),
     }
 }

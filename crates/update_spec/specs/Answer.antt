@@ -85,10 +85,23 @@ AfterOutcome Done before after = IsFinished before after
 AfterOutcome (KeyPresent data_rowid) before after = HasOutcome before (KeyPresent data_rowid) × (after ≡ before)
 AfterOutcome (Refused refusal) before after = HasOutcome before (Refused refusal) × (after ≡ before)
 
+-- the answer of the update: what a fault leaves is the old database or the new one, and want of memory changes nothing
+abbrev pub IsUpdateAnswer : Option Files → Option Files → Answer → Type 0
+IsUpdateAnswer before after Usage = ⊥
+IsUpdateAnswer before after (Ended outcome) = Leads (AfterOutcome outcome) before after
+IsUpdateAnswer before after (Fault file call) = Leads SeesOldOrNew before after
+IsUpdateAnswer before after NoMemory = after ≡ before
+
+-- the words of a command that is not built: nothing changes
+abbrev pub IsUnbuiltAnswer : List (List ℕ) → Option Files → Option Files → Answer → Type 0
+IsUnbuiltAnswer words before after answer = AsksMore words × (answer ≡ Ended (Refused (NotYet part.Words))) × (after ≡ before)
+
+-- the words of no command: nothing changes
+abbrev pub IsUsageAnswer : List (List ℕ) → Option Files → Option Files → Answer → Type 0
+IsUsageAnswer words before after answer = IsUsage words × (answer ≡ Usage) × (after ≡ before)
+
 -- The answer of a command with these words, whose disk showed these files before and after, where it tells them.
 abbrev pub IsAnswer : List (List ℕ) → Option Files → Option Files → Answer → Type 0
-IsAnswer words before after Usage = IsUsage words × (after ≡ before)
-IsAnswer words before after (Ended (Refused (NotYet part.Words))) = AsksMore words × (after ≡ before)
-IsAnswer words before after (Ended outcome) = AsksUpdate words × Leads (AfterOutcome outcome) before after
-IsAnswer words before after (Fault file call) = AsksUpdate words × Leads SeesOldOrNew before after
-IsAnswer words before after NoMemory = AsksUpdate words × (after ≡ before)
+IsAnswer words before after answer =
+    (AsksUpdate words × IsUpdateAnswer before after answer)
+    ⊎ (IsUnbuiltAnswer words before after answer ⊎ IsUsageAnswer words before after answer)

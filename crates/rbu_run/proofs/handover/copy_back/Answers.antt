@@ -1,7 +1,7 @@
-use Rattle.std.proofs.Common.{◌≡◌, ◌++◌, length, refl, sym, ap, ◌∙◌, arith}
+use Rattle.std.proofs.Common.{length, refl, arith}
 use Rattle.std.proofs.lemmas.List.{take-append-drop}
 use Rattle.file_spec.specs.declared.FileName.TheVariants.{Target}
-use Rattle.rbu_run.proofs.Parts.{on-ok, on-err}
+use Rattle.rbu_run.proofs.Parts.{on-ok}
 use Rattle.rbu_run.proofs.LogWrites.{only-none, only-more, only-torn, only-then}
 use Rattle.rbu_run.proofs.Copies.{Copied}
 use Rattle.rbu_run.proofs.handover.copy_back.Goals as goal

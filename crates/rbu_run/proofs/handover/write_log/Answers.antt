@@ -1,9 +1,8 @@
-use Rattle.std.proofs.Common.{◌≡◌, ◌++◌, ◌+◌, ◌<◌, ◌^◌, List, ℕ, [], true, length, take, drop, refl, sym, ap, ◌∙◌, arith, length-append, append_assoc, subst}
+use Rattle.std.proofs.Common.{◌≡◌, ◌++◌, [], arith}
 use Rattle.file_spec.specs.declared.FileName.TheVariants.{Oal}
 use Rattle.format_spec.specs.Numbers.{pair_of}
-use Rattle.format_spec.specs.Log.{log_header, frame_header, log_sums, frame_sums}
 use Rattle.rbu_run.specs.Handover.{log_of}
-use Rattle.rbu_run.proofs.Parts.{on-ok, on-err, five_short}
+use Rattle.rbu_run.proofs.Parts.{on-ok, five_short}
 use Rattle.rbu_run.proofs.LogWrites.{only-none, only-then, only-created, log_parts, Made}
 use Rattle.rbu_run.proofs.handover.write_log.Goals as goal
 

@@ -1,9 +1,9 @@
-use Rattle.std.proofs.Common.{◌≡◌, ◌≤◌, ◌+◌, ℕ, [], List, ◌++◌, length, take, get_or, arith, sym, ap, ◌∙◌, subst, refl, length-append}
+use Rattle.std.proofs.Common.{◌≡◌, ◌+◌, ℕ, [], List, ◌++◌, length, take, get_or, arith, refl, length-append}
 use Rattle.std.specs.Borrow.{Bor}
 use Rattle.std.specs.List.{flat_map}
 use Rattle.file_spec.specs.declared.FileName.TheVariants.{Oal}
 use Rattle.rbu_run.proofs.Parts.{flat_map-take_more}
-use Rattle.rbu_run.proofs.LogWrites.{Wrote, Wrote-none, only-none, Wrote-more, only-more, only-torn}
+use Rattle.rbu_run.proofs.LogWrites.{Wrote-none, only-none, Wrote-more, only-more, only-torn}
 use Rattle.rbu_run.proofs.handover.write_parts.Goals as goal
 
 pub loop-part-init : goal.loop-part-init

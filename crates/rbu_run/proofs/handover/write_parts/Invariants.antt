@@ -1,4 +1,4 @@
-use Rattle.std.proofs.Common.{◌≡◌, ◌≤◌, ℕ, [], length, take, Some}
+use Rattle.std.proofs.Common.{◌≡◌, ◌≤◌, [], length, take, Some}
 use Rattle.std.specs.List.{flat_map}
 use Rattle.file_spec.specs.declared.FileName.TheVariants.{Oal}
 use Rattle.file_spec.specs.Files.{with_file, OnlyChanges}

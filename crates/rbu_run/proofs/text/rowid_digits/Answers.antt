@@ -1,4 +1,3 @@
-use Rattle.std.proofs.Common.{◌≤◌, length, string_bytes, IfOk}
 use mir.Syntax.{w64}
 use mir.Val.{SFits}
 use Rattle.std.proofs.lemmas.Int.{to_z-of_z}

@@ -1,5 +1,4 @@
-use Rattle.std.proofs.Common.{◌≡◌, ℕ, ◌^◌, ◌<◌, ◌≤◌, Some, None, Ok, Err, arith, refl, sym, ap, ◌∙◌, subst}
-use Rattle.update_spec.specs.Words.{IsNumber}
+use Rattle.std.proofs.Common.{◌≡◌, Ok, arith, sym, subst}
 use Rattle.rbu_run.proofs.Numerals.{IsPlain, plain_spells, spelled_is_read, spelled_is_plain}
 use Rattle.rbu_run.proofs.words.number.Goals as goal
 use Rattle.rbu_run.proofs.words.number.Goals.{else-is_plain-via-then-is_plain+then-least-n+else-n-most, else-is_plain-via-then-is_plain+else-least-n, else-is_plain-via-else-is_plain}

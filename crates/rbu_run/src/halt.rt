@@ -1,0 +1,29 @@
+// What ends a call before its outcome.
+ghost use Rattle.std.specs.Prelude.{◌≡◌};
+ghost use Rattle.rbu_run.specs.declared.halt.Halt.TheVariants.{Fault, Memory};
+
+use rbu_disk::DiskFault;
+use std::alloc::AllocError;
+
+/// What ends a call before its outcome.
+#[derive(Clone, Copy, Debug, PartialEq, Eq)]
+pub enum Halt {
+    Fault(DiskFault),
+    Memory,
+}
+
+impl From<DiskFault> for Halt {
+    ghost from_gives = { λ fault halt. halt ≡ Fault fault };
+
+    fn from(fault: DiskFault) -> Halt {
+        Halt::Fault(fault)
+    }
+}
+
+impl From<AllocError> for Halt {
+    ghost from_gives = { λ _ halt. halt ≡ Memory };
+
+    fn from(_: AllocError) -> Halt {
+        Halt::Memory
+    }
+}

@@ -1,0 +1,114 @@
+// The commands, from the words in to the line out.
+ghost use Rattle.std.specs.Prelude.{◌≡◌, ◌≤◌, ◌⊎◌, ◌↔◌, List, ℕ, map, string_bytes, IsTrue};
+ghost use Rattle.file_spec.specs.Faults.{Leads, Rises};
+ghost use Rattle.update_spec.specs.declared.Outcome.{Outcome};
+ghost use Rattle.update_spec.specs.declared.Command.TheVariants.{Apply};
+ghost use Rattle.update_spec.specs.Answer.{HasOutcome, IsAnswer, IsUpdateAnswer, IsFinished, SeesOldOrNew};
+ghost use Rattle.update_spec.specs.Words.{IsUsage, AsksUpdate, AsksMore};
+ghost use Rattle.update_spec.specs.Text.{answer_line};
+ghost use Rattle.rbu_run.specs.Status.{Tells, KeepsOnFault, KeepsOnRefusal, IsHalted, HasStatusOf, IsOutcome, OnFault};
+
+use crate::halt::Halt;
+use crate::text::{tellable, write_line};
+use crate::update::{not_yet, update};
+use crate::words::command_of;
+use rbu_disk::{Disk, Sink};
+use refusal::Part;
+use std::alloc::Global;
+use update_spec::{Answer, Command};
+
+/// What a command leaves: the disk that it was given, and the status with which the program ends.
+#[derive(Drop)]
+pub struct Ran<D> {
+    pub disk: D,
+    pub status: u8,
+}
+
+/// The answer of the update.
+fn update_answer<D: Disk>(alloc: Global, salt: [u32; 2], disk: &mut D) -> Answer
+    ensures answer { IsUpdateAnswer (D.shown disk.old) (D.shown disk.new) result }
+    ensures only { Leads (λ f _. (outcome : Outcome) → HasOutcome f outcome → IsOutcome outcome result) (D.shown disk.old) (D.shown disk.new) }
+    ensures count { D.faults disk.old ≤ D.faults disk.new }
+    ensures cause { OnFault result (Rises (D.faults disk.old) (D.faults disk.new)) }
+{
+    match update(alloc, salt, disk) {
+        Ok(outcome) => Answer::Ended { outcome },
+        Err(Halt::Fault(fault)) => Answer::Fault {
+            file: fault.file,
+            call: fault.call,
+        },
+        Err(Halt::Memory) => Answer::NoMemory,
+    }
+}
+
+/// Whether the command is the update in one call, the only one that is built.
+fn is_whole_update(command: &Command) -> bool
+    ensures { IsTrue result ↔ (command.now ≡ Apply 4294967295) }
+{
+    match command {
+        Command::Apply { steps } => *steps == u32::MAX,
+        _ => false,
+    }
+}
+
+/// The answer of the command that the words ask for. Words that ask for no update make no call on the disk.
+fn answer_of<D: Disk>(alloc: Global, words: &[String], salt: [u32; 2], disk: &mut D) -> Answer
+    ensures answer { IsAnswer (map string_bytes words.now) (D.shown disk.old) (D.shown disk.new) result }
+    ensures only { AsksUpdate (map string_bytes words.now) →
+        Leads (λ f _. (outcome : Outcome) → HasOutcome f outcome → IsOutcome outcome result) (D.shown disk.old) (D.shown disk.new) }
+    ensures idle { (¬ AsksUpdate (map string_bytes words.now)) → disk.new ≡ disk.old }
+    ensures count { D.faults disk.old ≤ D.faults disk.new }
+    ensures cause { OnFault result (Rises (D.faults disk.old) (D.faults disk.new)) }
+{
+    let Some(command) = command_of(words) else {
+        return Answer::Usage;
+    };
+    if !is_whole_update(&command) {
+        return Answer::Ended {
+            outcome: not_yet(Part::Words),
+        };
+    }
+    update_answer(alloc, salt, disk)
+}
+
+/// Runs a command, and writes its line at once.
+///
+/// `words` are the command and its arguments, `salt` goes into the log's header. The status is 0 where the update is
+/// done, 2 where no command has the words, 3 at a constraint fault, 4 at a refusal, 6 where the disk failed, 7 where
+/// memory ran out, and 8 where the output failed. The disk is handed back whatever the status is.
+pub fn run_command<D: Disk, O: Sink>(
+    alloc: Global,
+    words: &[String],
+    salt: [u32; 2],
+    mut disk: D,
+    out: &mut O,
+) -> Ran<D>
+    // Whatever stopped the call, a reader of the files sees the old database, or all of the new one.
+    ensures headline { Leads SeesOldOrNew (D.shown disk) (D.shown result.disk) }
+
+    // An update that ends has put every prepared row into the target, and neither log exists.
+    ensures finished { result.status ≡ 0 → AsksUpdate (map string_bytes words.now) × Leads IsFinished (D.shown disk) (D.shown result.disk) }
+    ensures constraint { result.status ≡ 3 → AsksUpdate (map string_bytes words.now) × Leads KeepsOnFault (D.shown disk) (D.shown result.disk) }
+    ensures refused { result.status ≡ 4 → AsksMore (map string_bytes words.now)
+        ⊎ (AsksUpdate (map string_bytes words.now) × Leads KeepsOnRefusal (D.shown disk) (D.shown result.disk)) }
+
+    // The outcome of the files is the answer, exactly, unless a device failed or memory ran out.
+    ensures complete { AsksUpdate (map string_bytes words.now) → Leads (λ f _. HasStatusOf result.status f) (D.shown disk) (D.shown result.disk) }
+    ensures not_built { AsksMore (map string_bytes words.now) → (result.status ≡ 4) ⊎ (result.status ≡ 8) }
+    ensures usage { result.status ≡ 2 → IsUsage (map string_bytes words.now) }
+    ensures usage_only { IsUsage (map string_bytes words.now) → (result.status ≡ 2) ⊎ (result.status ≡ 8) }
+    ensures idle { (¬ AsksUpdate (map string_bytes words.now)) → result.disk ≡ disk }
+
+    // The output has the one line of the answer, or a prefix of it where the output failed.
+    ensures told { Tells (map string_bytes words.now) (D.shown disk) (D.shown result.disk) result.status (O.written out.old) (O.written out.new) }
+
+    // A fault has its cause.
+    ensures disk_fault { result.status ≡ 6 → Rises (D.faults disk) (D.faults result.disk) }
+    ensures output_fault { result.status ≡ 8 → Rises (O.faults out.old) (O.faults out.new) }
+    ensures counts { (D.faults disk ≤ D.faults result.disk) × (O.faults out.old ≤ O.faults out.new) }
+{
+    let answer = answer_of(alloc, words, salt, &mut disk);
+    let (answer, line) = tellable(alloc, answer);
+    let status = write_line(&answer, &line, out);
+    Ran { disk, status }
+}

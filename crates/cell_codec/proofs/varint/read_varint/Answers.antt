@@ -1,0 +1,77 @@
+use Rattle.std.proofs.Common.{◌≡◌, ◌+◌, ◌*◌, ◌<◌, ◌≤◌, length, take, arith, subst, rules}
+use Rattle.format_spec.specs.Varint.{IsVarint}
+use Rattle.cell_codec.proofs.Reading.{IsHighFront, high_below, one_more, spelled, only_found, never_none, only_none, always_none}
+use Rattle.cell_codec.specs.VarintLaws.{last_weight_short}
+use Rattle.cell_codec.proofs.varint.read_varint.Goals as goal
+
+pub overflow_mul-result : goal.overflow_mul-result
+overflow_mul-result c = omega (arith, high_below c.args.bytes.now c.loop-i.i c.loop-i.high c.loop-i.invariant (omega arith))
+
+pub overflow_add-result : goal.overflow_add-result
+overflow_add-result c = omega (arith, high_below c.args.bytes.now c.loop-i.i c.loop-i.high c.loop-i.invariant (omega arith))
+
+pub overflow_mul-high : goal.overflow_mul-high
+overflow_mul-high c = omega (arith, high_below c.args.bytes.now c.loop-i.i c.loop-i.high c.loop-i.invariant (omega arith))
+
+pub overflow_add-high : goal.overflow_add-high
+overflow_add-high c = omega (arith, high_below c.args.bytes.now c.loop-i.i c.loop-i.high c.loop-i.invariant (omega arith))
+
+pub overflow_mul-result-2 : goal.overflow_mul-result-2
+overflow_mul-result-2 c = omega (arith, high_below c.args.bytes.now c.loop-i.i c.loop-i.high c.loop-i.invariant (omega arith))
+
+pub overflow_add-result-2 : goal.overflow_add-result-2
+overflow_add-result-2 c = omega (arith, high_below c.args.bytes.now c.loop-i.i c.loop-i.high c.loop-i.invariant (omega arith))
+
+pub loop-i-preserved : goal.loop-i-preserved
+loop-i-preserved c =
+    let byte = c.in_ok-byte.field-0.now in
+    rw c.from-in-loop-i.ensures
+    (one_more c.args.bytes.now c.loop-i.i c.loop-i.high byte c.loop-i.invariant c.in_ok-byte.ensures.lookup.3.0 (c.in_ok-byte.ensures.lookup.3.1 0) (omega arith) (omega arith))
+
+pub returns-then-byte-lt128 : goal.returns-then-byte-lt128
+returns-then-byte-lt128 c =
+    let bytes = c.args.bytes.now in
+    let i = c.loop-i.i in
+    let within : i < length bytes = c.in_ok-byte.ensures.lookup.3.0 in
+    let weight = last_weight_short i (omega arith) in
+    let found : IsVarint (take (i + 1) bytes) (c.loop-i.high * 128 + c.from.result) =
+    rw (← weight, c.from.ensures) (spelled bytes i c.loop-i.high c.in_ok-byte.field-0.now c.loop-i.invariant (omega arith) within (c.in_ok-byte.ensures.lookup.3.1 0) (omega (arith, weight))) in
+    record {
+      found = (omega arith, found);
+      only = only_found bytes _ (i + 1) (omega arith) found;
+      none = never_none bytes _ (i + 1) found;
+    }
+
+pub returns : goal.returns
+returns c =
+    let bytes = c.args.bytes.now in
+    let eight : c.loop-i.i ≡ 8 = omega arith in
+    let within : 8 < length bytes = c.in_ok-last.ensures.lookup.3.0 in
+    let invariant = subst (λ i. IsHighFront bytes i c.loop-i.high) eight c.loop-i.invariant in
+    let found : IsVarint (take 9 bytes) (c.loop-i.high * 256 + c.from-2.result) =
+    rw c.from-2.ensures (spelled bytes 8 c.loop-i.high c.in_ok-last.field-0.now invariant (omega arith) within (c.in_ok-last.ensures.lookup.3.1 0) (omega arith)) in
+    record {
+      found = (omega arith, found);
+      only = only_found bytes _ 9 (omega arith) found;
+      none = never_none bytes _ 9 found;
+    }
+
+pub returns-in_err-byte : goal.returns-in_err-byte
+returns-in_err-byte c =
+    let bytes = c.args.bytes.now in
+    let ends : length bytes ≤ c.loop-i.i = c.in_err-byte.ensures.lookup.3 in
+    record {
+      found = search rules;
+      only = only_none bytes c.loop-i.i c.loop-i.high c.loop-i.invariant ends (omega arith) c.from_residual.result;
+      none = always_none bytes c.loop-i.i c.loop-i.high c.loop-i.invariant ends (omega arith) c.from_residual.result c.from_residual.ensures;
+    }
+
+pub returns-in_err-last : goal.returns-in_err-last
+returns-in_err-last c =
+    let bytes = c.args.bytes.now in
+    let ends : length bytes ≤ c.loop-i.i = omega (arith, c.in_err-last.ensures.lookup.3) in
+    record {
+      found = search rules;
+      only = only_none bytes c.loop-i.i c.loop-i.high c.loop-i.invariant ends (omega arith) c.from_residual-in_err-last.result;
+      none = always_none bytes c.loop-i.i c.loop-i.high c.loop-i.invariant ends (omega arith) c.from_residual-in_err-last.result c.from_residual-in_err-last.ensures;
+    }

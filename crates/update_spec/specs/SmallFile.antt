@@ -1,5 +1,6 @@
 -- The databases that can be updated today: one table of one page.
-use Rattle.std.specs.Prelude.{◌≡◌, ℕ, ℤ, pos, ◌<◌, ◌<ℤ◌, List, [], ◌∷◌, length, map, slice_index_or, codes}
+use Rattle.std.specs.Prelude.{◌≡◌, ℕ, ℤ, pos, ◌<◌, ◌<ℤ◌, List, [], ◌∷◌, length, map, slice_index_or, codes, FitsSigned}
+use Rattle.std.specs.Int.{w64}
 use Rattle.rbu_value.specs.declared.value.Value.{Value}
 use Rattle.rbu_value.specs.declared.value.Value.TheVariants.{Null, Int, Text, Blob}
 use Rattle.file_spec.specs.Files.{part_of}
@@ -67,9 +68,10 @@ IsNullOrText (Blob bytes) = ⊥
 abbrev pub IsTargetRow : TargetRow → Type 0
 IsTargetRow row = (value : Value) × IsNullOrText value × IsRowCell row.cell row.rowid (Null ∷ value ∷ [])
 
--- a row of the `data_` table: the key, the value and the control 0, which inserts
+-- a row of the `data_` table: the key, which is of 64 bits, the value and the control 0, which inserts
 abbrev pub IsPreparedRow : List ℕ → PreparedRow → Type 0
-IsPreparedRow cell row = IsNullOrText row.value × IsRowCell cell row.data_rowid (Int row.key ∷ row.value ∷ Int (pos 0) ∷ [])
+IsPreparedRow cell row =
+    IsNullOrText row.value × IsRowCell cell row.data_rowid (Int row.key ∷ row.value ∷ Int (pos 0) ∷ []) × FitsSigned w64 row.key
 
 -- The bytes are a target with these rows.
 pub record IsSmallTarget (bytes : List ℕ) (rows : List TargetRow) : Type 0 where

@@ -1,2 +1,5 @@
 pub mod Integers
+pub mod Marks
+pub mod PageCells
+pub mod Pages
 pub mod RecordParts

@@ -62,12 +62,12 @@ pub apart_from_free : (a m b n : ℕ) → 0 < m → 0 < n → ((k : ℕ) → a �
 apart_from_free a m b n p q h =
     elim (cases_lt b (a + m)) [
       | inl low ↦ elim (cases_lt a (b + n)) [
-            | inl other ↦ elim (cases_lt a b) [
-                  | inl before ↦ absurd (h b (omega arith) low (omega arith) (omega arith))
-                  | inr after ↦ absurd (h a (omega arith) (omega arith) after other)
-                ]
-            | inr high ↦ inr high
-          ]
+        | inl other ↦ elim (cases_lt a b) [
+          | inl before ↦ absurd (h b (omega arith) low (omega arith) (omega arith))
+          | inr after ↦ absurd (h a (omega arith) (omega arith) after other)
+        ]
+        | inr high ↦ inr high
+      ]
       | inr high ↦ inl high
     ]
 

@@ -44,12 +44,16 @@ module _ (cells : List PlacedCell) (cell : PlacedCell) (marks : List Bool) (mark
   one_more_marked now long set kept = record {
     long = long;
     set = λ k b d h l g.
-    push_all (λ _ c. c.place ≤ b → b < c.place + room_of c → get_or now b false ≡ true) cells cell
-    (λ j e i p q. elim (in_or_out cell.place (room_of cell) b) [ inl in' ↦ set b in'.0 in'.1 | inr out ↦ kept b out ∙ marked.set j b e i p q ])
-    (set b) k d h l g;
+        push_all (λ _ c. c.place ≤ b → b < c.place + room_of c → get_or now b false ≡ true) cells cell
+        (λ j e i p q. elim (in_or_out cell.place (room_of cell) b) [ inl in' ↦ set b in'.0 in'.1 | inr out ↦ kept b out ∙ marked.set j b e i p q ])
+        (set b) k d h l g;
     only = λ b e. elim (in_or_out cell.place (room_of cell) b) [
-      | inl in' ↦ (length cells, omega (arith, length_push cells cell), λ d.
-        subst (λ c. (c.place ≤ b) × (b < c.place + room_of c)) (sym (get_or_push cells cell d (length cells) refl)) in')
+      | inl in' ↦ (
+        length cells,
+        omega (arith, length_push cells cell),
+        λ d.
+            subst (λ c. (c.place ≤ b) × (b < c.place + room_of c)) (sym (get_or_push cells cell d (length cells) refl)) in',
+      )
       | inr out ↦
           let w = marked.only b (sym (kept b out) ∙ e) in
           (w.0, omega (arith, length_push cells cell, w.1), λ d. subst (λ c. (c.place ≤ b) × (b < c.place + room_of c)) (sym (get_or_append_left cells (cell ∷ []) d w.0 w.1)) (w.2 d))
@@ -61,12 +65,12 @@ module _ (cells : List PlacedCell) (cell : PlacedCell) (marks : List Bool) (mark
   one_more_first page number count first placed free = record {
     each = push_all (IsPlacedAt page number count) cells cell first.each placed;
     apart = λ j k d l h. push_all (λ n c. j < n → AreApart (get_or (cells ++ cell ∷ []) j d).place (room_of (get_or (cells ++ cell ∷ []) j d)) c.place (room_of c)) cells cell
-    (λ n e i m. subst (λ a. AreApart a.place (room_of a) (get_or cells n e).place (room_of (get_or cells n e))) (sym (get_or_append_left cells (cell ∷ []) d j (omega arith)))
-    (subst (λ c. AreApart (get_or cells j d).place (room_of (get_or cells j d)) c.place (room_of c)) (get_or_default cells n d e i) (first.apart j n d m i)))
-    (λ m. subst (λ a. AreApart a.place (room_of a) cell.place (room_of cell)) (sym (get_or_append_left cells (cell ∷ []) d j m))
-    (apart_from_free (get_or cells j d).place (room_of (get_or cells j d)) cell.place (room_of cell) (omega arith) (omega arith)
-    (λ b p q r s. both_ways (get_or marks b false) (free b r s) (marked.set j b d m p q))))
-    k d h l;
+        (λ n e i m. subst (λ a. AreApart a.place (room_of a) (get_or cells n e).place (room_of (get_or cells n e))) (sym (get_or_append_left cells (cell ∷ []) d j (omega arith)))
+        (subst (λ c. AreApart (get_or cells j d).place (room_of (get_or cells j d)) c.place (room_of c)) (get_or_default cells n d e i) (first.apart j n d m i)))
+        (λ m. subst (λ a. AreApart a.place (room_of a) cell.place (room_of cell)) (sym (get_or_append_left cells (cell ∷ []) d j m))
+        (apart_from_free (get_or cells j d).place (room_of (get_or cells j d)) cell.place (room_of cell) (omega arith) (omega arith)
+        (λ b p q r s. both_ways (get_or marks b false) (free b r s) (marked.set j b d m p q))))
+        k d h l;
   }
 
 -- the room of a cell that a page has at an index
@@ -95,7 +99,7 @@ overlaps page number count cells cell marks long marked first placed less w othe
     (is_page.apart k n j.1 (omega arith))
 
 -- some value, where an element that is there needs a default
-no_cell : PlacedCell
+abbrev pub no_cell : PlacedCell
 no_cell = record { place = 0; view = record { size = 0; rowid = pos 0; child = 0; payload = 0; local_at = 0; local = 0; overflow = 0 } }
 
 apart_same : (a m b n c p e q : ℕ) → a ≡ c → m ≡ p → b ≡ e → n ≡ q → AreApart a m b n → AreApart c p e q
@@ -117,26 +121,26 @@ holds_cells page number count cells long kind counts h =
         kind_is = kind;
         count = counts ∙ sym many;
         each = λ k l.
-        let below : k < length cells = subst (λ n. k < n) lengths l in
-        subst (λ c. IsCellAt page number 4096 TableLeaf c k (get_or all k [])) (sym many)
-        (subst (IsCellAt page number 4096 TableLeaf count k) (sym (at k below)) (is_cell_at page number count k (get_or cells k no_cell) (h.first.each k no_cell below)));
+            let below : k < length cells = subst (λ n. k < n) lengths l in
+            subst (λ c. IsCellAt page number 4096 TableLeaf c k (get_or all k [])) (sym many)
+            (subst (IsCellAt page number 4096 TableLeaf count k) (sym (at k below)) (is_cell_at page number count k (get_or cells k no_cell) (h.first.each k no_cell below)));
         apart = λ j k l g.
-        let below : k < length cells = subst (λ n. k < n) lengths g in
-        let first : j < length cells = omega (arith, l, below) in
-        apart_same (get_or cells j no_cell).place (room_of (get_or cells j no_cell)) (get_or cells k no_cell).place (room_of (get_or cells k no_cell))
-        (cell_place page number TableLeaf j) (cell_room (get_or all j [])) (cell_place page number TableLeaf k) (cell_room (get_or all k []))
-        (h.first.each j no_cell first).place_is (room j first) (h.first.each k no_cell below).place_is (room k below) (h.first.apart j k no_cell l below);
+            let below : k < length cells = subst (λ n. k < n) lengths g in
+            let first : j < length cells = omega (arith, l, below) in
+            apart_same (get_or cells j no_cell).place (room_of (get_or cells j no_cell)) (get_or cells k no_cell).place (room_of (get_or cells k no_cell))
+            (cell_place page number TableLeaf j) (cell_room (get_or all j [])) (cell_place page number TableLeaf k) (cell_room (get_or all k []))
+            (h.first.each j no_cell first).place_is (room j first) (h.first.each k no_cell below).place_is (room k below) (h.first.apart j k no_cell l below);
         right_child = refl;
       };
       only = λ others right is_page.
-      let same : length others ≡ count = sym is_page.count ∙ counts in
-      same_lists others all (same ∙ sym many) (λ k d l.
-      let below : k < length cells = subst (λ n. k < n) (same ∙ sym h.many) l in
-      let there : IsCellAt page number 4096 TableLeaf count k (get_or others k []) = subst (λ c. IsCellAt page number 4096 TableLeaf c k (get_or others k [])) same (is_page.each k l) in
-      get_or_default others k d [] l
-      ∙ same_cell_at page number count k (get_or cells k no_cell) (get_or others k []) long (h.first.each k no_cell below) there
-      ∙ sym (at k below)
-      ∙ get_or_default all k [] d (subst (λ n. k < n) (sym lengths) below));
+          let same : length others ≡ count = sym is_page.count ∙ counts in
+          same_lists others all (same ∙ sym many) (λ k d l.
+          let below : k < length cells = subst (λ n. k < n) (same ∙ sym h.many) l in
+          let there : IsCellAt page number 4096 TableLeaf count k (get_or others k []) = subst (λ c. IsCellAt page number 4096 TableLeaf c k (get_or others k [])) same (is_page.each k l) in
+          get_or_default others k d [] l
+          ∙ same_cell_at page number count k (get_or cells k no_cell) (get_or others k []) long (h.first.each k no_cell below) there
+          ∙ sym (at k below)
+          ∙ get_or_default all k [] d (subst (λ n. k < n) (sym lengths) below));
       placed = λ k d l. (h.first.each k d l).placed;
     }
 

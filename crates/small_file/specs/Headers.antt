@@ -1,10 +1,9 @@
--- The database header of a small file, in two halves.
+-- The database header of a small file behind its first bytes, in two halves.
 use Rattle.std.specs.Prelude.{◌≡◌, ℕ, List}
-use Rattle.format_spec.specs.Header.{HasMagic, page_size, write_version, read_version, reserved, max_fraction, min_fraction, leaf_fraction, change_counter, pages, freelist_trunk, freelist_pages, schema_format, largest_root, text_encoding, version_valid_for}
+use Rattle.format_spec.specs.Header.{page_size, write_version, read_version, reserved, max_fraction, min_fraction, leaf_fraction, pages, freelist_trunk, freelist_pages, schema_format, largest_root, text_encoding}
 
 -- the fields of one and two bytes
 pub record HasLayout (bytes : List ℕ) : Type 0 where
-  pub magic : HasMagic bytes
   pub page_size_is : page_size bytes ≡ 4096
   pub write_version_is : write_version bytes ≡ 1
   pub read_version_is : read_version bytes ≡ 1
@@ -21,4 +20,3 @@ pub record HasState (bytes : List ℕ) : Type 0 where
   pub schema_format_is : schema_format bytes ≡ 4
   pub largest_root_is : largest_root bytes ≡ 0
   pub text_encoding_is : text_encoding bytes ≡ 1
-  pub valid : version_valid_for bytes ≡ change_counter bytes

@@ -1,3 +1,4 @@
+pub mod Files
 pub mod Headers
 pub mod Records
 pub mod Pages

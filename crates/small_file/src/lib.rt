@@ -3,6 +3,7 @@
 //! The layer above reads a target by `read_target` and an RBU database by `read_rbu`. Which bytes are such a database, and with which rows, is said by `SmallFile` in the `specs/` of `update_spec`.
 #![tactic(auto)]
 
+mod file;
 mod header;
 mod number;
 mod page;

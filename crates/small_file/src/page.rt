@@ -4,11 +4,9 @@ ghost use Rattle.format_spec.specs.declared.PageKind.TheVariants.{TableLeaf};
 ghost use Rattle.format_spec.specs.Page.{IsPage, IsCellAt, header_place, array_place};
 ghost use Rattle.small_file.specs.Pages.{IsPlacedAt, ArePlaced, HoldsCells};
 
-use std::alloc::{AllocError, Global};
-
-use cell_codec::{CellView, PageKind, read_cell};
-
 use crate::number::u16_at;
+use cell_codec::{CellView, PageKind, read_cell};
+use std::alloc::{AllocError, Global};
 
 /// The bytes of a page.
 pub const PAGE_SIZE: usize = 4096;

@@ -27,9 +27,9 @@ loop-index-preserved c =
     record {
       many = ap length items ∙ length_push cells cell ∙ ap (λ n. n + 1) i.many;
       first = subst (AreFirst c.args.page.now c.args.number c.args.count) (sym items)
-      (one_more_first cells cell c.loop-index.marks i.marked c.args.page.now c.args.number c.args.count i.first placed (λ b p q. c.mark.ensures.free c.if-not-mark.false b p (omega (arith, q, c.room.ensures))));
+          (one_more_first cells cell c.loop-index.marks i.marked c.args.page.now c.args.number c.args.count i.first placed (λ b p q. c.mark.ensures.free c.if-not-mark.false b p (omega (arith, q, c.room.ensures))));
       marked = subst (λ s. AreMarked s c.mark.new.marks) (sym items)
-      (one_more_marked cells cell c.loop-index.marks i.marked c.mark.new.marks (omega (arith, c.mark.auto.marks, i.marked.long))
-      (λ b p q. c.mark.ensures.set c.if-not-mark.false b p (omega (arith, q, c.room.ensures)))
-      (λ b p. c.mark.ensures.kept c.if-not-mark.false b (outside cell.place _ _ b c.room.ensures p)));
+          (one_more_marked cells cell c.loop-index.marks i.marked c.mark.new.marks (omega (arith, c.mark.auto.marks, i.marked.long))
+          (λ b p q. c.mark.ensures.set c.if-not-mark.false b p (omega (arith, q, c.room.ensures)))
+          (λ b p. c.mark.ensures.kept c.if-not-mark.false b (outside cell.place _ _ b c.room.ensures p)));
     }

@@ -17,16 +17,17 @@ returns-then-eq-clause-found c =
     let same : take c.in-Some.size c.write_int.new.buf ≡ c.split_at.result.0.now = (slice_eq-Decides Decides-eqb _ _ _ c.eq.ensures).0 c.if-eq.true in (
       sym c.if-int_serial_type-serial_type.true ∙ c.int_serial_type.ensures,
       int_found c.args.bytes.now c.split_at.result.0.now c.split_at.result.1.now c.write_int.new.buf (0 ∷ 0 ∷ 0 ∷ 0 ∷ 0 ∷ 0 ∷ 0 ∷ 0 ∷ []) c.args.serial_type c.in-Some.size
-      (cast_signed w64 (cast_unsigned w64 c.read_int-z.result))
-      c.in-Some.ensures.1 c.in-Some.ensures.2 c.split_at.ensures.front c.split_at.ensures.back c.write_int.ensures same,
+          (cast_signed w64 (cast_unsigned w64 c.read_int-z.result))
+          c.in-Some.ensures.1 c.in-Some.ensures.2 c.split_at.ensures.front c.split_at.ensures.back c.write_int.ensures same,
     )
 
 pub returns-then-eq-clause-only : goal.returns-then-eq-clause-only
 returns-then-eq-clause-only c = λ z rest f e b.
     let found = int_at_front c.args.bytes.now c.args.serial_type c.in-Some.size z rest f e c.in-Some.ensures.1 c.in-Some.ensures.2 b in
-    let fits : FitsSigned w64 c.read_int-z.result = search rules in
-    (to_z-of_z w64 c.read_int-z.result fits ∙ c.read_int-z.ensures ∙ ap (λ s. twos_complement c.in-Some.size (big_number c.in-Some.size s)) c.split_at.ensures.front ∙ found.0,
-     c.split_at.ensures.back ∙ found.2)
+    let fits : FitsSigned w64 c.read_int-z.result = search rules in (
+      to_z-of_z w64 c.read_int-z.result fits ∙ c.read_int-z.ensures ∙ ap (λ s. twos_complement c.in-Some.size (big_number c.in-Some.size s)) c.split_at.ensures.front ∙ found.0,
+      c.split_at.ensures.back ∙ found.2,
+    )
 
 pub returns-else-int_serial_type-serial_type-clause-only : goal.returns-else-int_serial_type-serial_type-clause-only
 returns-else-int_serial_type-serial_type-clause-only c = λ z rest f e b.

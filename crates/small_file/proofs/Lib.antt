@@ -1,3 +1,5 @@
+pub mod CellLists
+pub mod Found
 pub mod HeaderParts
 pub mod Integers
 pub mod Marks

@@ -2,3 +2,4 @@ pub mod Files
 pub mod Headers
 pub mod Records
 pub mod Pages
+pub mod CellRows

@@ -7,4 +7,9 @@ mod file;
 mod header;
 mod number;
 mod page;
+mod rbu;
 mod record;
+mod target;
+
+pub use rbu::read_rbu;
+pub use target::read_target;

@@ -1,7 +1,7 @@
 -- The rows that the cells of a small file's second page are.
-use Rattle.std.proofs.Common.{◌≡◌, ℕ, zero, suc, ◌+◌, ◌-◌, ◌<◌, ◌≤◌, ℤ, pos, ◌<ℤ◌, ◌≤ℤ◌, List, [], ◌∷◌, ◌++◌, length, map, get_or, take, drop, refl, sym, ◌∙◌, ap, subst, true, false, FitsSigned, arith}
+use Rattle.std.proofs.Common.{◌≡◌, ℕ, zero, suc, ◌+◌, ◌-◌, ◌<◌, ℤ, pos, ◌<ℤ◌, List, [], ◌∷◌, ◌++◌, length, map, get_or, take, drop, refl, sym, ◌∙◌, ap, subst, true, false, FitsSigned, arith}
 use Rattle.std.proofs.lemmas.Int.{ints, to_z-of_z}
-use Rattle.std.proofs.lemmas.List.{length-map, get_or-map, get_or_default, same_lists, length-drop, length-take-le, length_push, take_more, get_or_append_left, get_or_push}
+use Rattle.std.proofs.lemmas.List.{length-map, get_or-map, same_lists, length-drop, length-take-le, length_push, take_more, get_or_append_left, get_or_push}
 use Rattle.std.specs.Int.{w64, cast_signed, cast_unsigned}
 use Rattle.std.specs.Prelude.{int_le}
 use Rattle.std.specs.List.{All}
@@ -12,7 +12,7 @@ use Rattle.update_spec.specs.declared.PreparedRow.{PreparedRow}
 use Rattle.update_spec.specs.SmallFile.{IsRising, IsNullOrText, IsRowCell, IsTargetRow, IsPreparedRow, IsSmall, IsSmallTarget, IsSmallRbu}
 use Rattle.small_file.specs.declared.file.Database.TheVariants.{Target, Rbu}
 use Rattle.small_file.specs.declared.page.PlacedCell.{PlacedCell}
-use Rattle.small_file.specs.Pages.{cell_of, IsPlaced, HoldsCells}
+use Rattle.small_file.specs.Pages.{cell_of, IsPlaced}
 use Rattle.small_file.specs.Files.{table_name, table_text, payload_of, HoldsTable}
 use Rattle.small_file.specs.Records.{prepared_record}
 use Rattle.small_file.specs.CellRows.{rowids, target_row, IsTargetCell, IsPreparedCell, ArePreparedCells}
@@ -87,8 +87,8 @@ module _ (bytes : List ℕ) (cells : List PlacedCell) (h : HoldsTable bytes Targ
       record {
         file = subst (λ s. IsSmall (table_name Target) (table_text Target) bytes s) (sym own) h.small;
         each = λ k d l.
-        let below : k < length cells = subst (λ n. k < n) (ap length e ∙ length-map cells (target_row page)) l in
-        subst IsTargetRow (sym (ap (λ s. get_or s k d) e ∙ get_or-map (target_row page) cells k no_cell d below)) (each k no_cell below);
+            let below : k < length cells = subst (λ n. k < n) (ap length e ∙ length-map cells (target_row page)) l in
+            subst IsTargetRow (sym (ap (λ s. get_or s k d) e ∙ get_or-map (target_row page) cells k no_cell d below)) (each k no_cell below);
         rising = subst IsRising (sym ids) rising;
       }
 
@@ -173,10 +173,10 @@ one_more_prepared page cells rows i row h f p =
     record {
       many = length_push rows row ∙ ap (λ n. n + 1) f.many ∙ sym (ap length next ∙ length_push (take i cells) (get_or cells i no_cell));
       each = λ k c d l. subst (λ s. IsPreparedCell page (get_or s k c) (get_or (rows ++ row ∷ []) k d)) (sym next)
-      (push_all (λ j r. IsPreparedCell page (get_or (take i cells ++ get_or cells i no_cell ∷ []) j c) r) rows row
-      (λ j e m. subst (λ x. IsPreparedCell page x (get_or rows j e)) (sym (get_or_append_left (take i cells) (get_or cells i no_cell ∷ []) c j (omega (arith, m, f.many)))) (f.each j c e m))
-      (subst (λ x. IsPreparedCell page x row) (sym (get_or_push (take i cells) (get_or cells i no_cell) c (length rows) (sym f.many))) p)
-      k d l);
+          (push_all (λ j r. IsPreparedCell page (get_or (take i cells ++ get_or cells i no_cell ∷ []) j c) r) rows row
+          (λ j e m. subst (λ x. IsPreparedCell page x (get_or rows j e)) (sym (get_or_append_left (take i cells) (get_or cells i no_cell ∷ []) c j (omega (arith, m, f.many)))) (f.each j c e m))
+          (subst (λ x. IsPreparedCell page x row) (sym (get_or_push (take i cells) (get_or cells i no_cell) c (length rows) (sym f.many))) p)
+          k d l);
     }
 
 -- the prepared row that a cell's record holds
@@ -187,9 +187,9 @@ pub prepared_cell : (page payload : List ℕ) (cell : PlacedCell) (key : ℤ) (v
 prepared_cell page payload cell key v long placed whole e p f is only = record {
   is_row = (p, row_from page cell _ placed whole (sym e ∙ is), f);
   only = λ other w.
-  let parts = row_parts page cell other.data_rowid _ long placed w.1 in
-  let same = only other.key other.value w.2 w.0 (e ∙ parts.record_is) in
-  prepared_same other cell.view.rowid key v parts.rowid_is same.0 same.1;
+      let parts = row_parts page cell other.data_rowid _ long placed w.1 in
+      let same = only other.key other.value w.2 w.0 (e ∙ parts.record_is) in
+      prepared_same other cell.view.rowid key v parts.rowid_is same.0 same.1;
 }
 
 pub prepared_fields : (page : List ℕ) (cell : PlacedCell) (a b x y : ℤ) (v w : Value) → x ≡ a → y ≡ b → w ≡ v

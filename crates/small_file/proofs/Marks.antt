@@ -1,11 +1,11 @@
 -- The marks of the bytes that the cells of a page take.
-use Rattle.std.proofs.Common.{◌≡◌, ℕ, ◌+◌, ◌-◌, ◌<◌, ◌≤◌, ◌⊎◌, true, false, Bool, List, [], ◌∷◌, ◌++◌, length, take, drop, get_or, replicate, refl, sym, ◌∙◌, ap, subst, inl, inr, length-append, length-take, length-drop, max, arith}
-use Rattle.std.proofs.lemmas.Bool.{both_ways, cases_lt}
-use Rattle.std.proofs.lemmas.List.{get_or-take, get_or-drop, get_or-append_right, get_or_append_left, get_or-replicate, length-take-le, length-replicate, take_at, get_or_push, length_push}
+use Rattle.std.proofs.Common.{◌≡◌, ℕ, ◌+◌, ◌-◌, ◌<◌, ◌≤◌, true, false, Bool, List, ◌++◌, length, take, drop, get_or, replicate, refl, sym, ◌∙◌, ap, inl, inr, length-take, length-drop, arith}
+use Rattle.std.proofs.lemmas.Bool.{cases_lt}
+use Rattle.std.proofs.lemmas.List.{get_or-take, get_or-drop, get_or-append_right, get_or_append_left, get_or-replicate, length-take-le, length-replicate}
 use Rattle.std.specs.List.{AllWithin}
 use Rattle.format_spec.specs.Page.{AreApart}
 use Rattle.small_file.specs.declared.page.PlacedCell.{PlacedCell}
-use Rattle.small_file.specs.Pages.{room_of, IsPlacedAt, AreFirst}
+use Rattle.small_file.specs.Pages.{room_of}
 use mathlib.Core.Bool.{beq}
 
 same_true : (y : Bool) → beq y true ≡ true → y ≡ true

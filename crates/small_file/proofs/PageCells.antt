@@ -1,12 +1,11 @@
 -- The cells of a page together.
-use Rattle.std.proofs.Common.{◌≡◌, ℕ, ◌+◌, ◌-◌, ◌*◌, ◌<◌, ◌≤◌, ◌⊎◌, max, true, false, Bool, List, [], ◌∷◌, ◌++◌, length, map, get_or, take, drop, refl, sym, ◌∙◌, ap, subst, inl, inr, pos, arith}
-use Rattle.std.proofs.lemmas.Bool.{both_ways, cases_lt, cases_eq}
+use Rattle.std.proofs.Common.{◌≡◌, ℕ, ◌+◌, ◌*◌, ◌<◌, ◌≤◌, ◌⊎◌, max, true, false, Bool, List, [], ◌∷◌, ◌++◌, length, map, get_or, refl, sym, ◌∙◌, ap, subst, inl, inr, pos, arith}
+use Rattle.std.proofs.lemmas.Bool.{both_ways, cases_lt}
 use Rattle.std.proofs.lemmas.List.{get_or_append_left, get_or_push, length_push, length-map, get_or-map, same_lists, get_or_default}
-use Rattle.std.specs.List.{All}
 use Rattle.format_spec.specs.declared.PageKind.TheVariants.{TableLeaf}
 use Rattle.format_spec.specs.Page.{IsPage, IsCellAt, AreApart, array_place, cell_place, cell_room, cell_count, header_place}
 use Rattle.small_file.specs.declared.page.PlacedCell.{PlacedCell}
-use Rattle.small_file.specs.Pages.{cell_of, room_of, IsPlaced, IsPlacedAt, AreFirst, ArePlaced, HoldsCells}
+use Rattle.small_file.specs.Pages.{cell_of, room_of, IsPlacedAt, AreFirst, ArePlaced, HoldsCells}
 use Rattle.small_file.proofs.Marks.{AreMarked, apart_from_free, not_apart}
 use Rattle.small_file.proofs.Pages.{cell_length, is_cell_at, same_cell_at}
 

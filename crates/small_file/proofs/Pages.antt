@@ -1,13 +1,12 @@
 -- The cells of a page, one by one.
-use Rattle.std.proofs.Common.{◌≡◌, ℕ, ◌+◌, ◌-◌, ◌*◌, ◌<◌, ◌≤◌, max, List, length, take, drop, refl, sym, ◌∙◌, ap, subst, length-drop, length-take, Ok, Result, arith}
-use Rattle.std.proofs.lemmas.List.{take_rest, length-take-le}
+use Rattle.std.proofs.Common.{◌≡◌, ℕ, ◌+◌, ◌*◌, ◌≤◌, max, List, length, take, drop, sym, ◌∙◌, ap, subst, length-drop, Ok, Result, arith}
 use Rattle.file_spec.specs.Files.{part_of}
 use Rattle.format_spec.specs.declared.PageKind.TheVariants.{TableLeaf}
 use Rattle.format_spec.specs.declared.CellView.{CellView}
 use Rattle.format_spec.specs.Cell.{IsCell}
-use Rattle.format_spec.specs.Page.{IsPage, IsCellAt, AreApart, array_place, cell_place, cell_room}
+use Rattle.format_spec.specs.Page.{IsCellAt, array_place, cell_place, cell_room}
 use Rattle.small_file.specs.declared.page.PlacedCell.{PlacedCell}
-use Rattle.small_file.specs.Pages.{cell_of, room_of, IsPlaced, IsPlacedAt}
+use Rattle.small_file.specs.Pages.{cell_of, IsPlaced, IsPlacedAt}
 
 -- what the bytes from a place on begin with
 pub record BeginsWith (bytes : List ℕ) (view : CellView) : Type 0 where

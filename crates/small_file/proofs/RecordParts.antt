@@ -1,17 +1,13 @@
 -- The canonical records of rows, part by part.
-use Rattle.std.proofs.Common.{◌≡◌, ℕ, ◌+◌, ◌-◌, ◌*◌, ◌/◌, ◌%◌, ◌^◌, ◌<◌, ◌≤◌, ℤ, pos, negsuc, cond, eqb, ltb, leb, List, [], ◌∷◌, ◌++◌, length, take, drop, get_or, refl, sym, ◌∙◌, ap, append_assoc, length-append, Option, Some, None, true, arith}
-use Rattle.std.proofs.lemmas.Bool.{ltb-true, cond-true, cond-false, cond_both, lt-ltb, le-ltb}
-use Rattle.std.proofs.lemmas.Bool.Decides.{nat_tests}
+use Rattle.std.proofs.Common.{◌≡◌, ℕ, ◌+◌, ◌*◌, ◌/◌, ◌%◌, ◌^◌, ◌<◌, ◌≤◌, ℤ, pos, negsuc, ltb, List, [], ◌∷◌, ◌++◌, length, get_or, refl, sym, ◌∙◌, ap, length-append, Option, Some, None, true, arith}
+use Rattle.std.proofs.lemmas.Bool.{ltb-true, cond-true, cond_both, lt-ltb}
 use Rattle.std.proofs.lemmas.List.{append-nil}
-use Rattle.std.proofs.Math.Nat.{mod-eq_of_lt, div-one}
+use Rattle.std.proofs.Math.Nat.{mod-eq_of_lt}
 use Rattle.std.specs.Option.{is_some, IfSome}
-use Rattle.std.specs.List.{flat_map}
-use Rattle.byteorder.specs.Endian.{big_bytes, big_number, twos_complement, low_bytes}
-use Rattle.byteorder.specs.Numbers.{length-bytes_high_first, big_number-reads_back}
 use Rattle.rbu_value.specs.declared.value.Value.{Value}
 use Rattle.rbu_value.specs.declared.value.Value.TheVariants as value
 use Rattle.format_spec.specs.Varint.{varint, varint_front, last_weight, groups}
-use Rattle.format_spec.specs.Record.{magnitude, int_type, int_size, int_serial_type, serial_type, int_body, body, serial_types, header_size_bytes, record_header, canonical_record}
+use Rattle.format_spec.specs.Record.{magnitude, int_type, int_serial_type, serial_type, int_body, body, serial_types, header_size_bytes, record_header, canonical_record}
 use Rattle.cell_codec.specs.VarintLaws.{varint_one_to_nine}
 use Rattle.update_spec.specs.SmallFile.{IsNullOrText}
 use Rattle.small_file.specs.declared.record.NullOrText.{NullOrText}

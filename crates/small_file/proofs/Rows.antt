@@ -1,5 +1,5 @@
 -- The rows that cells are.
-use Rattle.std.proofs.Common.{◌≡◌, ℕ, ◌+◌, ◌-◌, ◌<◌, ◌≤◌, ℤ, max, List, [], ◌∷◌, ◌++◌, length, map, get_or, take, drop, replicate, refl, sym, ◌∙◌, ap, Option, Some, None, subst, length-append, length-drop, length-take, arith}
+use Rattle.std.proofs.Common.{◌≡◌, ℕ, ◌+◌, ◌-◌, ◌≤◌, ℤ, List, [], ◌∷◌, ◌++◌, length, map, get_or, take, drop, replicate, refl, sym, ◌∙◌, ap, Option, Some, None, subst, length-append, length-drop, arith}
 use Rattle.std.proofs.lemmas.List.{length-map, take_all, take-take, drop-take, drop-drop, append-nil}
 use Rattle.std.specs.Option.{IfNone}
 use Rattle.file_spec.specs.Files.{part_of, resized}

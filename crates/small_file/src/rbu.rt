@@ -8,15 +8,13 @@ ghost use Rattle.small_file.specs.Pages.{IsPlaced, cell_of};
 ghost use Rattle.small_file.specs.Records.{value_of};
 ghost use Rattle.small_file.specs.CellRows.{IsPreparedCell, ArePreparedCells};
 
-use std::alloc::{AllocError, Global};
-
-use rbu_value::{Bytes, Value};
-use update_spec::PreparedRow;
-
 use crate::file::{Database, payload, read_table};
 use crate::page::{PAGE_SIZE, PlacedCell};
 use crate::record::{NullOrText, read_prepared};
 use crate::target::is_rising;
+use rbu_value::{Bytes, Value};
+use std::alloc::{AllocError, Global};
+use update_spec::PreparedRow;
 
 // The value, with a copy of its text.
 fn copy_value(alloc: Global, value: NullOrText<'_>) -> Result<Value, AllocError>

@@ -6,14 +6,12 @@ ghost use Rattle.update_spec.specs.SmallFile.{IsSmallTarget, IsRising};
 ghost use Rattle.small_file.specs.Pages.{IsPlaced};
 ghost use Rattle.small_file.specs.CellRows.{rowids, target_row, IsTargetCell};
 
-use std::alloc::{AllocError, Global};
-
-use rbu_value::Bytes;
-use update_spec::TargetRow;
-
 use crate::file::{Database, payload, read_table};
 use crate::page::{PAGE_SIZE, PlacedCell};
 use crate::record::is_target_record;
+use rbu_value::Bytes;
+use std::alloc::{AllocError, Global};
+use update_spec::TargetRow;
 
 fn rowid_at(cells: &[PlacedCell], k: usize) -> i64
     requires { k < length cells.now }

@@ -1,8 +1,8 @@
-use Rattle.std.proofs.Common.{◌≡◌, [], ◌∷◌, length, get_or, sym, ap, ◌∙◌, arith}
+use Rattle.std.proofs.Common.{◌≡◌, [], ◌∷◌, get_or, sym, ◌∙◌, arith}
 use Rattle.std.proofs.lemmas.Option.{MatchOption-at_some, MatchOption-at_none}
 use Rattle.small_file.specs.Pages.{HoldsCells}
 use Rattle.small_file.proofs.PageCells.{no_cell}
-use Rattle.small_file.proofs.Rows.{one_element, schema_from, schema_of, schema_one}
+use Rattle.small_file.proofs.Rows.{one_element, schema_from, schema_of}
 use Rattle.small_file.proofs.file.has_schema.Goals as goal
 
 pub returns-in_default : goal.returns-in_default

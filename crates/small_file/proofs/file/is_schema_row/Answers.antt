@@ -1,4 +1,4 @@
-use Rattle.std.proofs.Common.{◌≡◌, pos, rules, refl, sym, ◌∙◌, ap, subst, FitsSigned, arith}
+use Rattle.std.proofs.Common.{◌≡◌, pos, rules, sym, ◌∙◌, subst, FitsSigned, arith}
 use Rattle.std.proofs.lemmas.Int.{ints}
 use Rattle.std.specs.Int.{w64}
 use Rattle.std.proofs.lemmas.Bool.Decides.{Decides-eqb}

@@ -1,8 +1,6 @@
-use Rattle.std.proofs.Common.{◌≡◌, true, false, refl, sym, ◌∙◌, arith}
-use Rattle.std.specs.Bool.{Decides}
+use Rattle.std.proofs.Common.{sym, ◌∙◌}
 use Rattle.std.proofs.lemmas.Bool.{both_ways}
-use Rattle.format_spec.specs.Header.{HasMagic, version_valid_for, change_counter}
-use Rattle.update_spec.specs.SmallFile.{IsSmallHeader}
+use Rattle.format_spec.specs.Header.{HasMagic}
 use Rattle.small_file.specs.Headers.{HasLayout, HasState}
 use Rattle.small_file.proofs.HeaderParts.{header_from, layout_of, state_of}
 use Rattle.small_file.proofs.header.is_small_header.Goals as goal

@@ -1,4 +1,3 @@
-use Rattle.std.proofs.Common.{refl}
 use Rattle.std.proofs.lemmas.Bool.Decides.{when_true, when_false}
 use Rattle.small_file.proofs.Marks.{part, one_set, none_set, filled}
 use Rattle.small_file.proofs.page.mark.Goals as goal

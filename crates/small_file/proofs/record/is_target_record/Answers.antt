@@ -1,4 +1,4 @@
-use Rattle.std.proofs.Common.{◌≡◌, ◌<◌, ◌≤◌, ◌++◌, [], List, ℕ, true, Option, Some, None, refl, sym, ap, ◌∙◌, length, arith}
+use Rattle.std.proofs.Common.{◌≡◌, ◌≤◌, [], sym, ◌∙◌, length, arith}
 use Rattle.std.proofs.lemmas.Bool.{some_since}
 use Rattle.format_spec.specs.Record.{serial_type, body}
 use Rattle.small_file.specs.Records.{header_of, value_of}

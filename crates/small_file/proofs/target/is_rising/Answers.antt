@@ -1,6 +1,5 @@
-use Rattle.std.proofs.Common.{◌≡◌, ◌+◌, ◌-◌, ◌<◌, pos, ◌<ℤ◌, length, get_or, rules, subst, refl, sym, ap, ◌∙◌, FitsSigned, inl, inr, arith}
+use Rattle.std.proofs.Common.{◌≡◌, ◌+◌, ◌-◌, pos, ◌<ℤ◌, get_or, subst, refl, sym, ap, ◌∙◌, FitsSigned, inl, inr, arith}
 use Rattle.std.proofs.lemmas.Bool.{cases_lt}
-use Rattle.std.proofs.lemmas.Int.{ints}
 use Rattle.std.proofs.lemmas.List.{length-map}
 use Rattle.std.specs.Int.{w64}
 use Rattle.small_file.specs.CellRows.{rowids}
@@ -12,10 +11,12 @@ returns-then-next-last c =
     let ids = rowids c.args.cells.now in
     let i = c.loop-i.i in
     let low : FitsSigned w64 c.rowid_at-last.result = record { sfits = c.rowid_at-last.type_inv } in
-    let high : FitsSigned w64 c.rowid_at-next.result = record { sfits = c.rowid_at-next.type_inv } in
-    (λ t. absurd (cc), λ h. absurd (not_below_from c.rowid_at-last.result c.rowid_at-next.result low high c.if-next-last.true
-    (subst (λ a. a <ℤ c.rowid_at-next.result) (sym c.rowid_at-last.ensures) (subst (λ b. get_or ids (i - 1) (pos 0) <ℤ b) (sym c.rowid_at-next.ensures)
-    (h (i - 1) i (omega (arith, c.loop-i.auto.i)) (omega (arith, c.loop-i-test.true, length-map c.args.cells.now (λ cell. cell.view.rowid))))))))
+    let high : FitsSigned w64 c.rowid_at-next.result = record { sfits = c.rowid_at-next.type_inv } in (
+      λ t. absurd (cc),
+      λ h. absurd (not_below_from c.rowid_at-last.result c.rowid_at-next.result low high c.if-next-last.true
+          (subst (λ a. a <ℤ c.rowid_at-next.result) (sym c.rowid_at-last.ensures) (subst (λ b. get_or ids (i - 1) (pos 0) <ℤ b) (sym c.rowid_at-next.ensures)
+          (h (i - 1) i (omega (arith, c.loop-i.auto.i)) (omega (arith, c.loop-i-test.true, length-map c.args.cells.now (λ cell. cell.view.rowid))))))),
+    )
 
 pub loop-i-preserved : goal.loop-i-preserved
 loop-i-preserved c = λ k l.

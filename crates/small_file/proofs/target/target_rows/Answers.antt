@@ -1,4 +1,4 @@
-use Rattle.std.proofs.Common.{◌≡◌, ◌+◌, ◌++◌, [], ◌∷◌, take, map, get_or, sym, ap, ◌∙◌, subst, arith}
+use Rattle.std.proofs.Common.{◌++◌, [], ◌∷◌, take, map, sym, ap, ◌∙◌, subst}
 use Rattle.std.proofs.lemmas.List.{map_more, take_all}
 use Rattle.std.proofs.lemmas.List.Elements.{All-more}
 use Rattle.std.specs.List.{All}
@@ -14,9 +14,9 @@ loop-cell-preserved c =
     let here = c.loop-cell-test.true in
     record {
       rows = c.in_ok-push.ensures.items
-      ∙ ap (λ s. s ++ c.in_ok-copy_row.field-0 ∷ []) c.loop-cell.invariant.rows
-      ∙ ap (λ r. map (target_row page) (take i cells) ++ r ∷ []) c.in_ok-copy_row.ensures
-      ∙ sym (map_more (target_row page) cells i no_cell here);
+          ∙ ap (λ s. s ++ c.in_ok-copy_row.field-0 ∷ []) c.loop-cell.invariant.rows
+          ∙ ap (λ r. map (target_row page) (take i cells) ++ r ∷ []) c.in_ok-copy_row.ensures
+          ∙ sym (map_more (target_row page) cells i no_cell here);
       each = All-more (IsTargetCell page) cells i no_cell here c.loop-cell.invariant.each (c.is_target_cell.ensures.0 c.if-not-is_target_cell.false);
     }
 

@@ -13,3 +13,6 @@ mod target;
 
 pub use rbu::read_rbu;
 pub use target::read_target;
+
+#[cfg(test)]
+mod tests;

@@ -53,7 +53,8 @@ fn read_placed_cell(page: &[u8], number: u32, count: usize, index: usize) -> Opt
         return None;
     };
     let cell = PlacedCell { place, view };
-    if place + room(&cell) > PAGE_SIZE {
+    let end = place + room(&cell);
+    if end > PAGE_SIZE {
         return None;
     }
     Some(cell)

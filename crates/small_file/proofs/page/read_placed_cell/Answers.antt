@@ -12,7 +12,7 @@ returns-clause-found c =
     let place = c.from-place.result in
     let array : c.header_place-array.result + 8 ≡ array_place c.args.number TableLeaf = ap (λ n. n + 8) c.header_place-array.ensures.value in
     let place-is : place ≡ cell_place page c.args.number TableLeaf c.args.index = c.from-place.ensures ∙ c.u16_at.ensures ∙ ap (λ n. number_at (n + 2 * c.args.index) 2 page) array in
-    placed_at page c.args.number c.args.count c.args.index place c.in-Ok.view place-is (omega (arith, c.if-place-array.false, array)) (omega (arith, c.if-place-room-gt-PAGE_SIZE.false, c.room.ensures))
+    placed_at page c.args.number c.args.count c.args.index place c.in-Ok.view place-is (omega (arith, c.if-place-array.false, array)) (omega (arith, c.if-end-gt-PAGE_SIZE.false, c.room.ensures))
     (take (length page - place) (drop place page)) (take_rest page place) c.in-Ok.ensures.found.1 (λ v h w. same_ok c.read_cell.result c.in-Ok.view v c.in-Ok.is (c.read_cell.ensures.only v h w))
 
 pub returns-in_default-clause-none : goal.returns-in_default-clause-none

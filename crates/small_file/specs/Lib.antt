@@ -1,0 +1,5 @@
+pub mod Files
+pub mod Headers
+pub mod Records
+pub mod Pages
+pub mod CellRows

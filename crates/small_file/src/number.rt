@@ -1,0 +1,21 @@
+// Numbers at a place in bytes, the most significant byte first.
+ghost use Rattle.std.specs.Prelude.{◌≡◌, ◌+◌, ◌≤◌, length};
+ghost use Rattle.format_spec.specs.Numbers.{number_at};
+
+use byteorder::{BigEndian, ByteOrder};
+
+/// The number in the two bytes at a place.
+pub fn u16_at(bytes: &[u8], at: usize) -> u16
+    requires { at + 2 ≤ length bytes.now }
+    ensures { result ≡ number_at at 2 bytes.now }
+{
+    BigEndian::read_u16(&bytes[at..])
+}
+
+/// The number in the four bytes at a place.
+pub fn u32_at(bytes: &[u8], at: usize) -> u32
+    requires { at + 4 ≤ length bytes.now }
+    ensures { result ≡ number_at at 4 bytes.now }
+{
+    BigEndian::read_u32(&bytes[at..])
+}

@@ -137,7 +137,7 @@ IsPacking-none page size h e = record {
 }
 
 -- a cell's place takes two bytes
-length_places : (size : ℕ) (cells : List (List ℕ)) → length (flat_map (big_bytes 2) (places_below size cells)) ≡ 2 * length cells
+pub length_places : (size : ℕ) (cells : List (List ℕ)) → length (flat_map (big_bytes 2) (places_below size cells)) ≡ 2 * length cells
 length_places size [] = refl
 length_places size (cell ∷ cells) = let rest = length_places (size - length cell) cells in omega arith
 

@@ -1,5 +1,6 @@
 pub mod Keys
 pub mod Leaf
 pub mod Whole
+pub mod Page
 pub mod Rows
 pub mod Decisions

@@ -1,4 +1,5 @@
 pub mod Decision
+pub mod PackedLeaf
 pub use Rattle.update_spec.specs.SmallFile
 pub use Rattle.update_spec.specs.Outcome
 pub use Rattle.update_spec.specs.Answer

@@ -15,7 +15,7 @@ mod pages;
 use insert::{has_long_value, with_inserted};
 use merge::{first_present, shares_key, sort_by_key, sort_by_rowid};
 use pages::fits_page;
-pub use pages::write_pages;
+pub use pages::{packed_leaf_is_page, write_pages};
 use std::alloc::{AllocError, Global};
 use update_spec::{PreparedRow, TargetRow};
 

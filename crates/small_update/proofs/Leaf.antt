@@ -38,11 +38,6 @@ pub record IsPacking (page : List ℕ) (size place : ℕ) (cells : List (List �
   pub room : 8 + 2 * length cells ≤ place
   pub whole : page ≡ header ++ (flat_map (big_bytes 2) (places_below size cells) ++ (replicate (place - (8 + 2 * length cells)) 0 ++ stacked cells))
 
--- what `write_cell` leaves
-abbrev pub with_cell : ℕ → ℕ → List ℕ → List ℕ → List ℕ
-with_cell entry place cell page =
-    take entry page ++ (big_bytes 2 place ++ (between (entry + 2) place page ++ (cell ++ drop (place + length cell) page)))
-
 -- a write over the part between a front and a back
 pub put_mid_at : (front old back new : List ℕ) (at k : ℕ) → length front ≡ at → length old ≡ k → put_mid at k (front ++ (old ++ back)) new ≡ front ++ (new ++ back)
 put_mid_at front old back new at k e l =

@@ -105,12 +105,14 @@ fn each_decision_has_its_cause(rt: HostRuntime) -> Result<(), Fail> {
 #[test]
 fn a_page_is_filled_to_its_last_byte(rt: HostRuntime) -> Result<(), Fail> {
     let alloc = rt.alloc();
-    let text = vec![in alloc; b'x'; 4080]?;
-    assert_eq!(rt; text.len(), 4080);
-    let fits = Some(&text[..4079]);
-    let over = Some(&text[..]);
-    assert_eq!(rt; decided(&rt, alloc, &[], &[(1, 1, fits)])?, ("merged", 1));
-    assert_eq!(rt; decided(&rt, alloc, &[], &[(1, 1, over)])?, ("no room", 0));
+    let bytes = vec![in alloc; b'x'; 4000]?;
+    assert_eq!(rt; bytes.len(), 4000);
+    let old: &[(i64, &[u8])] = &[(1, &bytes[..2000])];
+    let fits = Some(&bytes[..2077]);
+    let over = Some(&bytes[..2078]);
+    assert_eq!(rt; decided(&rt, alloc, old, &[(1, 2, fits)])?, ("merged", 2));
+    assert_eq!(rt; decided(&rt, alloc, old, &[(1, 2, over)])?, ("no room", 0));
+    assert_eq!(rt; decided(&rt, alloc, old, &[(1, 1, over)])?, ("no room", 0));
     Ok(())
 }
 

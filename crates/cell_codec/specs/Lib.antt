@@ -1,1 +1,3 @@
 pub mod VarintLaws
+pub mod Cells
+pub mod CellLaws

@@ -206,3 +206,29 @@ varint_shortest x bytes top v =
 -- one to nine bytes
 pub varint_one_to_nine : (x : ℕ) → x < 2 ^ 64 → (1 ≤ length (varint x)) × (length (varint x) ≤ 9)
 varint_one_to_nine x top = (omega (arith, varint_size x), omega (arith, varint_size x, varint_front_most x top))
+
+-- any spelling has one to nine bytes
+pub spelling_one_to_nine : (bytes : List ℕ) (x : ℕ) → IsVarint bytes x → (1 ≤ length bytes) × (length bytes ≤ 9)
+spelling_one_to_nine bytes x v =
+    let size : length bytes ≡ length v.front + 1 = ap length v.whole ∙ length_push v.front v.last in
+    (omega arith, omega (arith, v.at_most_nine))
+
+-- and its number fits 64 bits
+pub spelled_number_fits : (bytes : List ℕ) (x : ℕ) → IsVarint bytes x → x < 2 ^ 64
+spelled_number_fits bytes x v =
+    let k = length v.front in
+    let below = groups_value_lt v.front v.high in
+    let few : k ≤ 8 = v.at_most_nine in
+    elim (cases_lt k 8) [
+      | inl less ↦
+          let weight = last_weight_short k less in
+          let sum : x ≡ groups_value v.front * 128 + v.last = v.sum ∙ ap (λ (w : ℕ). groups_value v.front * w + v.last) weight in
+          let most : 128 ^ k ≤ 128 ^ 8 = pow-le-pow_right (lit< tt) few in
+          omega (arith, v.low, weight)
+      | inr more ↦
+          let eight : k ≡ 8 = omega arith in
+          let weight : last_weight k ≡ 256 = ap last_weight eight in
+          let sum : x ≡ groups_value v.front * 256 + v.last = v.sum ∙ ap (λ (w : ℕ). groups_value v.front * w + v.last) weight in
+          let most : 128 ^ k ≤ 128 ^ 8 = pow-le-pow_right (lit< tt) few in
+          omega (arith, v.low, weight)
+    ]

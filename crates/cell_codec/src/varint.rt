@@ -3,7 +3,7 @@ ghost use Rattle.std.specs.Prelude.{◌≡◌, ℕ, ◌+◌, ◌*◌, ◌^◌, �
 ghost use Rattle.std.specs.List.{AllByRecursion};
 ghost use Rattle.format_spec.specs.Varint.{HasHighBit, IsVarint, varint, varint_front};
 
-/// Reads the varint at the front, and how many bytes it takes, 1 to 9. Longer spellings than the shortest are read too. `None` where the bytes end inside it.
+/// Reads the varint at the front, and how many bytes it takes, 1 to 9 (Database File Format, section 1.6). Longer spellings than the shortest are read too. `None` where the bytes end inside it.
 pub fn read_varint(bytes: &[u8]) -> Option<(u64, usize)>
     ensures found { IfSome result (λ found. (found.1 ≤ length bytes.now) × IsVarint (take found.1 bytes.now) found.0) }
     ensures only { (value n : ℕ) → n ≤ length bytes.now → IsVarint (take n bytes.now) value → result ≡ Some (value, n) }

@@ -1,0 +1,210 @@
+-- What follows from the definition of cells alone: crates above cite these facts in their proofs.
+use Rattle.std.proofs.Common.{◌≡◌, ℕ, ℤ, ◌+◌, ◌-◌, ◌^◌, ◌<◌, ◌≤◌, cond, ltb, List, [], ◌∷◌, ◌++◌, length, take, drop, refl, sym, ◌∙◌, ap, subst, append_assoc, length-append, arith}
+use Rattle.std.proofs.lemmas.List.{append_cancel_left, append-nil, take_at, take_all, drop_at, take-append-drop}
+use Rattle.std.proofs.lemmas.Int.{ints, to_z-of_z}
+use Rattle.std.proofs.lemmas.Bool.{cond_both, cond-true, ltb-false, le-leb, le-ltb}
+use Rattle.std.proofs.lemmas.Bool.Decides.{nat_tests}
+use Rattle.std.specs.Int.{w64, cast_signed, cast_unsigned}
+use Rattle.std.specs.Int.RustNames.{FitsSigned}
+use Rattle.byteorder.specs.Endian.{big_bytes, big_number}
+use Rattle.byteorder.specs.Numbers.{length-bytes_high_first, big_number-reads_back}
+use Rattle.format_spec.specs.declared.PageKind.{PageKind}
+use Rattle.format_spec.specs.declared.PageKind.TheVariants.{TableLeaf}
+use Rattle.format_spec.specs.declared.CellView.{CellView}
+use Rattle.format_spec.specs.Varint.{varint}
+use Rattle.format_spec.specs.Cell.{IsCell, IsTableLeafCell, payload_limit, local_size, overflow_size, cell_bytes, table_leaf_cell}
+use Rattle.cell_codec.specs.VarintLaws.{spelling_one_to_nine, same_varint, varint_spells}
+use Rattle.cell_codec.specs.Cells.{BeginsWithCell, IsWritable, whole_cell}
+
+-- lists that are equal have equal fronts of one length
+same_parts : (a b x y : List ℕ) → length a ≡ length b → a ++ x ≡ b ++ y → (a ≡ b) × (x ≡ y)
+same_parts [] [] x y l e = (refl, e)
+same_parts [] (b ∷ bs) x y l e = absurd (omega arith)
+same_parts (a ∷ us) [] x y l e = absurd (omega arith)
+same_parts (a ∷ us) (b ∷ bs) x y l e =
+    let head : a ≡ b = cc in
+    let tail : us ++ x ≡ bs ++ y = cc in
+    let r = same_parts us bs x y (omega arith) tail in
+    let r₀ : us ≡ bs = r.0 in
+    (cc, r.1)
+
+regroup : (a b c d x : List ℕ) → (a ++ (b ++ (c ++ d))) ++ x ≡ a ++ (b ++ (c ++ (d ++ x)))
+regroup a b c d x = simp append_assoc
+
+same_view : (c d : CellView) → c.size ≡ d.size → c.rowid ≡ d.rowid → c.child ≡ d.child → c.payload ≡ d.payload → c.local_at ≡ d.local_at → c.local ≡ d.local → c.overflow ≡ d.overflow → c ≡ d
+same_view c d p q r s t u v = λ i. record {
+  size = p i;
+  rowid = q i;
+  child = r i;
+  payload = s i;
+  local_at = t i;
+  local = u i;
+  overflow = v i;
+}
+
+same_table_leaf_cell : {usable : ℕ} {a b : List ℕ} {c d : CellView} (x y : List ℕ) → IsTableLeafCell usable a c → IsTableLeafCell usable b d → a ++ x ≡ b ++ y → (a ≡ b) × (c ≡ d)
+same_table_leaf_cell {usable} {a} {b} {c} {d} x y v w e =
+    let left = ap (λ s. s ++ x) v.whole ∙ regroup v.payload_bytes v.rowid_bytes v.local_bytes v.overflow_bytes x in
+    let right = ap (λ s. s ++ y) w.whole ∙ regroup w.payload_bytes w.rowid_bytes w.local_bytes w.overflow_bytes y in
+    let all = sym left ∙ e ∙ right in
+    let payloads = same_varint _ _ v.payload w.payload all in
+    let p : v.payload_bytes ≡ w.payload_bytes = payloads.0 in
+    let payload : c.payload ≡ d.payload = payloads.1 in
+    let behind = append_cancel_left _ _ _ (ap (λ s. s ++ (v.rowid_bytes ++ (v.local_bytes ++ (v.overflow_bytes ++ x)))) (sym p) ∙ all) in
+    let rowids = same_varint _ _ v.rowid_varint w.rowid_varint behind in
+    let q : v.rowid_bytes ≡ w.rowid_bytes = rowids.0 in
+    let rowid : v.rowid_number ≡ w.rowid_number = rowids.1 in
+    let rest = append_cancel_left _ _ _ (ap (λ s. s ++ (v.local_bytes ++ (v.overflow_bytes ++ x))) (sym q) ∙ behind) in
+    let local : c.local ≡ d.local = v.local ∙ ap (local_size TableLeaf usable) payload ∙ sym w.local in
+    let locals = same_parts v.local_bytes w.local_bytes _ _ (v.local_length ∙ local ∙ sym w.local_length) rest in
+    let over : length v.overflow_bytes ≡ length w.overflow_bytes = v.overflow_length ∙ ap (λ n. overflow_size n c.payload) local ∙ ap (overflow_size d.local) payload ∙ sym w.overflow_length in
+    let overflows = same_parts v.overflow_bytes w.overflow_bytes x y over locals.1 in
+    let r : v.local_bytes ≡ w.local_bytes = locals.0 in
+    let s : v.overflow_bytes ≡ w.overflow_bytes = overflows.0 in
+    let bytes : a ≡ b =
+    v.whole ∙ ap (λ z. z ++ (v.rowid_bytes ++ (v.local_bytes ++ v.overflow_bytes))) p ∙ ap (λ z. w.payload_bytes ++ (z ++ (v.local_bytes ++ v.overflow_bytes))) q
+    ∙ ap (λ z. w.payload_bytes ++ (w.rowid_bytes ++ (z ++ v.overflow_bytes))) r ∙ ap (λ z. w.payload_bytes ++ (w.rowid_bytes ++ (w.local_bytes ++ z))) s ∙ sym w.whole in (
+      bytes,
+      same_view c d
+          (v.size ∙ ap length bytes ∙ sym w.size)
+          (v.rowid ∙ ap (cast_signed w64) rowid ∙ sym w.rowid)
+          (v.child ∙ sym w.child)
+          payload
+          (v.local_at ∙ ap (λ z. length z + length v.rowid_bytes) p ∙ ap (λ z. length w.payload_bytes + length z) q ∙ sym w.local_at)
+          local
+          (v.overflow ∙ ap (λ z. big_number (length z) z) s ∙ sym w.overflow),
+    )
+
+-- bytes spell one cell, and no cell begins another
+pub same_cell : (kind : PageKind) (usable : ℕ) (a b x y : List ℕ) (c d : CellView) → IsCell kind usable a c → IsCell kind usable b d → a ++ x ≡ b ++ y → (a ≡ b) × (c ≡ d)
+same_cell TableLeaf usable a b x y c d v w e = same_table_leaf_cell x y v w e
+
+-- bytes begin with one cell at most
+pub same_first_cell : (kind : PageKind) (usable : ℕ) (bytes : List ℕ) (c d : CellView) → BeginsWithCell kind usable bytes c → BeginsWithCell kind usable bytes d → c ≡ d
+same_first_cell kind usable bytes c d v w =
+    (same_cell kind usable _ _ (drop c.size bytes) (drop d.size bytes) c d v.1 w.1 (take-append-drop c.size bytes ∙ sym (take-append-drop d.size bytes))).1
+
+-- the lengths of a cell's parts
+pub cell_parts : (usable : ℕ) (bytes : List ℕ) (cell : CellView) → IsTableLeafCell usable bytes cell → cell.size ≡ cell.local_at + cell.local + overflow_size cell.local cell.payload
+cell_parts usable bytes cell v =
+    omega (arith, v.size, ap length v.whole, length-append v.payload_bytes (v.rowid_bytes ++ (v.local_bytes ++ v.overflow_bytes)), length-append v.rowid_bytes (v.local_bytes ++ v.overflow_bytes), length-append v.local_bytes v.overflow_bytes, v.local_at, v.local_length, v.overflow_length)
+
+-- where the local payload lies
+pub local_bytes_at : (usable : ℕ) (bytes : List ℕ) (cell : CellView) (v : IsTableLeafCell usable bytes cell) → v.local_bytes ≡ take cell.local (drop cell.local_at bytes)
+local_bytes_at usable bytes cell v =
+    let head = v.payload_bytes ++ v.rowid_bytes in
+    let size : length head ≡ cell.local_at = length-append v.payload_bytes v.rowid_bytes ∙ sym v.local_at in
+    let whole : bytes ≡ head ++ (v.local_bytes ++ v.overflow_bytes) = v.whole ∙ sym (append_assoc v.payload_bytes v.rowid_bytes (v.local_bytes ++ v.overflow_bytes)) in
+    sym (ap (λ s. take cell.local (drop cell.local_at s)) whole ∙ ap (take cell.local) (drop_at head (v.local_bytes ++ v.overflow_bytes) cell.local_at size) ∙ take_at v.local_bytes v.overflow_bytes cell.local v.local_length)
+
+-- how long the shortest spelling is
+pub cell_bytes_size : (cell : CellView) (local : List ℕ) → length (cell_bytes TableLeaf cell local) ≡ length (varint cell.payload) + length (varint (cast_unsigned w64 cell.rowid)) + length local + overflow_size cell.local cell.payload
+unfolding cell_bytes
+cell_bytes_size cell local =
+    let p = varint cell.payload in
+    let q = varint (cast_unsigned w64 cell.rowid) in
+    let o = big_bytes (overflow_size cell.local cell.payload) cell.overflow in
+    omega (arith, length-append p (q ++ (local ++ o)), length-append q (local ++ o), length-append local o, length-bytes_high_first (overflow_size cell.local cell.payload) cell.overflow)
+
+rowid_fits : (rowid : ℤ) → FitsSigned w64 rowid → cast_unsigned w64 rowid < 2 ^ 64
+rowid_fits rowid h = omega (arith, ints)
+
+number_read : (n x : ℕ) → x < 256 ^ n → x ≡ big_number (length (big_bytes n x)) (big_bytes n x)
+number_read n x h =
+    let back : big_number n (big_bytes n x ++ []) ≡ x = big_number-reads_back n x [] h in
+    sym (ap (λ k. big_number k (big_bytes n x)) (length-bytes_high_first n x) ∙ ap (big_number n) (sym (append-nil (big_bytes n x))) ∙ back)
+
+overflow_fits : (local payload page : ℕ) → page < 2 ^ 32 → (payload ≤ local → page ≡ 0) → page < 256 ^ overflow_size local payload
+overflow_fits local payload page h z =
+    cond_both (ltb local payload) 4 0 (λ n. page < 256 ^ n) (λ _. h) (λ e. omega (arith, z (ltb-false local payload e)))
+
+written_table_leaf_cell : (usable : ℕ) (cell : CellView) (local : List ℕ) → IsWritable TableLeaf usable cell local → IsTableLeafCell usable (cell_bytes TableLeaf cell local) cell
+unfolding cell_bytes
+written_table_leaf_cell usable cell local w =
+    let number = cast_unsigned w64 cell.rowid in
+    let n = overflow_size cell.local cell.payload in
+    record {
+      payload_bytes = varint cell.payload;
+      rowid_bytes = varint number;
+      rowid_number = number;
+      local_bytes = local;
+      overflow_bytes = big_bytes n cell.overflow;
+      whole = refl;
+      payload = varint_spells cell.payload (omega (arith, w.limit));
+      limit = w.limit;
+      rowid_varint = varint_spells number (rowid_fits cell.rowid w.rowid);
+      rowid = sym (to_z-of_z w64 cell.rowid w.rowid);
+      local_at = w.local_at;
+      local = w.local;
+      local_length = w.local_length;
+      overflow_length = length-bytes_high_first n cell.overflow;
+      overflow = number_read n cell.overflow (overflow_fits cell.local cell.payload cell.overflow w.overflow w.no_overflow);
+      child = w.child;
+      size = w.size;
+    }
+
+-- what is written is the cell
+pub written_cell : (kind : PageKind) (usable : ℕ) (cell : CellView) (local : List ℕ) → IsWritable kind usable cell local → IsCell kind usable (cell_bytes kind cell local) cell
+written_cell TableLeaf usable cell local w = written_table_leaf_cell usable cell local w
+
+whole_bytes : (rowid : ℤ) (payload : List ℕ) → cell_bytes TableLeaf (whole_cell rowid payload) payload ≡ table_leaf_cell rowid payload
+unfolding cell_bytes table_leaf_cell
+whole_bytes rowid payload =
+    let n = length payload in
+    let none : overflow_size n n ≡ 0 = ap (λ b. cond b 4 0) (le-ltb n n (omega arith)) in
+    ap (λ k. varint n ++ (varint (cast_unsigned w64 rowid) ++ (payload ++ big_bytes k 0))) none
+    ∙ ap (λ s. varint n ++ (varint (cast_unsigned w64 rowid) ++ s)) (append-nil payload)
+
+-- a view of a payload that lies in its cell whole
+pub whole_cell_writable : (usable : ℕ) (rowid : ℤ) (payload : List ℕ) → FitsSigned w64 rowid → length payload ≤ usable - 35 → length payload ≤ payload_limit → IsWritable TableLeaf usable (whole_cell rowid payload) payload
+whole_cell_writable usable rowid payload r h l =
+    record {
+      limit = l;
+      rowid = r;
+      local = sym (cond-true _ _ _ (le-leb (length payload) (usable - 35) h));
+      local_length = refl;
+      overflow = omega arith;
+      no_overflow = λ _. refl;
+      child = refl;
+      local_at = refl;
+      size = sym (ap length (whole_bytes rowid payload));
+    }
+
+-- and its cell
+pub whole_cell_read : (usable : ℕ) (rowid : ℤ) (payload : List ℕ) → FitsSigned w64 rowid → length payload ≤ usable - 35 → length payload ≤ payload_limit → IsCell TableLeaf usable (table_leaf_cell rowid payload) (whole_cell rowid payload)
+whole_cell_read usable rowid payload r h l =
+    subst (λ bytes. IsTableLeafCell usable bytes (whole_cell rowid payload)) (whole_bytes rowid payload)
+    (written_table_leaf_cell usable (whole_cell rowid payload) payload (whole_cell_writable usable rowid payload r h l))
+
+-- the payload lies in it
+pub whole_cell_payload : (rowid : ℤ) (payload : List ℕ) → take (length payload) (drop (whole_cell rowid payload).local_at (table_leaf_cell rowid payload)) ≡ payload
+unfolding table_leaf_cell
+whole_cell_payload rowid payload =
+    let head = varint (length payload) ++ varint (cast_unsigned w64 rowid) in
+    let size : length head ≡ (whole_cell rowid payload).local_at = length-append (varint (length payload)) (varint (cast_unsigned w64 rowid)) in
+    ap (λ s. take (length payload) (drop (whole_cell rowid payload).local_at s)) (sym (append_assoc (varint (length payload)) (varint (cast_unsigned w64 rowid)) payload))
+    ∙ ap (take (length payload)) (drop_at head payload (whole_cell rowid payload).local_at size)
+    ∙ take_all (length payload) payload (omega arith)
+
+-- the length of that cell
+pub table_leaf_cell_size : (rowid : ℤ) (payload : List ℕ) → length (table_leaf_cell rowid payload) ≡ length (varint (length payload)) + length (varint (cast_unsigned w64 rowid)) + length payload
+unfolding table_leaf_cell
+table_leaf_cell_size rowid payload =
+    let p = varint (length payload) in
+    let q = varint (cast_unsigned w64 rowid) in
+    omega (arith, length-append p (q ++ payload), length-append q payload)
+
+-- a cell's payload begins behind two varints
+pub local_at_bounds : (usable : ℕ) (bytes : List ℕ) (cell : CellView) → IsTableLeafCell usable bytes cell → (2 ≤ cell.local_at) × (cell.local_at ≤ 18)
+local_at_bounds usable bytes cell v =
+    let p = spelling_one_to_nine v.payload_bytes cell.payload v.payload in
+    let q = spelling_one_to_nine v.rowid_bytes v.rowid_number v.rowid_varint in
+    (omega (arith, v.local_at, p, q), omega (arith, v.local_at, p, q))
+
+-- a cell keeps no more than its payload has
+pub local_size_within : (usable payload : ℕ) → local_size TableLeaf usable payload ≤ payload
+local_size_within usable payload = grind (arith, nat_tests)
+
+-- and no more than a page has room for
+pub local_size_room : (usable payload : ℕ) → 480 ≤ usable → local_size TableLeaf usable payload + 35 ≤ usable
+local_size_room usable payload h = grind (arith, nat_tests)

@@ -1,0 +1,40 @@
+-- Cells at the front of bytes, and views that can be written (Database File Format, section 1.6).
+use Rattle.std.specs.Prelude.{◌≡◌, ℕ, ℤ, ◌+◌, ◌^◌, ◌<◌, ◌≤◌, List, length, take}
+use Rattle.std.specs.Int.{w64, cast_unsigned}
+use Rattle.std.specs.Int.RustNames.{FitsSigned}
+use Rattle.format_spec.specs.declared.PageKind.{PageKind}
+use Rattle.format_spec.specs.declared.CellView.{CellView}
+use Rattle.format_spec.specs.Varint.{IsVarint, varint}
+use Rattle.format_spec.specs.Cell.{IsCell, payload_limit, local_size, cell_bytes, table_leaf_cell}
+
+-- the bytes begin with a cell
+abbrev pub BeginsWithCell : PageKind → ℕ → List ℕ → CellView → Type 0
+BeginsWithCell kind usable bytes cell = (cell.size ≤ length bytes) × IsCell kind usable (take cell.size bytes) cell
+
+-- the bytes begin with the length of a payload that is over the greatest one
+abbrev pub BeginsOverLimit : List ℕ → Type 0
+BeginsOverLimit bytes = (value : ℕ) × (n : ℕ) × (n ≤ length bytes) × IsVarint (take n bytes) value × (payload_limit < value)
+
+-- the view is that of the cell's shortest spelling with this local payload
+pub record IsWritable (kind : PageKind) (usable : ℕ) (cell : CellView) (local_bytes : List ℕ) : Type 0 where
+  pub limit : cell.payload ≤ payload_limit
+  pub rowid : FitsSigned w64 cell.rowid
+  pub local : cell.local ≡ local_size kind usable cell.payload
+  pub local_length : length local_bytes ≡ cell.local
+  pub overflow : cell.overflow < 2 ^ 32
+  pub no_overflow : cell.payload ≤ cell.local → cell.overflow ≡ 0
+  pub child : cell.child ≡ 0
+  pub local_at : cell.local_at ≡ length (varint cell.payload) + length (varint (cast_unsigned w64 cell.rowid))
+  pub size : cell.size ≡ length (cell_bytes kind cell local_bytes)
+
+-- the view of a table leaf's cell whose payload lies in it whole
+abbrev pub whole_cell : ℤ → List ℕ → CellView
+whole_cell rowid payload = record {
+  size = length (table_leaf_cell rowid payload);
+  rowid = rowid;
+  child = 0;
+  payload = length payload;
+  local_at = length (varint (length payload)) + length (varint (cast_unsigned w64 rowid));
+  local = length payload;
+  overflow = 0;
+}

@@ -94,12 +94,9 @@ with_cell-between front back cell number gap entry place two at room ends =
     ∙ (ap (drop 2) (drop_at front (replicate gap 0 ++ back) entry at)
     ∙ (drop-append-le 2 (replicate gap 0) back (omega (arith, length-replicate {A = ℕ} gap 0))
     ∙ ap (λ (x : List ℕ). x ++ back) (drop-replicate 2 gap 0))) in
-    let middle : between (entry + 2) place page ≡ replicate (gap - (2 + length cell)) 0 =
     let n : place - (entry + 2) ≡ gap - (2 + length cell) = omega arith in
-    ap (take (place - (entry + 2))) unused
-    ∙ (take-append-le (place - (entry + 2)) (replicate (gap - 2) 0) back (omega (arith, length-replicate {A = ℕ} (gap - 2) 0))
-    ∙ (take-replicate (place - (entry + 2)) (gap - 2) 0 (omega arith)
-    ∙ ap (λ (x : ℕ). replicate x 0) n)) in
+    let zeros : take (place - (entry + 2)) (replicate (gap - 2) 0 ++ back) ≡ replicate (place - (entry + 2)) 0 = take-append-le (place - (entry + 2)) (replicate (gap - 2) 0) back (omega (arith, length-replicate {A = ℕ} (gap - 2) 0)) ∙ take-replicate (place - (entry + 2)) (gap - 2) 0 (omega arith) in
+    let middle : between (entry + 2) place page ≡ replicate (gap - (2 + length cell)) 0 = ap (take (place - (entry + 2))) unused ∙ (zeros ∙ ap (λ (x : ℕ). replicate x 0) n) in
     let rest : drop (place + length cell) page ≡ back =
     ap (λ (x : ℕ). drop x page) ends
     ∙ (sym (drop-drop gap entry page)

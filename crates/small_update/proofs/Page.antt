@@ -118,6 +118,24 @@ cell_stands size k cells room l =
     ap (λ (x : List ℕ). take (length cell) (drop (size - content (take (k + 1) cells)) x)) page
     ∙ (ap (take (length cell)) (drop_at front (cell ++ above) (size - content (take (k + 1) cells)) at) ∙ take_at cell above (length cell) refl)
 
+-- a packed leaf is as long as it is said to be
+pub length-packed_leaf : (size : ℕ) (cells : List (List ℕ)) → 8 + 2 * length cells + content cells ≤ size → length (packed_leaf size cells) ≡ size
+length-packed_leaf size cells room =
+    let parts = header_of size cells in
+    let array = flat_map (big_bytes 2) (places_below size cells) in
+    let zeros : List ℕ = replicate (size - (8 + 2 * length cells + content cells)) 0 in
+    omega (
+      arith,
+      ap length parts.2,
+      parts.1,
+      length-append parts.0 (behind_header size cells),
+      length-append array (zeros ++ stacked cells),
+      length-append zeros (stacked cells),
+      length_places size cells,
+      length-replicate {A = ℕ} (size - (8 + 2 * length cells + content cells)) 0,
+      length-stacked cells,
+    )
+
 -- the page of cells for which there is room
 pub is_page : (size : ℕ) (cells : List (List ℕ)) → size < 65536 → 8 + 2 * length cells + content cells ≤ size
     → ((k : ℕ) → k < length cells → ((view : CellView) × IsCell TableLeaf size (get_or cells k []) view) × (4 ≤ length (get_or cells k [])))

@@ -5,7 +5,6 @@ ghost use Rattle.byteorder.specs.Endian.{big_bytes};
 ghost use Rattle.format_spec.specs.Numbers.{with_number_at};
 ghost use Rattle.format_spec.specs.Page.{packed_leaf};
 ghost use Rattle.update_spec.specs.Outcome.{page_room, new_first_page, new_pages};
-ghost use Rattle.small_update.specs.PackedLeaf.{PackedLeafIsPage};
 
 use byteorder::{BigEndian, ByteOrder};
 use update_spec::TargetRow;
@@ -94,8 +93,3 @@ pub fn write_pages(target: &mut [u8], rows: &[TargetRow])
     raise_counters(&mut target[..4096]);
     write_leaf(&mut target[4096..], rows);
 }
-
-/// Rows for which one page has room make an accepted page, whose cells are theirs in order.
-pub fn packed_leaf_is_page()
-    ensures { PackedLeafIsPage }
-{}

@@ -3,7 +3,7 @@ use Rattle.std.proofs.lemmas.List.{length-map}
 use Rattle.update_spec.specs.declared.TargetRow.{TargetRow}
 use Rattle.small_update.proofs.Leaf.{page_room_is}
 use Rattle.small_update.proofs.Page.{is_page}
-use Rattle.small_update.proofs.pages.packed_leaf_is_page.Goals as goal
+use Rattle.small_update.proofs.laws.packed_leaf_is_page.Goals as goal
 
 pub returns : goal.returns
 returns c rows room leaf =

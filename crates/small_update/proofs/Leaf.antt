@@ -38,11 +38,6 @@ pub record IsPacking (page : List ℕ) (size place : ℕ) (cells : List (List �
   pub room : 8 + 2 * length cells ≤ place
   pub whole : page ≡ header ++ (flat_map (big_bytes 2) (places_below size cells) ++ (replicate (place - (8 + 2 * length cells)) 0 ++ stacked cells))
 
--- what `write_cell` leaves
-abbrev pub with_cell : ℕ → ℕ → List ℕ → List ℕ → List ℕ
-with_cell entry place cell page =
-    take entry page ++ (big_bytes 2 place ++ (between (entry + 2) place page ++ (cell ++ drop (place + length cell) page)))
-
 -- a write over the part between a front and a back
 pub put_mid_at : (front old back new : List ℕ) (at k : ℕ) → length front ≡ at → length old ≡ k → put_mid at k (front ++ (old ++ back)) new ≡ front ++ (new ++ back)
 put_mid_at front old back new at k e l =
@@ -99,12 +94,9 @@ with_cell-between front back cell number gap entry place two at room ends =
     ∙ (ap (drop 2) (drop_at front (replicate gap 0 ++ back) entry at)
     ∙ (drop-append-le 2 (replicate gap 0) back (omega (arith, length-replicate {A = ℕ} gap 0))
     ∙ ap (λ (x : List ℕ). x ++ back) (drop-replicate 2 gap 0))) in
-    let middle : between (entry + 2) place page ≡ replicate (gap - (2 + length cell)) 0 =
     let n : place - (entry + 2) ≡ gap - (2 + length cell) = omega arith in
-    ap (take (place - (entry + 2))) unused
-    ∙ (take-append-le (place - (entry + 2)) (replicate (gap - 2) 0) back (omega (arith, length-replicate {A = ℕ} (gap - 2) 0))
-    ∙ (take-replicate (place - (entry + 2)) (gap - 2) 0 (omega arith)
-    ∙ ap (λ (x : ℕ). replicate x 0) n)) in
+    let zeros : take (place - (entry + 2)) (replicate (gap - 2) 0 ++ back) ≡ replicate (place - (entry + 2)) 0 = take-append-le (place - (entry + 2)) (replicate (gap - 2) 0) back (omega (arith, length-replicate {A = ℕ} (gap - 2) 0)) ∙ take-replicate (place - (entry + 2)) (gap - 2) 0 (omega arith) in
+    let middle : between (entry + 2) place page ≡ replicate (gap - (2 + length cell)) 0 = ap (take (place - (entry + 2))) unused ∙ (zeros ∙ ap (λ (x : ℕ). replicate x 0) n) in
     let rest : drop (place + length cell) page ≡ back =
     ap (λ (x : ℕ). drop x page) ends
     ∙ (sym (drop-drop gap entry page)
@@ -137,7 +129,7 @@ IsPacking-none page size h e = record {
 }
 
 -- a cell's place takes two bytes
-length_places : (size : ℕ) (cells : List (List ℕ)) → length (flat_map (big_bytes 2) (places_below size cells)) ≡ 2 * length cells
+pub length_places : (size : ℕ) (cells : List (List ℕ)) → length (flat_map (big_bytes 2) (places_below size cells)) ≡ 2 * length cells
 length_places size [] = refl
 length_places size (cell ∷ cells) = let rest = length_places (size - length cell) cells in omega arith
 

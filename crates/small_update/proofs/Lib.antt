@@ -1,5 +1,8 @@
 pub mod Keys
 pub mod Leaf
 pub mod Whole
+pub mod Page
+pub mod FirstPage
+pub mod Again
 pub mod Rows
 pub mod Decisions

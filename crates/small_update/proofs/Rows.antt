@@ -13,7 +13,7 @@ use Rattle.update_spec.specs.declared.TargetRow.{TargetRow}
 use Rattle.update_spec.specs.declared.PreparedRow.{PreparedRow}
 use Rattle.update_spec.specs.Outcome.{inserted, all_rows, page_room}
 
-small_header : (n : ℕ) → n + 1 < 128 → header_size_bytes n ≡ 1
+pub small_header : (n : ℕ) → n + 1 < 128 → header_size_bytes n ≡ 1
 small_header n h = grind (arith, nat_tests)
 
 -- the parts of the record of NULL and a value

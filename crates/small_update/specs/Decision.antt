@@ -7,7 +7,7 @@ use Rattle.update_spec.specs.Answer.{NonePresent}
 use Rattle.small_update.specs.declared.Decision.{Decision}
 use Rattle.small_update.specs.declared.Decision.TheVariants.{SharedKey, NoRoom, KeyPresent, Merged}
 
--- At most one decision has its cause, and a merge has all rows in order.
+-- the cause of a decision, where those before it do not hold
 abbrev pub Decides : List TargetRow → List PreparedRow → Decision → Type 0
 Decides old prepared SharedKey = SharesKey prepared
 Decides old prepared NoRoom = (¬ SharesKey prepared) × (4096 < page_room (all_rows old prepared))

@@ -1,6 +1,6 @@
 //! What prepared inserts make of a small target, and the target's new pages.
 //!
-//! The layer above decides by `decide`, and writes the pages of the merged rows by `write_pages`. What both mean is said by `Outcome` in the `specs/` of `update_spec`; `Decision` in this crate's `specs/` says which decision rows have.
+//! The layer above decides by `decide`, and writes the pages of the merged rows by `write_pages`. What both mean is said by `Outcome` in the `specs/` of `update_spec`; `Decision` in this crate's `specs/` says which decision rows have. The laws `packed_leaf_is_page` and `update_leaves_small_target` say what the written pages are: `PackedLeaf` and `SmallAgain` there.
 #![tactic(auto)]
 
 ghost use Rattle.std.specs.Prelude.{IfOk, map};
@@ -9,10 +9,12 @@ ghost use Rattle.update_spec.specs.SmallFile.{IsRising, IsNullOrText};
 ghost use Rattle.small_update.specs.Decision.{Decides};
 
 mod insert;
+mod laws;
 mod merge;
 mod pages;
 
 use insert::{has_long_value, with_inserted};
+pub use laws::{packed_leaf_is_page, update_leaves_small_target};
 use merge::{first_present, shares_key, sort_by_key, sort_by_rowid};
 use pages::fits_page;
 pub use pages::write_pages;

@@ -11,6 +11,7 @@ use std::process::Abort;
 use std::test::Fail;
 
 const ONE: &[u8] = b"\x06\x01\x03\x00\x13one";
+
 const TWO: &[u8] = b"\x06\x02\x03\x00\x13two";
 
 fn rises(rows: &[TargetRow]) -> bool
@@ -90,7 +91,10 @@ fn each_decision_has_its_cause(rt: HostRuntime) -> Result<(), Fail> {
     let drei = Some(b"drei".as_slice());
     assert_eq!(rt; decided(&rt, alloc, old, &[(1, 3, drei)])?, ("merged", 3));
     assert_eq!(rt; decided(&rt, alloc, old, &[])?, ("merged", 2));
-    assert_eq!(rt; decided(&rt, alloc, old, &[(1, 2, None)])?, ("key present", 1));
+    assert_eq!(rt;
+        decided(&rt, alloc, old, &[(1, 2, None)])?,
+        ("key present", 1)
+    );
     let two_present = [(1, 2, drei), (2, 1, None)];
     assert_eq!(rt; decided(&rt, alloc, old, &two_present)?, ("key present", 2));
     let shared = [(1, 5, drei), (2, 4, drei), (3, 5, None)];
@@ -101,12 +105,14 @@ fn each_decision_has_its_cause(rt: HostRuntime) -> Result<(), Fail> {
 #[test]
 fn a_page_is_filled_to_its_last_byte(rt: HostRuntime) -> Result<(), Fail> {
     let alloc = rt.alloc();
-    let text = vec![in alloc; b'x'; 4080]?;
-    assert_eq!(rt; text.len(), 4080);
-    let fits = Some(&text[..4079]);
-    let over = Some(&text[..]);
-    assert_eq!(rt; decided(&rt, alloc, &[], &[(1, 1, fits)])?, ("merged", 1));
-    assert_eq!(rt; decided(&rt, alloc, &[], &[(1, 1, over)])?, ("no room", 0));
+    let bytes = vec![in alloc; b'x'; 4000]?;
+    assert_eq!(rt; bytes.len(), 4000);
+    let old: &[(i64, &[u8])] = &[(1, &bytes[..2000])];
+    let fits = Some(&bytes[..2077]);
+    let over = Some(&bytes[..2078]);
+    assert_eq!(rt; decided(&rt, alloc, old, &[(1, 2, fits)])?, ("merged", 2));
+    assert_eq!(rt; decided(&rt, alloc, old, &[(1, 2, over)])?, ("no room", 0));
+    assert_eq!(rt; decided(&rt, alloc, old, &[(1, 1, over)])?, ("no room", 0));
     Ok(())
 }
 
@@ -122,8 +128,16 @@ fn an_insert_writes_both_pages(rt: HostRuntime) -> Result<(), Fail> {
         _ => return Err(Fail::from("not merged")),
     }
     assert_eq!(rt; bytes.len(), 8192);
-    assert_eq!(rt; &bytes[23..29], b"\xee\0\0\0\0\xee".as_slice(), "change counter");
-    assert_eq!(rt; &bytes[39..45], b"\xee\0\0\0\x08\xee".as_slice(), "schema cookie");
+    assert_eq!(rt;
+        &bytes[23..29],
+        b"\xee\0\0\0\0\xee".as_slice(),
+        "change counter"
+    );
+    assert_eq!(rt;
+        &bytes[39..45],
+        b"\xee\0\0\0\x08\xee".as_slice(),
+        "schema cookie"
+    );
     assert_eq!(rt; &bytes[91..97], b"\xee\0\0\0\0\xee".as_slice(), "valid for");
     let header = b"\x0d\0\0\0\x03\x0f\xe7\0\x0f\xf8\x0f\xf0\x0f\xe7";
     assert_eq!(rt; &bytes[4096..4110], header.as_slice());

@@ -1,5 +1,4 @@
-use Rattle.std.proofs.Common.{◌≡◌, ◌≢◌, ◌<ℤ◌, ℕ, List, length, arith, map}
-use Rattle.std.proofs.lemmas.Bool.{OnTrue_from}
+use Rattle.std.proofs.Common.{◌≢◌, ◌<ℤ◌, List, length, arith, map}
 use Rattle.std.proofs.lemmas.Int.{ints}
 use Rattle.std.specs.List.{AllAdjacentBelow}
 use Rattle.std.specs.List.Sorted.{IsSortedByKey}

@@ -1,6 +1,5 @@
 -- What the reading of the files says of them.
 use Rattle.std.proofs.Common.{◌≡◌, ◌≤◌, arith, ℕ, List, Option, Some, None, Result, Ok, Err, IfOk, IfSome, MatchOption, Vec, Global, IsTrue, ◌↔◌, true, false, refl, sym, ◌∙◌, subst}
-use Rattle.std.specs.Prelude.{IsSomeAnd}
 use Rattle.std.proofs.lemmas.Bool.{false≢true}
 use Rattle.file_spec.specs.declared.FileName.TheVariants.{Target, Rbu}
 use Rattle.file_spec.specs.Files.{Files, content}
@@ -22,7 +21,7 @@ use Rattle.rbu_run.proofs.Outcomes.{only_files, only_target, only_rbu}
 
 -- what is read and nothing else is refused: the rows that were read are the only ones
 pub exactly : {A E : Type 0} (IsSmall : List A → Type 0) (r : Result (Option (Vec A Global)) E) → IfOk r (λ found. IfSome found (λ v. IsSmall v.items)) →
-    ((rows : List A) → IsSmall rows → IfOk r (λ found. IsSomeAnd found (λ v. v.items ≡ rows))) →
+    ((rows : List A) → IsSmall rows → IfOk r (λ found. MatchOption found ⊥ (λ v. v.items ≡ rows))) →
     IfOk r (λ found. MatchOption found ((rows : List A) → ¬ IsSmall rows) (λ v. IsSmall v.items × ((others : List A) → IsSmall others → others ≡ v.items)))
 exactly IsSmall (Ok None) found only = λ rows small. only rows small
 exactly IsSmall (Ok (Some v)) found only = (found, λ others small. sym (only others small))

@@ -2,14 +2,16 @@
 use Rattle.std.proofs.Common.{◌≡◌, ◌≤◌, ◌⊎◌, ℕ, ℤ, List, length, Option, Some, None, get_or, refl, sym, ap, ◌∙◌, subst, inl, inr, false}
 use Rattle.file_spec.specs.declared.FileName.{FileName}
 use Rattle.file_spec.specs.declared.FileName.TheVariants.{Target, Oal, Wal, Journal, Rbu, State, StateTemp}
-use Rattle.file_spec.specs.Files.{Files, is_name, with_file}
+use Rattle.file_spec.specs.Files.{Files, content, is_name, with_file}
 use Rattle.file_spec.specs.Faults.{Leads}
 use Rattle.file_spec.specs.FaultsLaws.{Leads-weaken}
 use Rattle.update_spec.specs.declared.TargetRow.{TargetRow}
 use Rattle.update_spec.specs.declared.PreparedRow.{PreparedRow}
+use Rattle.update_spec.specs.SmallFile.{IsSmallTarget}
 use Rattle.update_spec.specs.Outcome.{new_pages}
 use Rattle.update_spec.specs.Answer.{IsFinished, SeesOldOrNew}
 use Rattle.update_spec.specs.View.{IsView}
+use Rattle.small_update.specs.SmallAgain.{UpdateLeavesSmallTarget}
 use Rattle.small_update.specs.Decision.{Decides}
 use Rattle.small_update.specs.declared.Decision.{Decision}
 use Rattle.small_update.specs.declared.Decision.TheVariants as decision
@@ -41,9 +43,9 @@ module _ (target : List ℕ) (old : List TargetRow) (prepared : List PreparedRow
   pub only-outcome : (d : Decision) → Decides old prepared d → (f : Files) → IsSmallWith target old prepared f → HasOnlyRows f old prepared → HasOnly f (outcome_of d)
   only-outcome d decides f small rows = only_decided f old prepared small.1 rows d decides
 
-  pub finished : (rows : Rattle.std.proofs.Common.Vec TargetRow Rattle.std.proofs.Common.Global) → Decides old prepared (decision.Merged rows) → (f g : Files) →
+  pub finished : UpdateLeavesSmallTarget → (rows : Rattle.std.proofs.Common.Vec TargetRow Rattle.std.proofs.Common.Global) → Decides old prepared (decision.Merged rows) → (f g : Files) →
       HandsOver (new_pages target rows.items) f g → IsSmallWith target old prepared f → IsFinished f g
-  finished rows decides f g hands small =
+  finished law rows decides f g hands small =
       let same : g ≡ with_file f Target (Some (new_pages target rows.items)) = hands (alone f small) in
       record {
         old = old;
@@ -53,6 +55,9 @@ module _ (target : List ℕ) (old : List TargetRow) (prepared : List PreparedRow
         none_present = decides.2;
         merged = decides.3;
         target = ap (λ (files : Files). files Target) same ∙ ap (λ (bytes : List ℕ). Some (new_pages bytes rows.items)) small.0;
+        holds_rows = subst (λ (bytes : List ℕ). IsSmallTarget (new_pages bytes rows.items) rows.items) small.0
+            (law target (content f Rbu) old rows.items prepared (subst (λ (bytes : List ℕ). IsSmallTarget bytes old) (sym small.0) small.1.target) small.1.rbu
+            decides.3 decides.4);
         no_oal = ap (λ (files : Files). files Oal) same ∙ (alone f small).no_oal;
         no_wal = ap (λ (files : Files). files Wal) same ∙ (alone f small).no_wal;
         others = λ name other. ap (λ (files : Files). files name) same ∙ elsewhere name other f (new_pages target rows.items);

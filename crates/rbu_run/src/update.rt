@@ -16,7 +16,7 @@ use crate::handover::hand_over;
 use crate::inspect::{Inspected, inspect};
 use rbu_disk::{Disk, DiskFault};
 use refusal::{Part, Refusal};
-use small_update::{Decision, decide, write_pages};
+use small_update::{Decision, decide, update_leaves_small_target, write_pages};
 use std::alloc::Global;
 use update_spec::{Outcome, PreparedRow, TargetRow};
 
@@ -68,10 +68,14 @@ fn finish<D: Disk>(
         Decision::SharedKey => Ok(not_yet(Part::Rows)),
         Decision::NoRoom => Ok(not_yet(Part::Room)),
         Decision::KeyPresent { data_rowid } => Ok(Outcome::KeyPresent { data_rowid }),
-        Decision::Merged(rows) => match install(disk, salt, &mut target, &rows) {
-            Ok(()) => Ok(Outcome::Done),
-            Err(fault) => Err(Halt::Fault(fault)),
-        },
+        Decision::Merged(rows) => {
+            // What is installed is a small target again.
+            update_leaves_small_target();
+            match install(disk, salt, &mut target, &rows) {
+                Ok(()) => Ok(Outcome::Done),
+                Err(fault) => Err(Halt::Fault(fault)),
+            }
+        }
     }
 }
 

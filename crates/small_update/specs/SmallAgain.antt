@@ -1,8 +1,5 @@
 -- The target after the update.
 use Rattle.std.specs.Prelude.{ℕ, ◌≤◌, List}
-use Rattle.std.specs.List.{All}
-use Rattle.std.specs.Int.{w64}
-use Rattle.std.specs.Int.RustNames.{FitsSigned}
 use Rattle.update_spec.specs.declared.TargetRow.{TargetRow}
 use Rattle.update_spec.specs.declared.PreparedRow.{PreparedRow}
 use Rattle.update_spec.specs.SmallFile.{IsSmallTarget, IsSmallRbu}
@@ -11,6 +8,4 @@ use Rattle.update_spec.specs.Outcome.{IsMerged, page_room, new_pages}
 -- After the update a small target is a small target with the merged rows: all its old rows and the inserted ones.
 abbrev pub UpdateLeavesSmallTarget : Type 0
 UpdateLeavesSmallTarget = (target rbu : List ℕ) (old rows : List TargetRow) (prepared : List PreparedRow) →
-    IsSmallTarget target old → IsSmallRbu rbu prepared → All (λ row. FitsSigned w64 row.key) prepared →
-    IsMerged old prepared rows → page_room rows ≤ 4096 →
-    IsSmallTarget (new_pages target rows) rows
+    IsSmallTarget target old → IsSmallRbu rbu prepared → IsMerged old prepared rows → page_room rows ≤ 4096 → IsSmallTarget (new_pages target rows) rows

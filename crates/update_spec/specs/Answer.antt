@@ -55,7 +55,7 @@ HasOutcome files (KeyPresent data_rowid) =
     × CanInsert files old prepared × IsFirstPresent old prepared row × (row.data_rowid ≡ data_rowid)
 HasOutcome files Done = (old : List TargetRow) × (prepared : List PreparedRow) × CanInsert files old prepared × NonePresent old prepared
 
--- The update is done: the target has the pages of all rows, neither log exists, and every other file is as before.
+-- The update is done: the target has the pages of all rows, which are a small target with these rows again, neither log exists, and every other file is as before.
 pub record IsFinished (before after : Files) : Type 0 where
   pub old : List TargetRow
   pub prepared : List PreparedRow
@@ -64,6 +64,7 @@ pub record IsFinished (before after : Files) : Type 0 where
   pub none_present : NonePresent old prepared
   pub merged : IsMerged old prepared rows
   pub target : after Target ≡ Some (new_pages (content before Target) rows)
+  pub holds_rows : IsSmallTarget (new_pages (content before Target) rows) rows
   pub no_oal : after Oal ≡ None
   pub no_wal : after Wal ≡ None
   pub others : (name : FileName) → is_name Target name ≡ false → after name ≡ before name

@@ -65,7 +65,7 @@ returns-in-Ok-clause-outcome g c =
     rw (c.deref_mut.ensures.value, c.deref.ensures.value) at c.in-Ok.ensures.done in
     Leads-weaken (HandsOver (new_pages c.args.target.items c.in-Merged.rows.items)) (λ f h. IsSmallWith c.args.target.items c.args.old.items c.args.prepared.items f → IsFinished f h)
     (g.D.Disk.shown c.args.disk.now) (g.D.Disk.shown c.install.new.disk) hands
-    (finished c.args.target.items c.args.old.items c.args.prepared.items c.in-Merged.rows decides)
+    (finished c.args.target.items c.args.old.items c.args.prepared.items c.update_leaves_small_target.ensures c.in-Merged.rows decides)
 
 pub returns-in-Ok-clause-only : goal.returns-in-Ok-clause-only
 returns-in-Ok-clause-only g c =

@@ -5,9 +5,11 @@
 #![tactic(auto)]
 
 mod bytes;
+mod order;
 mod value;
 
 pub use bytes::Bytes;
+pub use order::{Collation, compare, values_are_ordered};
 pub use value::Value;
 
 #[cfg(test)]

@@ -1,2 +1,4 @@
+pub mod Affinity
+pub mod AffinityLaws
 pub mod Order
 pub mod OrderLaws

@@ -4,10 +4,12 @@
 //! The layer above may use `Bytes`, which contracts see as a list of bytes, and `Value`.
 #![tactic(auto)]
 
+mod affinity;
 mod bytes;
 mod order;
 mod value;
 
+pub use affinity::{Affinity, affinity_of};
 pub use bytes::Bytes;
 pub use order::{Collation, compare, values_are_ordered};
 pub use value::Value;

@@ -1,0 +1,31 @@
+-- The affinity of a column, and the values whose class it changes (Datatypes In SQLite, sections 3 and 3.1).
+use Rattle.std.specs.Prelude.{◌≡◌, ℕ, List, [], ◌++◌, ◌⊎◌, map, codes}
+use Rattle.std.specs.Char.{to_ascii_lowercase}
+use Rattle.rbu_value.specs.declared.affinity.Affinity.{Affinity}
+use Rattle.rbu_value.specs.declared.affinity.Affinity.TheVariants.{Integer, Text, Blob, Real, Numeric}
+
+-- a text contains a word, where the case of ASCII letters does not count: there is a front and a rest around it
+abbrev pub Mentions : List ℕ → List ℕ → Type 0
+Mentions text word =
+    (front : List ℕ) × (rest : List ℕ) × (map to_ascii_lowercase text ≡ front ++ (map to_ascii_lowercase word ++ rest))
+
+-- the four tests of section 3.1, in their order
+abbrev pub MeansInteger : List ℕ → Type 0
+MeansInteger type = Mentions type (codes "INT")
+
+abbrev pub MeansText : List ℕ → Type 0
+MeansText type = Mentions type (codes "CHAR") ⊎ (Mentions type (codes "CLOB") ⊎ Mentions type (codes "TEXT"))
+
+abbrev pub MeansBlob : List ℕ → Type 0
+MeansBlob type = Mentions type (codes "BLOB") ⊎ (type ≡ [])
+
+abbrev pub MeansReal : List ℕ → Type 0
+MeansReal type = Mentions type (codes "REAL") ⊎ (Mentions type (codes "FLOA") ⊎ Mentions type (codes "DOUB"))
+
+-- the affinity of a column by its declared type: the first test that holds decides, and NUMERIC where none does (section 3.1)
+abbrev pub HasAffinity : List ℕ → Affinity → Type 0
+HasAffinity type Integer = MeansInteger type
+HasAffinity type Text = (¬ MeansInteger type) × MeansText type
+HasAffinity type Blob = (¬ MeansInteger type) × (¬ MeansText type) × MeansBlob type
+HasAffinity type Real = (¬ MeansInteger type) × (¬ MeansText type) × (¬ MeansBlob type) × MeansReal type
+HasAffinity type Numeric = (¬ MeansInteger type) × (¬ MeansText type) × (¬ MeansBlob type) × (¬ MeansReal type)

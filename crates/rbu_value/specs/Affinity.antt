@@ -1,8 +1,11 @@
 -- The affinity of a column, and the values whose class it changes (Datatypes In SQLite, sections 3 and 3.1).
-use Rattle.std.specs.Prelude.{◌≡◌, ℕ, List, [], ◌++◌, ◌⊎◌, map, codes}
+use Rattle.std.specs.Prelude.{◌≡◌, ℕ, List, [], ◌++◌, ◌⊎◌, ⊤, map, codes}
 use Rattle.std.specs.Char.{to_ascii_lowercase}
 use Rattle.rbu_value.specs.declared.affinity.Affinity.{Affinity}
 use Rattle.rbu_value.specs.declared.affinity.Affinity.TheVariants.{Integer, Text, Blob, Real, Numeric}
+use Rattle.rbu_value.specs.declared.value.Value.{Value}
+use Rattle.rbu_value.specs.declared.value.Value.TheVariants.{Int, Text as TextValue}
+use Rattle.rbu_value.specs.NumericText.{IsNumericText}
 
 -- a text contains a word, where the case of ASCII letters does not count: there is a front and a rest around it
 abbrev pub Mentions : List ℕ → List ℕ → Type 0
@@ -29,3 +32,10 @@ HasAffinity type Text = (¬ MeansInteger type) × MeansText type
 HasAffinity type Blob = (¬ MeansInteger type) × (¬ MeansText type) × MeansBlob type
 HasAffinity type Real = (¬ MeansInteger type) × (¬ MeansText type) × (¬ MeansBlob type) × MeansReal type
 HasAffinity type Numeric = (¬ MeansInteger type) × (¬ MeansText type) × (¬ MeansBlob type) × (¬ MeansReal type)
+
+-- a column of this affinity stores the value in another class: TEXT an integer, and INTEGER and NUMERIC a text that is a number (section 3)
+abbrev pub ChangesClass : Value → Affinity → Type 0
+ChangesClass (Int z) Text = ⊤
+ChangesClass (TextValue text) Integer = IsNumericText text
+ChangesClass (TextValue text) Numeric = IsNumericText text
+ChangesClass _ _ = ⊥

@@ -1,7 +1,10 @@
 // The affinity of columns.
-ghost use Rattle.std.specs.Prelude.{◌≡◌, ◌<◌, ◌↔◌, ◌++◌, map, length, List, ℕ, IsTrue};
+ghost use Rattle.std.specs.Prelude.{◌≡◌, ◌<◌, ◌↔◌, ◌++◌, map, length, List, ℕ, IsTrue, IsFalse};
 ghost use Rattle.std.specs.Char.{to_ascii_lowercase};
-ghost use Rattle.rbu_value.specs.Affinity.{Mentions, MeansText, MeansBlob, MeansReal, HasAffinity};
+ghost use Rattle.rbu_value.specs.Affinity.{Mentions, MeansText, MeansBlob, MeansReal, HasAffinity, ChangesClass};
+
+use crate::Value;
+use crate::numeric::is_numeric;
 
 /// What a column prefers to store (Datatypes In SQLite, section 3).
 #[derive(Clone, Copy, Debug, PartialEq, Eq)]
@@ -27,6 +30,19 @@ pub fn affinity_of(type_text: &[u8]) -> Affinity
         Affinity::Real
     } else {
         Affinity::Numeric
+    }
+}
+
+/// Whether a column of this affinity stores the value in the value's own class (Datatypes In SQLite, section 3). It does not where it would make a text of an integer, or a number of a text.
+///
+/// An integer counts as kept under REAL, though SQLite would store it as a floating point value.
+pub fn keeps_class(value: &Value, affinity: Affinity) -> bool
+    ensures { IsFalse result ↔ ChangesClass value.now affinity }
+{
+    match (value, affinity) {
+        (Value::Int(_), Affinity::Text) => false,
+        (Value::Text(text), Affinity::Integer | Affinity::Numeric) => !is_numeric(text.as_slice()),
+        _ => true,
     }
 }
 

@@ -6,10 +6,11 @@
 
 mod affinity;
 mod bytes;
+mod numeric;
 mod order;
 mod value;
 
-pub use affinity::{Affinity, affinity_of};
+pub use affinity::{Affinity, affinity_of, keeps_class};
 pub use bytes::Bytes;
 pub use order::{Collation, compare, values_are_ordered};
 pub use value::Value;

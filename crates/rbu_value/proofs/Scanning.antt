@@ -6,8 +6,8 @@ use Rattle.std.proofs.lemmas.List.{append-nil, length-append}
 use Rattle.std.proofs.lemmas.List.Folds.{list_all-append}
 use Rattle.std.specs.Char.{is_ascii_digit}
 use Rattle.std.specs.List.{list_all}
-use Rattle.rbu_value.specs.NumericText.{is_space, is_sign, is_exponent_letter, IsSign, IsDecimal, IsExponent, IsScale, IsNumericText}
-use Rattle.rbu_value.specs.Scan.{skip_while, skip_one, Stops, Behind, TakesOff, EndsDecimal, EndsScale}
+use Rattle.rbu_value.specs.NumericText.{is_space, is_sign, is_exponent_letter, IsOptionalSign, IsDecimal, IsExponent, IsOptionalExponent, IsNumericText}
+use Rattle.rbu_value.specs.Scan.{skip_while, skip_one, Stops, Behind, TakesOff, EndsDecimal, EndsExponent}
 
 tail_of : (x y : ℕ) (xs ys : List ℕ) → x ∷ xs ≡ y ∷ ys → xs ≡ ys
 tail_of x y xs ys e = cc
@@ -67,11 +67,11 @@ spaces_end q h (x ∷ xs) a = h x (both (is_space x) (list_all is_space xs) a).0
 
 -- ---- signs
 
-pub sign_front : (text : List ℕ) → Behind IsSign text (skip_one is_sign text)
+pub sign_front : (text : List ℕ) → Behind IsOptionalSign text (skip_one is_sign text)
 sign_front text =
     elim (skip_one-front is_sign text) [ inl e ↦ ([], inl refl, e) | inr w ↦ (w.0 ∷ [], inr (w.0, w.1, refl), w.2) ]
 
-pub sign_only : (sign rest : List ℕ) → IsSign sign → Stops is_sign rest → skip_one is_sign (sign ++ rest) ≡ rest
+pub sign_only : (sign rest : List ℕ) → IsOptionalSign sign → Stops is_sign rest → skip_one is_sign (sign ++ rest) ≡ rest
 sign_only sign rest (inl e) s = ap (λ front. skip_one is_sign (front ++ rest)) e ∙ skip_one-none is_sign rest s
 sign_only sign rest (inr w) s = ap (λ front. skip_one is_sign (front ++ rest)) w.2 ∙ skip_one-some is_sign w.0 rest w.1
 
@@ -166,7 +166,7 @@ digit_no_sign : (b : ℕ) → is_ascii_digit b ≡ true → is_sign b ≡ false
 digit_no_sign b h = grind (arith, nat_tests)
 
 -- an exponent is found behind its letter and its sign
-pub exponent_only : (text power rest other : List ℕ) (b : ℕ) (behind : List ℕ) → text ≡ b ∷ behind → power ≡ skip_one is_sign behind → rest ≡ skip_while is_ascii_digit power → Behind IsExponent text other → EndsScale other → (rest ≡ other) × (length rest < length power)
+pub exponent_only : (text power rest other : List ℕ) (b : ℕ) (behind : List ℕ) → text ≡ b ∷ behind → power ≡ skip_one is_sign behind → rest ≡ skip_while is_ascii_digit power → Behind IsExponent text other → EndsExponent other → (rest ≡ other) × (length rest < length power)
 exponent_only text power rest other b behind e p r (front, is, e') ends =
     let same : behind ≡ is.sign ++ (is.power ++ other) = tail_of _ _ _ _ (sym e ∙ e' ∙ ap (λ x. x ++ other) is.spelled ∙ ap (λ x. is.letter ∷ x) (append_assoc is.sign is.power other)) in
     let unsigned : power ≡ is.power ++ other = p ∙ ap (skip_one is_sign) same ∙ sign_only is.sign (is.power ++ other) is.signed (Stops-all is_ascii_digit is_sign digit_no_sign is.power is.digits other (inl is.some)) in
@@ -174,7 +174,7 @@ exponent_only text power rest other b behind e p r (front, is, e') ends =
     (left, omega (arith, is.some, ap length unsigned ∙ length-append is.power other, ap length left))
 
 -- a letter, a sign or none and digits are an exponent
-pub exponent_front : (text power rest : List ℕ) (b : ℕ) (behind : List ℕ) → text ≡ b ∷ behind → is_exponent_letter b ≡ true → power ≡ skip_one is_sign behind → rest ≡ skip_while is_ascii_digit power → length rest < length power → Behind IsScale text rest
+pub exponent_front : (text power rest : List ℕ) (b : ℕ) (behind : List ℕ) → text ≡ b ∷ behind → is_exponent_letter b ≡ true → power ≡ skip_one is_sign behind → rest ≡ skip_while is_ascii_digit power → length rest < length power → Behind IsOptionalExponent text rest
 exponent_front text power rest b behind e letter p r some =
     let sign = sign_front behind in
     let digit = skip_while-front is_ascii_digit power in
@@ -191,20 +191,20 @@ no_exponent text other s (front, is, e) =
     false≢true (sym s' ∙ is.e)
 
 -- where no exponent has digits, none is taken
-pub scale_none : (text : List ℕ) → ((other : List ℕ) → Behind IsExponent text other → EndsScale other → ⊥) → TakesOff IsScale EndsScale text text
-scale_none text none = record { front = ([], inl refl, refl); only = λ other b ends. only other b ends }
+pub exponent_none : (text : List ℕ) → ((other : List ℕ) → Behind IsExponent text other → EndsExponent other → ⊥) → TakesOff IsOptionalExponent EndsExponent text text
+exponent_none text none = record { front = ([], inl refl, refl); only = λ other b ends. only other b ends }
   where
-    only : (other : List ℕ) → Behind IsScale text other → EndsScale other → text ≡ other
+    only : (other : List ℕ) → Behind IsOptionalExponent text other → EndsExponent other → text ≡ other
     only other (front, inl e, whole) ends = whole ∙ ap (λ x. x ++ other) e
     only other (front, inr is, whole) ends = absurd (none other (front, is, whole) ends)
 
 -- an exponent that has digits is taken
-pub scale_some : (text power rest : List ℕ) (b : ℕ) (behind : List ℕ) → text ≡ b ∷ behind → is_exponent_letter b ≡ true → power ≡ skip_one is_sign behind → rest ≡ skip_while is_ascii_digit power → length rest < length power → TakesOff IsScale EndsScale text rest
-scale_some text power rest b behind e letter p r some = record { front = exponent_front text power rest b behind e letter p r some; only = λ other b' ends. only other b' ends }
+pub exponent_some : (text power rest : List ℕ) (b : ℕ) (behind : List ℕ) → text ≡ b ∷ behind → is_exponent_letter b ≡ true → power ≡ skip_one is_sign behind → rest ≡ skip_while is_ascii_digit power → length rest < length power → TakesOff IsOptionalExponent EndsExponent text rest
+exponent_some text power rest b behind e letter p r some = record { front = exponent_front text power rest b behind e letter p r some; only = λ other b' ends. only other b' ends }
   where
-    only : (other : List ℕ) → Behind IsScale text other → EndsScale other → rest ≡ other
+    only : (other : List ℕ) → Behind IsOptionalExponent text other → EndsExponent other → rest ≡ other
     only other (front, inl nothing, whole) ends =
-        let begins : Stops (λ c. is_ascii_digit c || is_exponent_letter c) (b ∷ behind) = subst EndsScale (sym (whole ∙ ap (λ x. x ++ other) nothing) ∙ e) ends in
+        let begins : Stops (λ c. is_ascii_digit c || is_exponent_letter c) (b ∷ behind) = subst EndsExponent (sym (whole ∙ ap (λ x. x ++ other) nothing) ∙ e) ends in
         absurd (false≢true (sym (no_letter b begins) ∙ letter))
     only other (front, inr is, whole) ends = (exponent_only text power rest other b behind e p r (front, is, whole) ends).0
 
@@ -236,15 +236,15 @@ decimal_begins p digit point decimal rest is =
     ]
 
 -- a sign and what begins with no space begin with none
-sign_begins : (sign rest : List ℕ) → IsSign sign → Stops is_space rest → Stops is_space (sign ++ rest)
+sign_begins : (sign rest : List ℕ) → IsOptionalSign sign → Stops is_space rest → Stops is_space (sign ++ rest)
 sign_begins sign rest (inl e) s = subst (λ x. Stops is_space (x ++ rest)) (sym e) s
 sign_begins sign rest (inr w) s = subst (λ x. Stops is_space (x ++ rest)) (sym w.2) (sign_no_space w.0 w.1)
 
 -- what follows a decimal in a number ends it
-scale_ends : (scale after : List ℕ) → IsScale scale → list_all is_space after ≡ true → EndsDecimal (scale ++ after)
-scale_ends scale after (inl e) spaces =
+decimal_ends_there : (exponent after : List ℕ) → IsOptionalExponent exponent → list_all is_space after ≡ true → EndsDecimal (exponent ++ after)
+decimal_ends_there exponent after (inl e) spaces =
     subst (λ x. EndsDecimal (x ++ after)) (sym e) (spaces_end (λ b. is_ascii_digit b || is_point b) space_no_digit_or_point after spaces)
-scale_ends scale after (inr is) spaces = subst (λ x. EndsDecimal (x ++ after)) (sym is.spelled) (letter_no_digit_or_point is.letter is.e)
+decimal_ends_there exponent after (inr is) spaces = subst (λ x. EndsDecimal (x ++ after)) (sym is.spelled) (letter_no_digit_or_point is.letter is.e)
 
 -- a number has its parts where they are looked for
 pub record HasParts (text unsigned : List ℕ) : Type 0 where
@@ -252,13 +252,13 @@ pub record HasParts (text unsigned : List ℕ) : Type 0 where
   pub after : List ℕ
   pub decimal : Behind IsDecimal unsigned behind_decimal
   pub decimal_ends : EndsDecimal behind_decimal
-  pub scale : Behind IsScale behind_decimal after
-  pub scale_ends : EndsScale after
+  pub exponent : Behind IsOptionalExponent behind_decimal after
+  pub exponent_ends : EndsExponent after
   pub spaces : skip_while is_space after ≡ []
 
 pub parts_from_number : (text unspaced unsigned : List ℕ) → unspaced ≡ skip_while is_space text → unsigned ≡ skip_one is_sign unspaced → IsNumericText text → HasParts text unsigned
 parts_from_number text unspaced unsigned u s is =
-    let behind = is.scale ++ is.after in
+    let behind = is.exponent ++ is.after in
     let number = is.decimal ++ behind in
     let begins : Stops is_space (is.sign ++ number) = sign_begins is.sign number is.signed (decimal_begins is_space digit_no_space refl is.decimal behind is.number) in
     let first : unspaced ≡ is.sign ++ number = u ∙ ap (skip_while is_space) is.whole ∙ skip_while-all is_space is.before (is.sign ++ number) is.spaces_before begins in
@@ -267,31 +267,31 @@ parts_from_number text unspaced unsigned u s is =
       behind_decimal = behind;
       after = is.after;
       decimal = (is.decimal, is.number, second);
-      decimal_ends = scale_ends is.scale is.after is.scaled is.spaces_after;
-      scale = (is.scale, is.scaled, refl);
-      scale_ends = spaces_end (λ b. is_ascii_digit b || is_exponent_letter b) space_no_digit_or_letter is.after is.spaces_after;
+      decimal_ends = decimal_ends_there is.exponent is.after is.power is.spaces_after;
+      exponent = (is.exponent, is.power, refl);
+      exponent_ends = spaces_end (λ b. is_ascii_digit b || is_exponent_letter b) space_no_digit_or_letter is.after is.spaces_after;
       spaces = ap (skip_while is_space) (sym (append-nil is.after)) ∙ skip_while-all is_space is.after [] is.spaces_after tt;
     }
 
 -- the parts that were taken off make a number
-pub number_from_parts : (text unspaced unsigned behind_decimal after : List ℕ) → unspaced ≡ skip_while is_space text → unsigned ≡ skip_one is_sign unspaced → Behind IsDecimal unsigned behind_decimal → Behind IsScale behind_decimal after → skip_while is_space after ≡ [] → IsNumericText text
-number_from_parts text unspaced unsigned behind_decimal after u s (decimal, is_decimal, d) (scale, is_scale, p) empty =
+pub number_from_parts : (text unspaced unsigned behind_decimal after : List ℕ) → unspaced ≡ skip_while is_space text → unsigned ≡ skip_one is_sign unspaced → Behind IsDecimal unsigned behind_decimal → Behind IsOptionalExponent behind_decimal after → skip_while is_space after ≡ [] → IsNumericText text
+number_from_parts text unspaced unsigned behind_decimal after u s (decimal, is_decimal, d) (exponent, is_exponent, p) empty =
     let before = skip_while-front is_space text in
     let sign = sign_front unspaced in
     let last = skip_while-front is_space after in
     let e4 : after ≡ last.0 = last.2 ∙ ap (λ x. last.0 ++ x) empty ∙ append-nil last.0 in
-    let e3 : unsigned ≡ decimal ++ (scale ++ last.0) = d ∙ ap (λ x. decimal ++ x) (p ∙ ap (λ x. scale ++ x) e4) in
-    let e2 : unspaced ≡ sign.0 ++ (decimal ++ (scale ++ last.0)) = sign.2 ∙ ap (λ x. sign.0 ++ x) (sym s ∙ e3) in
+    let e3 : unsigned ≡ decimal ++ (exponent ++ last.0) = d ∙ ap (λ x. decimal ++ x) (p ∙ ap (λ x. exponent ++ x) e4) in
+    let e2 : unspaced ≡ sign.0 ++ (decimal ++ (exponent ++ last.0)) = sign.2 ∙ ap (λ x. sign.0 ++ x) (sym s ∙ e3) in
     record {
       before = before.0;
       sign = sign.0;
       decimal = decimal;
-      scale = scale;
+      exponent = exponent;
       after = last.0;
       whole = before.2 ∙ ap (λ x. before.0 ++ x) (sym u ∙ e2);
       spaces_before = before.1;
       signed = sign.1;
       number = is_decimal;
-      scaled = is_scale;
+      power = is_exponent;
       spaces_after = last.1;
     }

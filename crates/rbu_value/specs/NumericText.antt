@@ -17,10 +17,10 @@ abbrev pub is_exponent_letter : ℕ → Bool
 is_exponent_letter b = (b == 101) || (b == 69)
 
 -- one sign or none
-abbrev pub IsSign : List ℕ → Type 0
-IsSign sign = (sign ≡ []) ⊎ ((byte : ℕ) × IsTrue (is_sign byte) × (sign ≡ byte ∷ []))
+abbrev pub IsOptionalSign : List ℕ → Type 0
+IsOptionalSign sign = (sign ≡ []) ⊎ ((byte : ℕ) × IsTrue (is_sign byte) × (sign ≡ byte ∷ []))
 
--- digits, at least one, with at most one point before, among or after them
+-- digits, at least one, with at most one point before, among or behind them
 pub record IsDecimal (text : List ℕ) : Type 0 where
   pub whole : List ℕ
   pub fraction : List ℕ
@@ -34,25 +34,25 @@ pub record IsExponent (text : List ℕ) : Type 0 where
   pub sign : List ℕ
   pub power : List ℕ
   pub e : IsTrue (is_exponent_letter letter)
-  pub signed : IsSign sign
+  pub signed : IsOptionalSign sign
   pub digits : IsTrue (list_all is_ascii_digit power)
   pub some : 0 < length power
   pub spelled : text ≡ letter ∷ (sign ++ power)
 
 -- one exponent or none
-abbrev pub IsScale : List ℕ → Type 0
-IsScale text = (text ≡ []) ⊎ IsExponent text
+abbrev pub IsOptionalExponent : List ℕ → Type 0
+IsOptionalExponent text = (text ≡ []) ⊎ IsExponent text
 
 -- A text is a number: white space, a sign or none, a decimal, an exponent or none, and white space.
 pub record IsNumericText (text : List ℕ) : Type 0 where
   pub before : List ℕ
   pub sign : List ℕ
   pub decimal : List ℕ
-  pub scale : List ℕ
+  pub exponent : List ℕ
   pub after : List ℕ
-  pub whole : text ≡ before ++ (sign ++ (decimal ++ (scale ++ after)))
+  pub whole : text ≡ before ++ (sign ++ (decimal ++ (exponent ++ after)))
   pub spaces_before : IsTrue (list_all is_space before)
-  pub signed : IsSign sign
+  pub signed : IsOptionalSign sign
   pub number : IsDecimal decimal
-  pub scaled : IsScale scale
+  pub power : IsOptionalExponent exponent
   pub spaces_after : IsTrue (list_all is_space after)

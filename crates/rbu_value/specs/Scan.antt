@@ -32,5 +32,5 @@ abbrev pub EndsDecimal : List ℕ → Type 0
 EndsDecimal = Stops (λ b. is_ascii_digit b || (b == 46))
 
 -- an exponent, or none, ends before what is neither a digit nor the letter of an exponent
-abbrev pub EndsScale : List ℕ → Type 0
-EndsScale = Stops (λ b. is_ascii_digit b || is_exponent_letter b)
+abbrev pub EndsExponent : List ℕ → Type 0
+EndsExponent = Stops (λ b. is_ascii_digit b || is_exponent_letter b)

@@ -1,7 +1,7 @@
 // The affinity of columns.
 ghost use Rattle.std.specs.Prelude.{◌≡◌, ◌<◌, ◌↔◌, ◌++◌, map, length, List, ℕ, IsTrue, IsFalse};
 ghost use Rattle.std.specs.Char.{to_ascii_lowercase};
-ghost use Rattle.rbu_value.specs.Affinity.{Mentions, MeansText, MeansBlob, MeansReal, HasAffinity, ChangesClass};
+ghost use Rattle.rbu_value.specs.Affinity.{Mentions, MeansInteger, MeansText, MeansBlob, MeansReal, HasAffinity, ChangesClass};
 
 use crate::Value;
 use crate::numeric::is_numeric;
@@ -20,7 +20,7 @@ pub enum Affinity {
 pub fn affinity_of(type_text: &[u8]) -> Affinity
     ensures { (affinity : Affinity) → (result ≡ affinity) ↔ HasAffinity type_text.now affinity }
 {
-    if mentions(type_text, b"INT") {
+    if means_integer(type_text) {
         Affinity::Integer
     } else if means_text(type_text) {
         Affinity::Text
@@ -44,6 +44,12 @@ pub fn keeps_class(value: &Value, affinity: Affinity) -> bool
         (Value::Text(text), Affinity::Integer | Affinity::Numeric) => !is_numeric(text.as_slice()),
         _ => true,
     }
+}
+
+fn means_integer(type_text: &[u8]) -> bool
+    ensures { IsTrue result ↔ MeansInteger type_text.now }
+{
+    mentions(type_text, b"INT")
 }
 
 fn means_text(type_text: &[u8]) -> bool

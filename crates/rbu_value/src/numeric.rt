@@ -1,8 +1,8 @@
 // Texts that are numbers, read from their front in one pass.
 ghost use Rattle.std.specs.Prelude.{◌≡◌, ◌≤◌, ◌==◌, ◌↔◌, List, ℕ, IsTrue, MatchOption, length};
 ghost use Rattle.std.specs.Char.{is_ascii_digit};
-ghost use Rattle.rbu_value.specs.NumericText.{is_space, is_sign, IsDecimal, IsScale, IsNumericText};
-ghost use Rattle.rbu_value.specs.Scan.{skip_while, skip_one, Behind, TakesOff, EndsDecimal, EndsScale};
+ghost use Rattle.rbu_value.specs.NumericText.{is_space, is_sign, IsDecimal, IsOptionalExponent, IsNumericText};
+ghost use Rattle.rbu_value.specs.Scan.{skip_while, skip_one, Behind, TakesOff, EndsDecimal, EndsExponent};
 
 /// The text is a number as SQLite reads one (Datatypes In SQLite, section 3), with white space at its ends or without.
 pub(crate) fn is_numeric(text: &[u8]) -> bool
@@ -11,7 +11,7 @@ pub(crate) fn is_numeric(text: &[u8]) -> bool
     let unspaced = skip_spaces(text);
     let unsigned = skip_sign(unspaced);
     match skip_decimal(unsigned) {
-        Some(rest) => skip_spaces(skip_scale(rest)).is_empty(),
+        Some(rest) => skip_spaces(skip_exponent(rest)).is_empty(),
         None => false,
     }
 }
@@ -30,8 +30,8 @@ fn skip_decimal(text: &[u8]) -> Option<&[u8]>
 }
 
 // The text behind an exponent, or the text where it begins with none.
-fn skip_scale(text: &[u8]) -> &[u8]
-    ensures { TakesOff IsScale EndsScale text.now result.now }
+fn skip_exponent(text: &[u8]) -> &[u8]
+    ensures { TakesOff IsOptionalExponent EndsExponent text.now result.now }
 {
     let [b'e' | b'E', behind_letter @ ..] = text else {
         return text;

@@ -11,16 +11,16 @@ returns-in-Some c =
     let unspaced = c.skip_spaces-unspaced.result.now in
     let unsigned = c.skip_sign-unsigned.result.now in
     let rest = c.in-Some.rest.now in
-    let after = c.skip_scale.result.now in
+    let after = c.skip_exponent.result.now in
     let left = c.skip_spaces.result.now in
     let parts = parts_from_number text unspaced unsigned c.skip_spaces-unspaced.ensures c.skip_sign-unsigned.ensures in (
       λ e.
           let empty : left ≡ [] = nil_from_length left (eqb-true (length left) 0 (sym c.is_empty.ensures ∙ e)) in
-          number_from_parts text unspaced unsigned rest after c.skip_spaces-unspaced.ensures c.skip_sign-unsigned.ensures c.in-Some.ensures.front c.skip_scale.ensures.front (sym c.skip_spaces.ensures ∙ empty),
+          number_from_parts text unspaced unsigned rest after c.skip_spaces-unspaced.ensures c.skip_sign-unsigned.ensures c.in-Some.ensures.front c.skip_exponent.ensures.front (sym c.skip_spaces.ensures ∙ empty),
       λ is.
           let p = parts is in
           let first : rest ≡ p.behind_decimal = c.in-Some.ensures.only p.behind_decimal p.decimal p.decimal_ends in
-          let second : after ≡ p.after = c.skip_scale.ensures.only p.after (p.scale.0, p.scale.1, first ∙ p.scale.2) p.scale_ends in
+          let second : after ≡ p.after = c.skip_exponent.ensures.only p.after (p.exponent.0, p.exponent.1, first ∙ p.exponent.2) p.exponent_ends in
           c.is_empty.ensures ∙ ap (λ x. eqb (length x) 0) (c.skip_spaces.ensures ∙ ap (skip_while is_space) second ∙ p.spaces),
     )
 

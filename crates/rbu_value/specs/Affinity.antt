@@ -12,16 +12,19 @@ abbrev pub Mentions : List ℕ → List ℕ → Type 0
 Mentions text word =
     (front : List ℕ) × (rest : List ℕ) × (map to_ascii_lowercase text ≡ front ++ (map to_ascii_lowercase word ++ rest))
 
--- the four tests of section 3.1, in their order
+-- the first test of section 3.1: the declared type contains INT
 abbrev pub MeansInteger : List ℕ → Type 0
 MeansInteger type = Mentions type (codes "INT")
 
+-- the second test: it contains CHAR, CLOB or TEXT
 abbrev pub MeansText : List ℕ → Type 0
 MeansText type = Mentions type (codes "CHAR") ⊎ (Mentions type (codes "CLOB") ⊎ Mentions type (codes "TEXT"))
 
+-- the third test: it contains BLOB, or there is no type
 abbrev pub MeansBlob : List ℕ → Type 0
 MeansBlob type = Mentions type (codes "BLOB") ⊎ (type ≡ [])
 
+-- the fourth test: it contains REAL, FLOA or DOUB
 abbrev pub MeansReal : List ℕ → Type 0
 MeansReal type = Mentions type (codes "REAL") ⊎ (Mentions type (codes "FLOA") ⊎ Mentions type (codes "DOUB"))
 

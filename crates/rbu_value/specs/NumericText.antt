@@ -43,7 +43,7 @@ pub record IsExponent (text : List ℕ) : Type 0 where
 abbrev pub IsOptionalExponent : List ℕ → Type 0
 IsOptionalExponent text = (text ≡ []) ⊎ IsExponent text
 
--- A text is a number: white space, a sign or none, a decimal, an exponent or none, and white space.
+-- A text is a number: white space, a sign or none, a decimal, an exponent or none, and white space (Datatypes In SQLite, section 3).
 pub record IsNumericText (text : List ℕ) : Type 0 where
   pub before : List ℕ
   pub sign : List ℕ

@@ -34,7 +34,7 @@ pub fn compare(a: &Value, b: &Value, collation: Collation) -> Ordering
     }
 }
 
-/// Under each collation the values are in a total order, up to the values that it holds equal. BINARY holds no two values equal.
+/// Under each collation the values are in a total order, up to the values that it holds equal. BINARY holds no two different values equal.
 pub fn values_are_ordered()
     ensures total { (collation : Collation) → IsTotalOrder (value_cmp collation) }
     ensures reflexive { (collation : Collation) (a : Value) → value_cmp collation a a ≡ Ordering.Equal }

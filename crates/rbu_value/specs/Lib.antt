@@ -1,0 +1,6 @@
+pub mod Affinity
+pub mod AffinityLaws
+pub mod NumericText
+pub mod Order
+pub mod OrderLaws
+pub mod Scan

@@ -1,0 +1,17 @@
+//! Reads and writes the database header, the first 100 bytes of a database (Database File Format, section 1.3).
+//!
+//! The layer above reads a header by `read_header`, which answers the first fault of a file that cannot be used, and writes its
+//! fields into page 1 by `write_header`.
+//!
+//! The fields' places are said by `Header` in the `specs/` of `format_spec`. This crate's `specs/` have `Reading`, which says what a
+//! header reads as and when each fault comes, `Writing`, the bytes after a write, and `HeaderLaws`, which proofs above cite.
+//! `header_has_one_reading` and `written_header_is_read` promise the main laws.
+#![tactic(auto)]
+
+mod fields;
+mod reading;
+mod writing;
+
+pub use fields::{Header, HeaderFault};
+pub use reading::read_header;
+pub use writing::write_header;

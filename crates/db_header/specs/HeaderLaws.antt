@@ -1,10 +1,15 @@
 -- What follows from the definitions of the header alone: crates above cite these facts in their proofs.
-use Rattle.std.proofs.Common.{◌≡◌, ℕ, ◌<◌, List, inl, inr, refl, sym, ap, ap₂, ◌∙◌, subst, arith}
+use Rattle.std.proofs.Common.{◌/◌, ◌≤◌, ◌==◌, ◌&&◌, nat_lt, if◌then◌else◌, ◌*◌, [], ◌∷◌, length, take, drop, ◌≡◌, ℕ, ◌<◌, List, inl, inr, refl, sym, ap, ap₂, ◌∙◌, subst, arith}
+use Rattle.std.proofs.lemmas.Bool.Decides.{nat_tests}
+use Rattle.format_spec.specs.Numbers.{number_at}
+use Rattle.format_spec.specs.Header.{page_size, reserved, change_counter, pages, version_valid_for, largest_root, text_encoding, schema_format}
+use Rattle.db_header.specs.NumberLaws.{Field, FitIn, number_of, number_at-with_fields, length-with_fields, take-with_fields, drop-with_fields}
+use Rattle.db_header.specs.Writing.{header_written, IsHeader}
 use Rattle.std.proofs.lemmas.Bool.{cases_lt}
 use Rattle.db_header.specs.declared.fields.Header.{Header}
 use Rattle.db_header.specs.declared.fields.HeaderFault.{HeaderFault}
 use Rattle.db_header.specs.declared.fields.HeaderFault.TheVariants.{NotADatabase, PageSize, WalMode, Encoding, AutoVacuum, SizeMismatch, ReservedSpace, SchemaFormat}
-use Rattle.db_header.specs.Reading.{IsPageSize, IsSupported, HasItsPages, HasFault, fault_order, IsFirstFault, Reads, counted_pages}
+use Rattle.db_header.specs.Reading.{IsDatabase, HasRollbackVersions, read_format, IsPageSize, IsSupported, HasItsPages, HasFault, fault_order, IsFirstFault, Reads, counted_pages}
 
 -- a header that can be read has no fault but that of its size
 pub supported-no_fault : (bytes : List ℕ) (file_len : ℕ) (fault : HeaderFault) → IsSupported bytes → fault_order fault < 7 → ¬ HasFault bytes file_len fault
@@ -71,3 +76,140 @@ first-size_mismatch bytes file_len ok wrong = record {
   holds = (refl, refl, wrong);
   first = λ other early has. supported-no_fault bytes file_len other ok early has;
 }
+
+-- the fields of a header, the first to be written last
+abbrev pub header_fields : Header → List Field
+header_fields header =
+    record { at = 92; size = 4; value = header.change_counter }
+    ∷ record { at = 44; size = 4; value = header.format }
+    ∷ record { at = 40; size = 4; value = header.schema_cookie }
+    ∷ record { at = 36; size = 4; value = header.freelist_pages }
+    ∷ record { at = 32; size = 4; value = header.freelist_trunk }
+    ∷ record { at = 28; size = 4; value = header.pages }
+    ∷ record { at = 24; size = 4; value = header.change_counter }
+    ∷ record { at = 20; size = 1; value = header.reserved }
+    ∷ record { at = 16; size = 2; value = header.page_size }
+    ∷ []
+
+-- the fields fit the first 100 bytes
+header_fields_fit : (header : Header) (long : ℕ) → IsHeader header → 100 ≤ long → FitIn long (header_fields header)
+header_fields_fit header long ok room = (
+  record { inside = omega arith; below = ok.change_counter },
+  (
+    record { inside = omega arith; below = omega (arith, ok.most_format) },
+    (
+      record { inside = omega arith; below = ok.schema_cookie },
+      (
+        record { inside = omega arith; below = ok.freelist_pages },
+        (
+          record { inside = omega arith; below = ok.freelist_trunk },
+          (
+            record { inside = omega arith; below = omega (arith, ok.page_limit) },
+            (
+              record { inside = omega arith; below = ok.change_counter },
+              (
+                record { inside = omega arith; below = ok.reserved },
+                (
+                  record { inside = omega arith; below = omega (arith, ok.size.most) },
+                  tt,
+                ),
+              ),
+            ),
+          ),
+        ),
+      ),
+    ),
+  ),
+)
+
+-- the number at a place after a header is written
+pub number_at-header_written : (place size : ℕ) (header : Header) (bytes : List ℕ) → IsHeader header → 100 ≤ length bytes
+    → number_at place size (header_written header bytes) ≡ number_of place size (header_fields header) bytes
+unfolding header_written
+number_at-header_written place size header bytes ok long =
+    number_at-with_fields place size (header_fields header) bytes (header_fields_fit header (length bytes) ok long)
+
+-- the size that is written is valid
+pub valid-header_written : (header : Header) (bytes : List ℕ) → IsHeader header → 100 ≤ length bytes
+    → version_valid_for (header_written header bytes) ≡ change_counter (header_written header bytes)
+valid-header_written header bytes ok long =
+    let written : version_valid_for (header_written header bytes) ≡ header.change_counter = number_at-header_written 92 4 header bytes ok long in
+    written ∙ sym (number_at-header_written 24 4 header bytes ok long)
+
+-- a header leaves the length
+pub length-header_written : (header : Header) (bytes : List ℕ) → IsHeader header → 100 ≤ length bytes → length (header_written header bytes) ≡ length bytes
+unfolding header_written
+length-header_written header bytes ok long = length-with_fields (header_fields header) bytes (header_fields_fit header (length bytes) ok long)
+
+-- a header leaves the bytes behind it
+pub drop-header_written : (header : Header) (bytes : List ℕ) → IsHeader header → 100 ≤ length bytes → drop 100 (header_written header bytes) ≡ drop 100 bytes
+unfolding header_written
+drop-header_written header bytes ok long =
+    drop-with_fields 100 (header_fields header) bytes (header_fields_fit header (length bytes) ok long)
+    (omega arith, (omega arith, (omega arith, (omega arith, (omega arith, (omega arith, (omega arith, (omega arith, (omega arith, tt)))))))))
+
+-- a header leaves the magic text
+take-header_written : (header : Header) (bytes : List ℕ) → IsHeader header → 100 ≤ length bytes → take 16 (header_written header bytes) ≡ take 16 bytes
+unfolding header_written
+take-header_written header bytes ok long =
+    take-with_fields 16 (header_fields header) bytes (header_fields_fit header (length bytes) ok long)
+    (omega arith, (omega arith, (omega arith, (omega arith, (omega arith, (omega arith, (omega arith, (omega arith, (omega arith, tt)))))))))
+
+-- a size that is valid counts
+counted-valid : (pages valid_for counter quotient : ℕ) → 0 < pages → valid_for ≡ counter
+    → (if nat_lt 0 pages && (valid_for == counter) then pages else quotient) ≡ pages
+counted-valid pages valid_for counter quotient some valid = grind (arith, nat_tests)
+
+-- a format that is written is read
+read_format-some : (number : ℕ) → 1 ≤ number → read_format number ≡ number
+read_format-some number some = grind (arith, nat_tests)
+
+-- a header that was written is read again
+pub reads-header_written : (header : Header) (bytes : List ℕ) (file_len : ℕ)
+    → IsDatabase bytes → HasRollbackVersions bytes → text_encoding bytes ≤ 1 → largest_root bytes ≡ 0
+    → IsHeader header → header.pages * header.page_size ≤ file_len
+    → Reads (header_written header bytes) file_len header
+reads-header_written header bytes file_len database versions utf8 no_auto_vacuum ok long =
+    let new = header_written header bytes in
+    let stays = λ (place size : ℕ). number_at-header_written place size header bytes ok database.long in
+    let page_size_is : page_size new ≡ header.page_size = stays 16 2 in
+    let reserved_is : reserved new ≡ header.reserved = stays 20 1 in
+    let change_counter_is : change_counter new ≡ header.change_counter = stays 24 4 in
+    let pages_is : pages new ≡ header.pages = stays 28 4 in
+    let format_is : schema_format new ≡ header.format = stays 44 4 in
+    let valid : version_valid_for new ≡ header.change_counter = stays 92 4 in
+    let encoding_is : text_encoding new ≡ text_encoding bytes = stays 56 4 in
+    let counted : counted_pages new file_len ≡ header.pages =
+    counted-valid (pages new) (version_valid_for new) (change_counter new) (file_len / page_size new) (omega (arith, ok.some_page)) (valid ∙ sym change_counter_is) ∙ pages_is in
+    let product : counted_pages new file_len * page_size new ≡ header.pages * header.page_size = ap₂ (λ (a b : ℕ). a * b) counted page_size_is in
+    let P : ℕ → Type 0 = IsPageSize in
+    record {
+      supported = record {
+        database = record {
+          long = omega (arith, length-header_written header bytes ok database.long, database.long);
+          magic = take-header_written header bytes ok database.long ∙ database.magic;
+          max_fraction_is = stays 21 1 ∙ database.max_fraction_is;
+          min_fraction_is = stays 22 1 ∙ database.min_fraction_is;
+          leaf_fraction_is = stays 23 1 ∙ database.leaf_fraction_is;
+        };
+        size = subst P (sym page_size_is) ok.size;
+        versions = record { write = stays 18 1 ∙ versions.write; read = stays 19 1 ∙ versions.read };
+        usable = omega (arith, ok.usable);
+        known_format = omega (arith, ok.most_format);
+        utf8 = omega arith;
+        no_auto_vacuum = stays 52 4 ∙ no_auto_vacuum;
+      };
+      whole = record {
+        some = omega (arith, ok.some_page);
+        limit = omega (arith, ok.page_limit);
+        long = omega arith;
+      };
+      page_size_is = sym page_size_is;
+      reserved_is = sym reserved_is;
+      change_counter_is = sym change_counter_is;
+      pages_is = sym counted;
+      freelist_trunk_is = sym (stays 32 4);
+      freelist_pages_is = sym (stays 36 4);
+      schema_cookie_is = sym (stays 40 4);
+      format_is = sym (read_format-some header.format ok.least_format) ∙ ap read_format (sym format_is);
+    }

@@ -9,9 +9,11 @@
 #![tactic(auto)]
 
 mod fields;
+mod laws;
 mod reading;
 mod writing;
 
 pub use fields::{Header, HeaderFault};
+pub use laws::{header_has_one_reading, written_header_is_read};
 pub use reading::read_header;
 pub use writing::write_header;

@@ -3,7 +3,7 @@ use Rattle.std.proofs.Common.{◌/◌, ◌≤◌, ◌==◌, ◌&&◌, nat_lt, if
 use Rattle.std.proofs.lemmas.Bool.Decides.{nat_tests}
 use Rattle.format_spec.specs.Numbers.{number_at}
 use Rattle.format_spec.specs.Header.{page_size, reserved, change_counter, pages, version_valid_for, largest_root, text_encoding, schema_format}
-use Rattle.db_header.specs.NumberLaws.{Field, FitIn, number_of, number_at-with_fields, length-with_fields, take-with_fields, drop-with_fields}
+use Rattle.db_header.specs.NumberLaws.{Field, AllUpTo, AllFit, number_of, number_at-with_fields, length-with_fields, take-with_fields, drop-with_fields}
 use Rattle.db_header.specs.Writing.{header_written, IsHeader}
 use Rattle.std.proofs.lemmas.Bool.{cases_lt}
 use Rattle.db_header.specs.declared.fields.Header.{Header}
@@ -91,26 +91,30 @@ header_fields header =
     ∷ record { at = 16; size = 2; value = header.page_size }
     ∷ []
 
--- the fields fit the first 100 bytes
-header_fields_fit : (header : Header) (long : ℕ) → IsHeader header → 100 ≤ long → FitIn long (header_fields header)
-header_fields_fit header long ok room = (
-  record { inside = omega arith; below = ok.change_counter },
+-- the fields lie in the first 100 bytes
+header_fields_inside : (header : Header) (long : ℕ) → 100 ≤ long → AllUpTo long (header_fields header)
+header_fields_inside header long room = (omega arith, (omega arith, (omega arith, (omega arith, (omega arith, (omega arith, (omega arith, (omega arith, (omega arith, tt)))))))))
+
+-- the fields' numbers fit their sizes
+header_fields_fit : (header : Header) → IsHeader header → AllFit (header_fields header)
+header_fields_fit header ok = (
+  ok.change_counter,
   (
-    record { inside = omega arith; below = omega (arith, ok.most_format) },
+    omega (arith, ok.most_format),
     (
-      record { inside = omega arith; below = ok.schema_cookie },
+      ok.schema_cookie,
       (
-        record { inside = omega arith; below = ok.freelist_pages },
+        ok.freelist_pages,
         (
-          record { inside = omega arith; below = ok.freelist_trunk },
+          ok.freelist_trunk,
           (
-            record { inside = omega arith; below = omega (arith, ok.page_limit) },
+            omega (arith, ok.page_limit),
             (
-              record { inside = omega arith; below = ok.change_counter },
+              ok.change_counter,
               (
-                record { inside = omega arith; below = ok.reserved },
+                ok.reserved,
                 (
-                  record { inside = omega arith; below = omega (arith, ok.size.most) },
+                  omega (arith, ok.size.most),
                   tt,
                 ),
               ),
@@ -127,7 +131,7 @@ pub number_at-header_written : (place size : ℕ) (header : Header) (bytes : Lis
     → number_at place size (header_written header bytes) ≡ number_of place size (header_fields header) bytes
 unfolding header_written
 number_at-header_written place size header bytes ok long =
-    number_at-with_fields place size (header_fields header) bytes (header_fields_fit header (length bytes) ok long)
+    number_at-with_fields place size (header_fields header) bytes (header_fields_inside header (length bytes) long) (header_fields_fit header ok)
 
 -- the size that is written is valid
 pub valid-header_written : (header : Header) (bytes : List ℕ) → IsHeader header → 100 ≤ length bytes
@@ -137,22 +141,21 @@ valid-header_written header bytes ok long =
     written ∙ sym (number_at-header_written 24 4 header bytes ok long)
 
 -- a header leaves the length
-pub length-header_written : (header : Header) (bytes : List ℕ) → IsHeader header → 100 ≤ length bytes → length (header_written header bytes) ≡ length bytes
+pub length-header_written : (header : Header) (bytes : List ℕ) → 100 ≤ length bytes → length (header_written header bytes) ≡ length bytes
 unfolding header_written
-length-header_written header bytes ok long = length-with_fields (header_fields header) bytes (header_fields_fit header (length bytes) ok long)
+length-header_written header bytes long = length-with_fields (header_fields header) bytes (header_fields_inside header (length bytes) long)
 
 -- a header leaves the bytes behind it
-pub drop-header_written : (header : Header) (bytes : List ℕ) → IsHeader header → 100 ≤ length bytes → drop 100 (header_written header bytes) ≡ drop 100 bytes
+pub drop-header_written : (header : Header) (bytes : List ℕ) → 100 ≤ length bytes → drop 100 (header_written header bytes) ≡ drop 100 bytes
 unfolding header_written
-drop-header_written header bytes ok long =
-    drop-with_fields 100 (header_fields header) bytes (header_fields_fit header (length bytes) ok long)
-    (omega arith, (omega arith, (omega arith, (omega arith, (omega arith, (omega arith, (omega arith, (omega arith, (omega arith, tt)))))))))
+drop-header_written header bytes long =
+    drop-with_fields 100 (header_fields header) bytes (header_fields_inside header (length bytes) long) (header_fields_inside header 100 (omega arith))
 
 -- a header leaves the magic text
-take-header_written : (header : Header) (bytes : List ℕ) → IsHeader header → 100 ≤ length bytes → take 16 (header_written header bytes) ≡ take 16 bytes
+take-header_written : (header : Header) (bytes : List ℕ) → 100 ≤ length bytes → take 16 (header_written header bytes) ≡ take 16 bytes
 unfolding header_written
-take-header_written header bytes ok long =
-    take-with_fields 16 (header_fields header) bytes (header_fields_fit header (length bytes) ok long)
+take-header_written header bytes long =
+    take-with_fields 16 (header_fields header) bytes (header_fields_inside header (length bytes) long)
     (omega arith, (omega arith, (omega arith, (omega arith, (omega arith, (omega arith, (omega arith, (omega arith, (omega arith, tt)))))))))
 
 -- a size that is valid counts
@@ -186,8 +189,8 @@ reads-header_written header bytes file_len database versions utf8 no_auto_vacuum
     record {
       supported = record {
         database = record {
-          long = omega (arith, length-header_written header bytes ok database.long, database.long);
-          magic = take-header_written header bytes ok database.long ∙ database.magic;
+          long = omega (arith, length-header_written header bytes database.long, database.long);
+          magic = take-header_written header bytes database.long ∙ database.magic;
           max_fraction_is = stays 21 1 ∙ database.max_fraction_is;
           min_fraction_is = stays 22 1 ∙ database.min_fraction_is;
           leaf_fraction_is = stays 23 1 ∙ database.leaf_fraction_is;

@@ -88,14 +88,20 @@ abbrev pub with_fields : List Field → List ℕ → List ℕ
 with_fields [] bytes = bytes
 with_fields (f ∷ fs) bytes = with_number_at f.at f.size f.value (with_fields fs bytes)
 
--- a field lies within so many bytes, and its number in its size
-pub record FitsIn (long : ℕ) (f : Field) : Type 0 where
-  pub inside : f.at + f.size ≤ long
-  pub below : f.value < 256 ^ f.size
+-- each field's number fits its size
+abbrev pub AllFit : List Field → Type 0
+AllFit [] = Unit {0}
+AllFit (f ∷ fs) = (f.value < 256 ^ f.size) × AllFit fs
 
-abbrev pub FitIn : ℕ → List Field → Type 0
-FitIn long [] = Unit {0}
-FitIn long (f ∷ fs) = FitsIn long f × FitIn long fs
+-- each field begins at a place or behind it
+abbrev pub AllFrom : ℕ → List Field → Type 0
+AllFrom m [] = Unit {0}
+AllFrom m (f ∷ fs) = (m ≤ f.at) × AllFrom m fs
+
+-- each field ends at a place or in front of it
+abbrev pub AllUpTo : ℕ → List Field → Type 0
+AllUpTo m [] = Unit {0}
+AllUpTo m (f ∷ fs) = (f.at + f.size ≤ m) × AllUpTo m fs
 
 -- the number at a place after several are written, as far as no two of them overlap
 abbrev pub number_of : ℕ → ℕ → List Field → List ℕ → ℕ
@@ -105,11 +111,11 @@ number_of place size (f ∷ fs) bytes =
     else if nat_le (place + size) f.at || nat_le (f.at + f.size) place then number_of place size fs bytes
     else number_at place size (with_fields (f ∷ fs) bytes)
 
-pub length-with_fields : (fs : List Field) (bytes : List ℕ) → FitIn (length bytes) fs → length (with_fields fs bytes) ≡ length bytes
-length-with_fields [] bytes fit = refl
-length-with_fields (f ∷ fs) bytes fit =
-    let rest = length-with_fields fs bytes fit.1 in
-    length-with_number_at f.at f.size f.value (with_fields fs bytes) (omega (arith, fit.0.inside, rest)) ∙ rest
+pub length-with_fields : (fs : List Field) (bytes : List ℕ) → AllUpTo (length bytes) fs → length (with_fields fs bytes) ≡ length bytes
+length-with_fields [] bytes inside = refl
+length-with_fields (f ∷ fs) bytes inside =
+    let rest = length-with_fields fs bytes inside.1 in
+    length-with_number_at f.at f.size f.value (with_fields fs bytes) (omega (arith, inside.0, rest)) ∙ rest
 
 -- a value that each of two tests tells
 chosen : (b c : Bool) (l x y : ℕ) → (b ≡ true → l ≡ x) → (c ≡ true → l ≡ y) → l ≡ (if b then x else if c then y else l)
@@ -128,38 +134,30 @@ one_below a b c d test =
     ]
 
 -- the number at a place after several are written
-pub number_at-with_fields : (place size : ℕ) (fs : List Field) (bytes : List ℕ) → FitIn (length bytes) fs
+pub number_at-with_fields : (place size : ℕ) (fs : List Field) (bytes : List ℕ) → AllUpTo (length bytes) fs → AllFit fs
     → number_at place size (with_fields fs bytes) ≡ number_of place size fs bytes
-number_at-with_fields place size [] bytes fit = refl
-number_at-with_fields place size (f ∷ fs) bytes fit =
-    let room : f.at + f.size ≤ length (with_fields fs bytes) = omega (arith, fit.0.inside, length-with_fields fs bytes fit.1) in
+number_at-with_fields place size [] bytes inside fit = refl
+number_at-with_fields place size (f ∷ fs) bytes inside fit =
+    let room : f.at + f.size ≤ length (with_fields fs bytes) = omega (arith, inside.0, length-with_fields fs bytes inside.1) in
     chosen ((f.at == place) && (f.size == size)) (nat_le (place + size) f.at || nat_le (f.at + f.size) place)
     (number_at place size (with_fields (f ∷ fs) bytes)) f.value (number_of place size fs bytes)
     (λ test.
     let same = both_equal f.at place f.size size test in
     ap₂ (λ (a n : ℕ). number_at a n (with_fields (f ∷ fs) bytes)) (sym same.0) (sym same.1)
-    ∙ number_at-same f.at f.size f.value (with_fields fs bytes) room fit.0.below)
+    ∙ number_at-same f.at f.size f.value (with_fields fs bytes) room fit.0)
     (λ test.
     number_at-apart f.at f.size f.value place size (with_fields fs bytes) room (one_below (place + size) f.at (f.at + f.size) place test)
-    ∙ number_at-with_fields place size fs bytes fit.1)
+    ∙ number_at-with_fields place size fs bytes inside.1 fit.1)
 
 -- the bytes in front of several numbers, and those behind them, stay
-abbrev pub AllFrom : ℕ → List Field → Type 0
-AllFrom m [] = Unit {0}
-AllFrom m (f ∷ fs) = (m ≤ f.at) × AllFrom m fs
+pub take-with_fields : (m : ℕ) (fs : List Field) (bytes : List ℕ) → AllUpTo (length bytes) fs → AllFrom m fs → take m (with_fields fs bytes) ≡ take m bytes
+take-with_fields m [] bytes inside from = refl
+take-with_fields m (f ∷ fs) bytes inside from =
+    take-with_number_at f.at f.size f.value m (with_fields fs bytes) (omega (arith, inside.0, length-with_fields fs bytes inside.1)) from.0
+    ∙ take-with_fields m fs bytes inside.1 from.1
 
-abbrev pub AllUpTo : ℕ → List Field → Type 0
-AllUpTo m [] = Unit {0}
-AllUpTo m (f ∷ fs) = (f.at + f.size ≤ m) × AllUpTo m fs
-
-pub take-with_fields : (m : ℕ) (fs : List Field) (bytes : List ℕ) → FitIn (length bytes) fs → AllFrom m fs → take m (with_fields fs bytes) ≡ take m bytes
-take-with_fields m [] bytes fit from = refl
-take-with_fields m (f ∷ fs) bytes fit from =
-    take-with_number_at f.at f.size f.value m (with_fields fs bytes) (omega (arith, fit.0.inside, length-with_fields fs bytes fit.1)) from.0
-    ∙ take-with_fields m fs bytes fit.1 from.1
-
-pub drop-with_fields : (m : ℕ) (fs : List Field) (bytes : List ℕ) → FitIn (length bytes) fs → AllUpTo m fs → drop m (with_fields fs bytes) ≡ drop m bytes
-drop-with_fields m [] bytes fit up_to = refl
-drop-with_fields m (f ∷ fs) bytes fit up_to =
-    drop-with_number_at f.at f.size f.value m (with_fields fs bytes) (omega (arith, fit.0.inside, length-with_fields fs bytes fit.1)) up_to.0
-    ∙ drop-with_fields m fs bytes fit.1 up_to.1
+pub drop-with_fields : (m : ℕ) (fs : List Field) (bytes : List ℕ) → AllUpTo (length bytes) fs → AllUpTo m fs → drop m (with_fields fs bytes) ≡ drop m bytes
+drop-with_fields m [] bytes inside up_to = refl
+drop-with_fields m (f ∷ fs) bytes inside up_to =
+    drop-with_number_at f.at f.size f.value m (with_fields fs bytes) (omega (arith, inside.0, length-with_fields fs bytes inside.1)) up_to.0
+    ∙ drop-with_fields m fs bytes inside.1 up_to.1

@@ -22,6 +22,6 @@ pub fn written_header_is_read()
         → Reads (header_written header bytes) file_len header }
     ensures valid { (header : Header) (bytes : List ℕ) → IsHeader header → 100 ≤ length bytes
         → version_valid_for (header_written header bytes) ≡ change_counter (header_written header bytes) }
-    ensures long { (header : Header) (bytes : List ℕ) → IsHeader header → 100 ≤ length bytes → length (header_written header bytes) ≡ length bytes }
-    ensures behind { (header : Header) (bytes : List ℕ) → IsHeader header → 100 ≤ length bytes → drop 100 (header_written header bytes) ≡ drop 100 bytes }
+    ensures long { (header : Header) (bytes : List ℕ) → 100 ≤ length bytes → length (header_written header bytes) ≡ length bytes }
+    ensures behind { (header : Header) (bytes : List ℕ) → 100 ≤ length bytes → drop 100 (header_written header bytes) ≡ drop 100 bytes }
 {}

@@ -17,3 +17,6 @@ pub use fields::{Header, HeaderFault};
 pub use laws::{header_has_one_reading, written_header_is_read};
 pub use reading::read_header;
 pub use writing::write_header;
+
+#[cfg(test)]
+mod tests;

@@ -62,7 +62,7 @@ fn is_database(bytes: &[u8]) -> bool
 }
 
 // Whether pages may have this size.
-fn is_page_size(size: u16) -> bool
+fn is_page_size(size: u64) -> bool
     ensures { IsTrue result ↔ IsPageSize size }
 {
     matches!(size, 512 | 1024 | 2048 | 4096 | 8192 | 16384 | 32768)
@@ -105,37 +105,29 @@ fn check_supported(bytes: &[u8]) -> Result<(), HeaderFault>
     if !is_database(bytes) {
         return Err(HeaderFault::NotADatabase);
     }
-    let page_size = u16_at(bytes, 16);
+    let page_size = u64::from(u16_at(bytes, 16));
     if !is_page_size(page_size) {
-        return Err(HeaderFault::PageSize {
-            value: page_size.into(),
-        });
+        return Err(HeaderFault::PageSize { value: page_size });
     }
     if !has_rollback_versions(bytes) {
         return Err(HeaderFault::WalMode);
     }
-    let reserved = u8_at(bytes, 20);
-    if page_size - u16::from(reserved) < 480 {
-        return Err(HeaderFault::ReservedSpace {
-            value: reserved.into(),
-        });
+    let reserved = u64::from(u8_at(bytes, 20));
+    if page_size - reserved < 480 {
+        return Err(HeaderFault::ReservedSpace { value: reserved });
     }
-    let format = u32_at(bytes, 44);
+    let format = u64::from(u32_at(bytes, 44));
     if format > 4 {
-        return Err(HeaderFault::SchemaFormat {
-            value: format.into(),
-        });
+        return Err(HeaderFault::SchemaFormat { value: format });
     }
-    let encoding = u32_at(bytes, 56);
+    let encoding = u64::from(u32_at(bytes, 56));
     if encoding > 1 {
-        return Err(HeaderFault::Encoding {
-            value: encoding.into(),
-        });
+        return Err(HeaderFault::Encoding { value: encoding });
     }
-    let largest_root = u32_at(bytes, 52);
+    let largest_root = u64::from(u32_at(bytes, 52));
     if largest_root != 0 {
         return Err(HeaderFault::AutoVacuum {
-            value: largest_root.into(),
+            value: largest_root,
         });
     }
     Ok(())

@@ -1,6 +1,8 @@
 -- What follows from the definitions of the header alone: crates above cite these facts in their proofs.
-use Rattle.std.proofs.Common.{◌/◌, ◌≤◌, ◌==◌, ◌&&◌, nat_lt, if◌then◌else◌, ◌*◌, [], ◌∷◌, length, take, drop, ◌≡◌, ℕ, ◌<◌, List, inl, inr, refl, sym, ap, ap₂, ◌∙◌, subst, arith}
+use Rattle.std.proofs.Common.{◌+◌, ◌^◌, slice_index, ◌/◌, ◌≤◌, ◌==◌, ◌&&◌, nat_lt, if◌then◌else◌, ◌*◌, [], ◌∷◌, length, take, drop, ◌≡◌, ℕ, ◌<◌, List, inl, inr, refl, sym, ap, ap₂, ◌∙◌, subst, arith}
 use Rattle.std.proofs.lemmas.Bool.Decides.{nat_tests}
+use Rattle.std.proofs.lemmas.List.{get_or-drop}
+use Rattle.byteorder.specs.Numbers.{big_from-lt}
 use Rattle.format_spec.specs.Numbers.{number_at}
 use Rattle.format_spec.specs.Header.{page_size, reserved, change_counter, pages, version_valid_for, largest_root, text_encoding, schema_format}
 use Rattle.db_header.specs.NumberLaws.{Field, AllUpTo, AllFit, number_of, number_at-with_fields, length-with_fields, take-with_fields, drop-with_fields}
@@ -215,4 +217,34 @@ reads-header_written header bytes file_len database versions utf8 no_auto_vacuum
       freelist_pages_is = sym (stays 36 4);
       schema_cookie_is = sym (stays 40 4);
       format_is = sym (read_format-some header.format ok.least_format) ∙ ap read_format (sym format_is);
+    }
+
+-- a number in n bytes
+number_at-lt : (place n : ℕ) (bytes : List ℕ) → ((k : ℕ) → slice_index bytes k < 256) → number_at place n bytes < 256 ^ n
+number_at-lt place n bytes each = big_from-lt 0 n (drop place bytes) (λ k.
+    let e = get_or-drop place bytes k 0 in
+    let P : ℕ → Type 0 = λ b. b < 256 in
+    subst P (sym e) (each (place + k)))
+
+-- a format that is read is one that can be written
+read_format-range : (number : ℕ) → number ≤ 4 → (1 ≤ read_format number) × (read_format number ≤ 4)
+read_format-range number most = (grind (arith, nat_tests), grind (arith, nat_tests))
+
+-- a header that is read can be written
+pub is_header-read : (bytes : List ℕ) (file_len : ℕ) (header : Header) → ((k : ℕ) → slice_index bytes k < 256) → Reads bytes file_len header → IsHeader header
+is_header-read bytes file_len header each reads =
+    let format = read_format-range (schema_format bytes) reads.supported.known_format in
+    let P : ℕ → Type 0 = IsPageSize in
+    record {
+      size = subst P (sym reads.page_size_is) reads.supported.size;
+      reserved = omega (arith, reads.reserved_is, number_at-lt 20 1 bytes each);
+      usable = omega (arith, reads.page_size_is, reads.reserved_is, reads.supported.usable);
+      change_counter = omega (arith, reads.change_counter_is, number_at-lt 24 4 bytes each);
+      some_page = omega (arith, reads.pages_is, reads.whole.some);
+      page_limit = omega (arith, reads.pages_is, reads.whole.limit);
+      freelist_trunk = omega (arith, reads.freelist_trunk_is, number_at-lt 32 4 bytes each);
+      freelist_pages = omega (arith, reads.freelist_pages_is, number_at-lt 36 4 bytes each);
+      schema_cookie = omega (arith, reads.schema_cookie_is, number_at-lt 40 4 bytes each);
+      least_format = omega (arith, reads.format_is, format.0);
+      most_format = omega (arith, reads.format_is, format.1);
     }

@@ -1,5 +1,5 @@
 // Laws about the definitions of the header.
-ghost use Rattle.std.specs.Prelude.{◌≡◌, ◌*◌, ◌≤◌, ℕ, List, length, drop};
+ghost use Rattle.std.specs.Prelude.{◌≡◌, ◌*◌, ◌<◌, ◌≤◌, ℕ, List, length, drop, slice_index};
 ghost use Rattle.format_spec.specs.Header.{largest_root, text_encoding, change_counter, version_valid_for};
 ghost use Rattle.db_header.specs.declared.fields.Header.{Header};
 ghost use Rattle.db_header.specs.declared.fields.HeaderFault.{HeaderFault};
@@ -13,7 +13,12 @@ pub fn header_has_one_reading()
     ensures one_of_both { (bytes : List ℕ) (file_len : ℕ) (h : Header) (f : HeaderFault) → Reads bytes file_len h → IsFirstFault bytes file_len f → ⊥ }
 {}
 
-/// A header that is written into the page 1 of a database is read again, in a file that has its pages. The size is valid, the length
+/// A header that is read from bytes can be written.
+pub fn read_header_can_be_written()
+    ensures { (bytes : List ℕ) (file_len : ℕ) (header : Header) → ((k : ℕ) → slice_index bytes k < 256) → Reads bytes file_len header → IsHeader header }
+{}
+
+/// A header that is written into page 1 of a database is read again, in a file that has its pages. The size is valid, the length
 /// of the page stays, and so does what stands behind the header.
 pub fn written_header_is_read()
     ensures read { (header : Header) (bytes : List ℕ) (file_len : ℕ)

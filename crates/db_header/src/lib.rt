@@ -14,7 +14,7 @@ mod reading;
 mod writing;
 
 pub use fields::{Header, HeaderFault};
-pub use laws::{header_has_one_reading, written_header_is_read};
+pub use laws::{header_has_one_reading, read_header_can_be_written, written_header_is_read};
 pub use reading::read_header;
 pub use writing::write_header;
 

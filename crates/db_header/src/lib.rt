@@ -4,8 +4,9 @@
 //! fields into page 1 by `write_header`.
 //!
 //! The fields' places are said by `Header` in the `specs/` of `format_spec`. This crate's `specs/` have `Reading`, which says what a
-//! header reads as and when each fault comes, `Writing`, the bytes after a write, and `HeaderLaws`, which proofs above cite.
-//! `header_has_one_reading` and `written_header_is_read` promise the main laws.
+//! header reads as and when each fault comes, and in which order, and `Writing`, the bytes after a write. Proofs above cite
+//! `HeaderLaws`, and `NumberLaws` for numbers that are written at places of a page. The functions without parameters promise the
+//! main laws: a file has one reading, a header that is read can be written, and a header that is written is read again.
 #![tactic(auto)]
 
 mod fields;

@@ -1,0 +1,43 @@
+-- What an answer of `read_header` leaves no room for.
+use Rattle.std.proofs.Common.{◌≡◌, ℕ, ◌*◌, ◌^◌, ◌<◌, ◌≤◌, max, List, Result, Ok, Err, sym, ap, ap₂, subst, arith}
+use Rattle.std.proofs.lemmas.Bool.Decides.{nat_tests}
+use Rattle.std.specs.Prelude.{MatchResult}
+use Rattle.format_spec.specs.Header.{page_size}
+use Rattle.db_header.specs.declared.fields.Header.{Header}
+use Rattle.db_header.specs.declared.fields.HeaderFault.{HeaderFault}
+use Rattle.db_header.specs.declared.fields.HeaderFault.TheVariants.{SizeMismatch}
+use Rattle.db_header.specs.Reading.{IsSupported, HasItsPages, counted_pages, read_format, Reads, IsFirstFault}
+use Rattle.db_header.specs.HeaderLaws.{reads-no_fault, same_first_fault, same_header, first-size_mismatch}
+
+abbrev pub Answers : List ℕ → ℕ → Result Header HeaderFault → Type 0
+Answers bytes file_len result = MatchResult result (Reads bytes file_len) (IsFirstFault bytes file_len)
+
+pub accepted : (bytes : List ℕ) (file_len : ℕ) (result : Result Header HeaderFault) → Answers bytes file_len result → (header : Header) → Reads bytes file_len header → result ≡ Ok header
+accepted bytes file_len (Ok other) answer header reads = ap Ok (same_header bytes file_len other header answer reads)
+accepted bytes file_len (Err fault) answer header reads = absurd (reads-no_fault bytes file_len header fault reads answer.holds)
+
+pub refused : (bytes : List ℕ) (file_len : ℕ) (result : Result Header HeaderFault) → Answers bytes file_len result → (fault : HeaderFault) → IsFirstFault bytes file_len fault → result ≡ Err fault
+refused bytes file_len (Ok header) answer fault first = absurd (reads-no_fault bytes file_len header fault answer first.holds)
+refused bytes file_len (Err other) answer fault first = ap Err (same_first_fault bytes file_len other fault answer first)
+
+-- the pages that count, as they were computed
+abbrev pub HasPages : ℕ → ℕ → ℕ → Type 0
+HasPages pages size file_len = (0 < pages) × (pages ≤ 2 ^ 24) × (pages * size ≤ file_len)
+
+pub has_its_pages : (bytes : List ℕ) (file_len pages size : ℕ) → pages ≡ counted_pages bytes file_len → size ≡ page_size bytes → HasPages pages size file_len → HasItsPages bytes file_len
+has_its_pages bytes file_len pages size pages_is size_is has =
+    let product : pages * size ≡ counted_pages bytes file_len * page_size bytes = ap₂ (λ (a b : ℕ). a * b) pages_is size_is in
+    record { some = omega (arith, has.0); limit = omega (arith, has.1); long = omega (arith, has.2) }
+
+pub no_pages : (bytes : List ℕ) (file_len pages size : ℕ) → pages ≡ counted_pages bytes file_len → size ≡ page_size bytes
+    → IsSupported bytes → (HasPages pages size file_len → ⊥) → IsFirstFault bytes file_len (SizeMismatch pages file_len)
+no_pages bytes file_len pages size pages_is size_is ok lacks =
+    let product : pages * size ≡ counted_pages bytes file_len * page_size bytes = ap₂ (λ (a b : ℕ). a * b) pages_is size_is in
+    let first : IsFirstFault bytes file_len (SizeMismatch (counted_pages bytes file_len) file_len) =
+    first-size_mismatch bytes file_len ok (λ has. lacks (omega (arith, has.some), omega (arith, has.limit), omega (arith, has.long))) in
+    let P : ℕ → Type 0 = λ n. IsFirstFault bytes file_len (SizeMismatch n file_len) in
+    subst P (sym pages_is) first
+
+-- the greater of a schema format and 1
+pub read_format-max : (number : ℕ) → max number 1 ≡ read_format number
+read_format-max number = grind (arith, nat_tests)

@@ -1,4 +1,13 @@
-//! The commands of the program.
+//! The commands of the program, from the words in to the line out.
+//!
+//! The layer above makes a disk and an output, and calls `run_command`; `Ran` hands the disk back with the status.
+//! What words, answers and lines mean is said by `Words`, `Answer` and `Text` in the `specs/` of `update_spec`, and in
+//! this crate's `specs/` by:
+//!
+//! - `Status`: what each status of a command says;
+//! - `Told`: how an answer is told by the status and the output;
+//! - `Inspection`, `Handover`, `Halt`: what is known of the files, how new pages reach the target, and what ends a call
+//!   before its outcome.
 #![tactic(auto)]
 
 mod files;
@@ -10,6 +19,4 @@ mod text;
 mod update;
 mod words;
 
-pub use inspect::Inspected;
 pub use run::{Ran, run_command};
-pub use words::command_of;

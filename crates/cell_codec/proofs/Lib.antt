@@ -1,4 +1,5 @@
 pub mod Reading
 pub mod Writing
 pub mod CellReading
+pub mod KindReading
 pub mod CellWriting

@@ -31,7 +31,7 @@ returns-clause-written c =
     let first : IsWrittenTo old one payload i = record { size = sym c.put_varint-rowid_at.ensures.length; written = c.put_varint-rowid_at.ensures.written } in
     let second : IsWrittenTo old two (payload ++ rowid) (i + j) = next_lent old one payload rowid c.put_varint.new.into i j first (sym c.put_varint.ensures.length) c.put_varint.ensures.written in
     let third : IsWrittenTo old three (payload ++ rowid ++ local) (i + j + m) = next_copied old two (payload ++ rowid) local c.copy_from_slice.new.self (i + j) m second refl c.copy_from_slice.ensures.after in
-    let fourth = next_lent old three (payload ++ rowid ++ local) overflow c.put_overflow.new.into (i + j + m) n third (length-bytes_high_first n cell.overflow) c.put_overflow.ensures in
+    let fourth = next_lent old three (payload ++ rowid ++ local) overflow c.put_page_number.new.into (i + j + m) n third (length-bytes_high_first n cell.overflow) c.put_page_number.ensures in
     let group : payload ++ rowid ++ local ++ overflow ≡ payload ++ (rowid ++ (local ++ overflow)) = simp append_assoc in
     fourth.written ∙ ap (λ s. s ++ drop (i + j + m + n) old) group
     ∙ ap (λ k. payload ++ (rowid ++ (local ++ big_bytes k cell.overflow)) ++ drop (i + j + m + n) old) c.overflow_size-overflow_length.ensures.value

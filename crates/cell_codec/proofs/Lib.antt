@@ -1,5 +1,6 @@
 pub mod Reading
 pub mod Writing
 pub mod CellReading
-pub mod KindReading
+pub mod InteriorReading
+pub mod IndexReading
 pub mod CellWriting

@@ -2,11 +2,13 @@
 use Rattle.std.specs.Prelude.{◌≡◌, ℕ, ℤ, pos, ◌+◌, ◌^◌, ◌<◌, ◌≤◌, List, length, take, drop}
 use Rattle.std.specs.Int.{w64, cast_unsigned}
 use Rattle.std.specs.Int.RustNames.{FitsSigned}
+use Rattle.byteorder.specs.Endian.{big_number}
 use Rattle.format_spec.specs.declared.PageKind.{PageKind}
 use Rattle.format_spec.specs.declared.PageKind.TheVariants.{IndexInterior, TableInterior, IndexLeaf, TableLeaf}
 use Rattle.format_spec.specs.declared.CellView.{CellView}
 use Rattle.format_spec.specs.Varint.{IsVarint, varint}
-use Rattle.format_spec.specs.Cell.{IsCell, payload_limit, local_size, cell_bytes, table_leaf_cell}
+use Rattle.format_spec.specs.Cell.{IsCell, payload_limit, local_size, overflow_size, cell_bytes, table_leaf_cell}
+use Rattle.cell_codec.specs.declared.cell.LocalPart.{LocalPart}
 
 -- the bytes begin with a cell
 abbrev pub BeginsWithCell : PageKind → ℕ → List ℕ → CellView → Type 0
@@ -22,6 +24,17 @@ BeginsOverLimit TableLeaf bytes = BeginsWithLengthOver bytes
 BeginsOverLimit TableInterior bytes = ⊥
 BeginsOverLimit IndexLeaf bytes = BeginsWithLengthOver bytes
 BeginsOverLimit IndexInterior bytes = BeginsWithLengthOver (drop 4 bytes)
+
+-- how many bytes of a cell the local part of a payload takes, with those that name the first overflow page
+abbrev pub part_size : PageKind → ℕ → ℕ → ℕ
+part_size kind usable payload = local_size kind usable payload + overflow_size (local_size kind usable payload) payload
+
+-- the bytes begin with the local part of a payload
+pub record IsLocalPart (kind : PageKind) (usable payload : ℕ) (bytes : List ℕ) (part : LocalPart) : Type 0 where
+  pub local : part.local ≡ local_size kind usable payload
+  pub size : part.size ≡ part.local + overflow_size part.local payload
+  pub within : part.size ≤ length bytes
+  pub overflow : part.overflow ≡ big_number (overflow_size part.local payload) (take (overflow_size part.local payload) (drop part.local bytes))
 
 -- the fields that the kind lacks are 0
 abbrev pub LackedAreZero : PageKind → CellView → Type 0

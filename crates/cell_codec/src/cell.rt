@@ -1,5 +1,5 @@
 // The cells of b-tree pages.
-ghost use Rattle.std.specs.Prelude.{◌≡◌, [], ◌+◌, ◌-◌, ◌<◌, ◌≤◌, ◌⊎◌, ◌↔◌, ◌++◌, ℕ, ℤ, List, IfOk, length, take, drop};
+ghost use Rattle.std.specs.Prelude.{◌≡◌, [], ◌+◌, ◌-◌, ◌<◌, ◌≤◌, ◌⊎◌, ◌↔◌, ◌++◌, ℕ, ℤ, List, IfOk, IfSome, IsNone, length, take, drop};
 ghost use Rattle.std.specs.Int.{w64};
 ghost use Rattle.std.specs.Int.RustNames.{FitsSigned};
 ghost use Rattle.byteorder.specs.Endian.{big_bytes, big_number};
@@ -7,8 +7,8 @@ ghost use Rattle.format_spec.specs.declared.CellView.{CellView};
 ghost use Rattle.format_spec.specs.declared.PageKind.{PageKind};
 ghost use Rattle.format_spec.specs.declared.PageKind.TheVariants.{IndexInterior, TableInterior, IndexLeaf, TableLeaf};
 ghost use Rattle.format_spec.specs.Cell.{IsCell, IsTableInteriorCell, IsIndexCell, payload_limit, max_local as local_limit, local_size as local_bytes, child_size as child_bytes, overflow_size as overflow_bytes, cell_bytes, index_cell_bytes, table_leaf_cell};
-ghost use Rattle.format_spec.specs.Varint.{varint};
-ghost use Rattle.cell_codec.specs.Cells.{BeginsWithCell, BeginsWithLengthOver, BeginsOverLimit, IsWritable, whole_cell};
+ghost use Rattle.format_spec.specs.Varint.{IsVarint, varint};
+ghost use Rattle.cell_codec.specs.Cells.{BeginsWithCell, BeginsWithLengthOver, BeginsOverLimit, part_size, IsLocalPart, IsWritable, whole_cell};
 
 use crate::varint::{read_varint, varint_length, write_varint};
 use byteorder::{BigEndian, ByteOrder};
@@ -91,6 +91,48 @@ fn read_page_number(bytes: &[u8]) -> u32
     }
 }
 
+// The length of a payload at the front of the bytes, and how many bytes spell it.
+fn read_payload_length(bytes: &[u8]) -> Result<(u64, usize), CellFault>
+    ensures found { IfOk result (λ found. (found.1 ≤ length bytes.now) × IsVarint (take found.1 bytes.now) found.0 × (found.0 ≤ payload_limit)) }
+    ensures only { (value n : ℕ) → n ≤ length bytes.now → IsVarint (take n bytes.now) value → value ≤ payload_limit → result ≡ Ok (value, n) }
+    ensures over { (result ≡ Err CellFault.SizeOverLimit) ↔ BeginsWithLengthOver bytes.now }
+{
+    let (payload, size) = read_varint(bytes).ok_or(CellFault::ShortCell)?;
+    if payload > PAYLOAD_LIMIT {
+        return Err(CellFault::SizeOverLimit);
+    }
+    Ok((payload, size))
+}
+
+// What a cell keeps of a payload.
+#[derive(Clone, Copy)]
+struct LocalPart {
+    // How many bytes it takes, with those that name the first overflow page.
+    size: usize,
+    local: u32,
+    overflow: u32,
+}
+
+// The local part of a payload at the front of the bytes, or `None` where they end inside it.
+fn read_local_part(kind: PageKind, usable: u32, payload: u64, bytes: &[u8]) -> Option<LocalPart>
+    requires least { 480 ≤ usable }
+    requires most { usable ≤ 32768 }
+    ensures found { IfSome result (IsLocalPart kind usable payload bytes.now) }
+    ensures none { IsNone result ↔ (length bytes.now < part_size kind usable payload) }
+{
+    let local = local_size(kind, usable, payload);
+    let overflow_at = local as usize;
+    let size = overflow_at + overflow_size(local, payload);
+    if bytes.len() < size {
+        return None;
+    }
+    Some(LocalPart {
+        size,
+        local,
+        overflow: read_page_number(&bytes[overflow_at..size]),
+    })
+}
+
 fn read_table_leaf_cell(usable: u32, bytes: &[u8]) -> Result<CellView, CellFault>
     requires least { 480 ≤ usable }
     requires most { usable ≤ 32768 }
@@ -98,26 +140,20 @@ fn read_table_leaf_cell(usable: u32, bytes: &[u8]) -> Result<CellView, CellFault
     ensures only { (cell : CellView) → BeginsWithCell TableLeaf usable bytes.now cell → result ≡ Ok cell }
     ensures over { (result ≡ Err CellFault.SizeOverLimit) ↔ BeginsWithLengthOver bytes.now }
 {
-    let (payload, rowid_at) = read_varint(bytes).ok_or(CellFault::ShortCell)?;
-    if payload > PAYLOAD_LIMIT {
-        return Err(CellFault::SizeOverLimit);
-    }
-    let (rowid, rowid_length) = read_varint(&bytes[rowid_at..]).ok_or(CellFault::ShortCell)?;
-    let local_at = rowid_at + rowid_length;
-    let local = local_size(PageKind::TableLeaf, usable, payload);
-    let overflow_at = local_at + local as usize;
-    let size = overflow_at + overflow_size(local, payload);
-    if bytes.len() < size {
-        return Err(CellFault::ShortCell);
-    }
+    let (payload, rowid_at) = read_payload_length(bytes)?;
+    let (rowid, rowid_size) = read_varint(&bytes[rowid_at..]).ok_or(CellFault::ShortCell)?;
+    let local_at = rowid_at + rowid_size;
+    let part = read_local_part(PageKind::TableLeaf, usable, payload, &bytes[local_at..]).ok_or(
+        CellFault::ShortCell,
+    )?;
     Ok(CellView {
-        size: size as u32,
+        size: (local_at + part.size) as u32,
         rowid: rowid.cast_signed(),
         child: 0,
         payload,
         local_at: local_at as u32,
-        local,
-        overflow: read_page_number(&bytes[overflow_at..size]),
+        local: part.local,
+        overflow: part.overflow,
     })
 }
 
@@ -129,8 +165,8 @@ fn read_table_interior_cell(bytes: &[u8]) -> Result<CellView, CellFault>
     if bytes.len() < 4 {
         return Err(CellFault::ShortCell);
     }
-    let (rowid, rowid_length) = read_varint(&bytes[4..]).ok_or(CellFault::ShortCell)?;
-    let size = 4 + rowid_length;
+    let (rowid, rowid_size) = read_varint(&bytes[4..]).ok_or(CellFault::ShortCell)?;
+    let size = 4 + rowid_size;
     Ok(CellView {
         size: size as u32,
         rowid: rowid.cast_signed(),
@@ -153,25 +189,19 @@ fn read_index_cell(kind: PageKind, usable: u32, bytes: &[u8]) -> Result<CellView
     if bytes.len() < payload_at {
         return Err(CellFault::ShortCell);
     }
-    let (payload, payload_length) = read_varint(&bytes[payload_at..]).ok_or(CellFault::ShortCell)?;
-    if payload > PAYLOAD_LIMIT {
-        return Err(CellFault::SizeOverLimit);
-    }
-    let local_at = payload_at + payload_length;
-    let local = local_size(kind, usable, payload);
-    let overflow_at = local_at + local as usize;
-    let size = overflow_at + overflow_size(local, payload);
-    if bytes.len() < size {
-        return Err(CellFault::ShortCell);
-    }
+    let (payload, payload_size) = read_payload_length(&bytes[payload_at..])?;
+    let local_at = payload_at + payload_size;
+    let part = read_local_part(kind, usable, payload, &bytes[local_at..]).ok_or(
+        CellFault::ShortCell,
+    )?;
     Ok(CellView {
-        size: size as u32,
+        size: (local_at + part.size) as u32,
         rowid: 0,
         child: read_page_number(&bytes[..payload_at]),
         payload,
         local_at: local_at as u32,
-        local,
-        overflow: read_page_number(&bytes[overflow_at..size]),
+        local: part.local,
+        overflow: part.overflow,
     })
 }
 
@@ -243,6 +273,20 @@ fn put_page_number(page: u32, size: usize, into: &mut [u8])
     }
 }
 
+// Writes the local part of a payload at the front of the buffer, and answers its length.
+fn put_local_part(cell: &CellView, local: &[u8], into: &mut [u8]) -> usize
+    requires local { length local.now ≡ cell.now.local }
+    requires room { cell.now.local + overflow_bytes cell.now.local cell.now.payload ≤ length into.old }
+    ensures length { result ≡ cell.now.local + overflow_bytes cell.now.local cell.now.payload }
+    ensures written { into.new ≡ local.now ++ big_bytes (overflow_bytes cell.now.local cell.now.payload) cell.now.overflow ++ drop result into.old }
+{
+    let overflow_at = local.len();
+    into[..overflow_at].copy_from_slice(local);
+    let overflow_length = overflow_size(cell.local, cell.payload);
+    put_page_number(cell.overflow, overflow_length, &mut into[overflow_at..]);
+    overflow_at + overflow_length
+}
+
 #[tactic(auto, using(crate::specs::CellLaws::cell_bytes_size))]
 fn write_table_leaf_cell(cell: &CellView, local: &[u8], into: &mut [u8]) -> usize
     requires local { length local.now ≡ cell.now.local }
@@ -252,11 +296,7 @@ fn write_table_leaf_cell(cell: &CellView, local: &[u8], into: &mut [u8]) -> usiz
 {
     let rowid_at = put_varint(cell.payload, into);
     let local_at = rowid_at + put_varint(cell.rowid.cast_unsigned(), &mut into[rowid_at..]);
-    let overflow_at = local_at + local.len();
-    into[local_at..overflow_at].copy_from_slice(local);
-    let overflow_length = overflow_size(cell.local, cell.payload);
-    put_page_number(cell.overflow, overflow_length, &mut into[overflow_at..]);
-    overflow_at + overflow_length
+    local_at + put_local_part(cell, local, &mut into[local_at..])
 }
 
 #[tactic(auto, using(crate::specs::CellLaws::table_interior_cell_bytes_size))]
@@ -279,11 +319,7 @@ fn write_index_cell(kind: PageKind, cell: &CellView, local: &[u8], into: &mut [u
     let payload_at = child_size(kind);
     put_page_number(cell.child, payload_at, into);
     let local_at = payload_at + put_varint(cell.payload, &mut into[payload_at..]);
-    let overflow_at = local_at + local.len();
-    into[local_at..overflow_at].copy_from_slice(local);
-    let overflow_length = overflow_size(cell.local, cell.payload);
-    put_page_number(cell.overflow, overflow_length, &mut into[overflow_at..]);
-    overflow_at + overflow_length
+    local_at + put_local_part(cell, local, &mut into[local_at..])
 }
 
 /// Writes a cell's shortest spelling, with the local part of its payload, at the front of the buffer, and answers its length. `cell_length` tells beforehand whether it fits. The view's `size`, `local_at` and `child` are not read.

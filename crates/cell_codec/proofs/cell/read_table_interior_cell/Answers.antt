@@ -6,7 +6,7 @@ use Rattle.std.specs.Int.RustNames.{FitsSigned}
 use Rattle.byteorder.specs.Endian.{big_number}
 use Rattle.format_spec.specs.declared.CellView.{CellView}
 use Rattle.cell_codec.proofs.CellReading.{BeginsWithNone, begins_with_none, varint_is}
-use Rattle.cell_codec.proofs.KindReading.{BeginsWithInterior, same_first_interior, no_interior_rowid, interior_read}
+use Rattle.cell_codec.proofs.InteriorReading.{BeginsWithInterior, same_first_interior, no_interior_rowid, interior_read}
 use Rattle.cell_codec.proofs.cell.read_table_interior_cell.Goals as goal
 
 pub returns-in_err-rowid-clause-only : goal.returns-in_err-rowid-clause-only
@@ -19,7 +19,7 @@ pub returns : goal.returns
 returns c =
     let bytes = c.args.bytes.now in
     let number = c.in_ok-rowid.rowid in
-    let j = c.in_ok-rowid.rowid_length in
+    let j = c.in_ok-rowid.rowid_size in
     let w = varint_is bytes (slice_range bytes 4 (length bytes)) 4 c.read_varint.result number j (take_rest bytes 4) c.in_ok-rowid.ensures.ok_part c.read_varint.ensures.found in
     let fits : FitsSigned w64 c.cast_signed.result = search rules in
     let cell : CellView = record {

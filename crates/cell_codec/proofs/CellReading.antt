@@ -1,16 +1,21 @@
 -- The bytes that begin with a cell, part by part.
-use Rattle.std.proofs.Common.{◌≡◌, ℕ, ◌+◌, ◌<◌, ◌≤◌, List, ◌++◌, Option, Some, None, length, take, drop, refl, sym, ◌∙◌, ap, subst, append_assoc, length-append, arith}
+use Rattle.std.proofs.Common.{◌≡◌, ℕ, ℤ, ◌+◌, ◌<◌, ◌≤◌, ◌↔◌, List, ◌++◌, Option, Some, None, Result, Ok, Err, IfSome, IsNone, length, take, drop, refl, sym, ◌∙◌, ap, subst, append_assoc, length-append, arith}
 use Rattle.std.proofs.Math.Seq.{take-add}
 use Rattle.std.proofs.lemmas.List.{take_at, drop_at, take-append-drop, length-take-le, length-drop, drop-drop}
 use Rattle.std.proofs.lemmas.Option.{none-some}
 use Rattle.std.specs.Int.{w64, cast_signed}
+use Rattle.std.specs.Option.{ok_or}
 use Rattle.byteorder.specs.Endian.{big_number}
+use Rattle.format_spec.specs.declared.PageKind.{PageKind}
 use Rattle.format_spec.specs.declared.PageKind.TheVariants.{TableLeaf}
 use Rattle.format_spec.specs.declared.CellView.{CellView}
 use Rattle.format_spec.specs.Varint.{IsVarint}
 use Rattle.format_spec.specs.Cell.{IsTableLeafCell, payload_limit, local_size, overflow_size}
 use Rattle.cell_codec.specs.VarintLaws.{same_front}
-use Rattle.cell_codec.specs.Cells.{BeginsWithCell, BeginsOverLimit}
+use Rattle.cell_codec.specs.Cells.{BeginsWithCell, BeginsWithLengthOver, part_size, IsLocalPart}
+use Rattle.cell_codec.specs.declared.cell.LocalPart.{LocalPart}
+use Rattle.cell_codec.specs.declared.cell.CellFault.{CellFault}
+use Rattle.cell_codec.specs.declared.cell.CellFault.TheVariants.{ShortCell, SizeOverLimit}
 
 -- the bytes begin with no varint
 abbrev pub BeginsWithNone : List ℕ → Type 0
@@ -19,24 +24,65 @@ BeginsWithNone bytes = (value n : ℕ) → n ≤ length bytes → IsVarint (take
 pub begins_with_none : (bytes : List ℕ) (r : Option (ℕ × ℕ)) → r ≡ None → ((value n : ℕ) → n ≤ length bytes → IsVarint (take n bytes) value → r ≡ Some (value, n)) → BeginsWithNone bytes
 begins_with_none bytes r e only value n h v = none-some (value, n) (sym e ∙ only value n h v)
 
--- the first bytes give the payload's length
-pub record PayloadIs (bytes : List ℕ) (payload rowid_at : ℕ) : Type 0 where
-  pub within : rowid_at ≤ length bytes
-  pub spelled : IsVarint (take rowid_at bytes) payload
+-- nor with a length that a payload can have
+abbrev pub BeginsWithNoLength : List ℕ → Type 0
+BeginsWithNoLength bytes = (value n : ℕ) → n ≤ length bytes → IsVarint (take n bytes) value → value ≤ payload_limit → ⊥
 
--- and those behind them the rowid
-pub record RowidIs (bytes : List ℕ) (rowid_at number rowid_length : ℕ) : Type 0 where
-  pub within : rowid_length ≤ length (drop rowid_at bytes)
-  pub spelled : IsVarint (take rowid_length (drop rowid_at bytes)) number
+pub begins_with_no_length : (bytes : List ℕ) (r : Result (ℕ × ℕ) CellFault) (x : CellFault) → r ≡ Err x
+    → ((value n : ℕ) → n ≤ length bytes → IsVarint (take n bytes) value → value ≤ payload_limit → r ≡ Ok (value, n)) → BeginsWithNoLength bytes
+begins_with_no_length bytes r x e only value n h v l = let f : r ≡ Ok (value, n) = only value n h v l in absurd (cc)
+
+-- the bytes begin with this number, in so many bytes
+pub record VarintIs (bytes : List ℕ) (value size : ℕ) : Type 0 where
+  pub within : size ≤ length bytes
+  pub spelled : IsVarint (take size bytes) value
+
+-- what was read behind n bytes
+pub varint_is : (bytes rest : List ℕ) (n : ℕ) (r : Option (ℕ × ℕ)) (value size : ℕ) → rest ≡ drop n bytes → r ≡ Some (value, size) → IfSome r (λ found. (found.1 ≤ length rest) × IsVarint (take found.1 rest) found.0)
+    → VarintIs (drop n bytes) value size
+varint_is bytes rest n r value size s e h =
+    let f : (size ≤ length rest) × IsVarint (take size rest) value = rw e at h in
+    record { within = subst (λ t. size ≤ length t) s f.0; spelled = subst (λ t. IsVarint (take size t) value) s f.1 }
+
+pub varint_at : (bytes rest : List ℕ) (n value size : ℕ) → rest ≡ drop n bytes → size ≤ length rest → IsVarint (take size rest) value → VarintIs (drop n bytes) value size
+varint_at bytes rest n value size s h v = record { within = subst (λ t. size ≤ length t) s h; spelled = subst (λ t. IsVarint (take size t) value) s v }
+
+-- the part that was read
+pub part_is : (P : LocalPart → Type 0) (r : Option LocalPart) (part : LocalPart) → r ≡ Some part → IfSome r P → P part
+part_is P r part e h = subst (λ (o : Option LocalPart). IfSome o P) e h
+
+-- what is said of none that was read
+pub none_is : (Q : Type 0) (r : Option LocalPart) → r ≡ None → (IsNone r ↔ Q) → Q
+none_is Q r e h = h.0 (rw e refl)
+
+-- a local part's own parts
+pub part_whole : (kind : PageKind) (usable payload : ℕ) (bytes : List ℕ) (part : LocalPart) → IsLocalPart kind usable payload bytes part
+    → take part.size bytes ≡ take part.local bytes ++ take (overflow_size part.local payload) (drop part.local bytes)
+part_whole kind usable payload bytes part h = ap (λ k. take k bytes) h.size ∙ take-add part.local (overflow_size part.local payload) bytes
+
+pub part_local_length : (kind : PageKind) (usable payload : ℕ) (bytes : List ℕ) (part : LocalPart) → IsLocalPart kind usable payload bytes part → length (take part.local bytes) ≡ part.local
+part_local_length kind usable payload bytes part h = length-take-le part.local bytes (omega (arith, h.size, h.within))
+
+pub part_overflow_length : (kind : PageKind) (usable payload : ℕ) (bytes : List ℕ) (part : LocalPart) → IsLocalPart kind usable payload bytes part
+    → length (take (overflow_size part.local payload) (drop part.local bytes)) ≡ overflow_size part.local payload
+part_overflow_length kind usable payload bytes part h =
+    length-take-le (overflow_size part.local payload) (drop part.local bytes) (omega (arith, h.size, h.within, length-drop part.local bytes))
+
+-- where a part was not read the cell is short, and not over the limit
+pub not_short_and_over : {A : Type 0} (r : Result CellView CellFault) (x y : CellFault) (o : Option A) → r ≡ Err x → x ≡ y → ◌≡◌ {A = Result A CellFault} (Err y) (ok_or o ShortCell) → o ≡ None → r ≡ Err SizeOverLimit → ⊥
+not_short_and_over {A} r x y o e f g h over =
+    let k : ◌≡◌ {A = Result A CellFault} (Err y) (Err ShortCell) = g ∙ ap (λ (t : Option A). ok_or t ShortCell) h in
+    let short : r ≡ Err ShortCell = cc in
+    absurd (cc)
 
 -- a cell's parts, in the bytes that begin with it
 record HasHead (usable : ℕ) (bytes : List ℕ) (cell : CellView) : Type 0 where
   rowid_at : ℕ
   rowid_length : ℕ
   number : ℕ
-  payload : PayloadIs bytes cell.payload rowid_at
+  payload : VarintIs bytes cell.payload rowid_at
   limit : cell.payload ≤ payload_limit
-  rowid : RowidIs bytes rowid_at number rowid_length
+  rowid : VarintIs (drop rowid_at bytes) number rowid_length
   size : cell.size ≡ rowid_at + rowid_length + cell.local + overflow_size cell.local cell.payload
   local : cell.local ≡ local_size TableLeaf usable cell.payload
   within : cell.size ≤ length bytes
@@ -71,92 +117,77 @@ head_of usable bytes cell h =
       within = h.0;
     }
 
-same_payload : (bytes : List ℕ) (m n i j : ℕ) → PayloadIs bytes m i → PayloadIs bytes n j → (m ≡ n) × (i ≡ j)
-same_payload bytes m n i j v w = same_front bytes i j m n v.within w.within v.spelled w.spelled
+pub same_varint_front : (bytes : List ℕ) (m n i j : ℕ) → VarintIs bytes m i → VarintIs bytes n j → (m ≡ n) × (i ≡ j)
+same_varint_front bytes m n i j v w = same_front bytes i j m n v.within w.within v.spelled w.spelled
 
 -- bytes with no payload's length
-pub no_payload : (usable : ℕ) (bytes : List ℕ) → BeginsWithNone bytes → (cell : CellView) → BeginsWithCell TableLeaf usable bytes cell → ⊥
+pub no_payload : (usable : ℕ) (bytes : List ℕ) → BeginsWithNoLength bytes → (cell : CellView) → BeginsWithCell TableLeaf usable bytes cell → ⊥
 no_payload usable bytes none cell h =
     let head = head_of usable bytes cell h in
-    none cell.payload head.rowid_at head.payload.within head.payload.spelled
-
-pub no_payload_over : (bytes : List ℕ) → BeginsWithNone bytes → BeginsOverLimit bytes → ⊥
-no_payload_over bytes none h = none h.0 h.1 h.2 h.3
-
--- bytes with a payload over the limit
-pub no_cell_over : (usable : ℕ) (bytes : List ℕ) (payload i : ℕ) → PayloadIs bytes payload i → payload_limit < payload → (cell : CellView) → BeginsWithCell TableLeaf usable bytes cell → ⊥
-no_cell_over usable bytes payload i v over cell h =
-    let head = head_of usable bytes cell h in
-    omega (arith, head.limit, same_payload bytes payload cell.payload i head.rowid_at v head.payload)
+    none cell.payload head.rowid_at head.payload.within head.payload.spelled head.limit
 
 -- bytes with a payload within it
-pub not_over : (bytes : List ℕ) (payload i : ℕ) → PayloadIs bytes payload i → payload ≤ payload_limit → BeginsOverLimit bytes → ⊥
+pub not_over : (bytes : List ℕ) (payload i : ℕ) → VarintIs bytes payload i → payload ≤ payload_limit → BeginsWithLengthOver bytes → ⊥
 not_over bytes payload i v limit h =
     omega (arith, h.4, same_front bytes i h.1 payload h.0 v.within h.2 v.spelled h.3)
 
 -- bytes with no rowid
-pub no_rowid : (usable : ℕ) (bytes : List ℕ) (payload i : ℕ) → PayloadIs bytes payload i → BeginsWithNone (drop i bytes) → (cell : CellView) → BeginsWithCell TableLeaf usable bytes cell → ⊥
+pub no_rowid : (usable : ℕ) (bytes : List ℕ) (payload i : ℕ) → VarintIs bytes payload i → BeginsWithNone (drop i bytes) → (cell : CellView) → BeginsWithCell TableLeaf usable bytes cell → ⊥
 no_rowid usable bytes payload i v none cell h =
     let head = head_of usable bytes cell h in
-    let same : head.rowid_at ≡ i = sym (same_payload bytes payload cell.payload i head.rowid_at v head.payload).1 in
-    let rowid = subst (λ k. RowidIs bytes k head.number head.rowid_length) same head.rowid in
+    let same : head.rowid_at ≡ i = sym (same_varint_front bytes payload cell.payload i head.rowid_at v head.payload).1 in
+    let rowid = subst (λ k. VarintIs (drop k bytes) head.number head.rowid_length) same head.rowid in
     none head.number head.rowid_length rowid.within rowid.spelled
 
 -- bytes that end before their cell
-pub too_short : (usable : ℕ) (bytes : List ℕ) (payload i number j local : ℕ) → PayloadIs bytes payload i → RowidIs bytes i number j → local ≡ local_size TableLeaf usable payload
-    → length bytes < i + j + local + overflow_size local payload → (cell : CellView) → BeginsWithCell TableLeaf usable bytes cell → ⊥
-too_short usable bytes payload i number j local v w l short cell h =
+pub too_short : (usable : ℕ) (bytes : List ℕ) (payload i number j : ℕ) → VarintIs bytes payload i → VarintIs (drop i bytes) number j
+    → length (drop (i + j) bytes) < part_size TableLeaf usable payload → (cell : CellView) → BeginsWithCell TableLeaf usable bytes cell → ⊥
+too_short usable bytes payload i number j v w short cell h =
     let head = head_of usable bytes cell h in
-    let payloads = same_payload bytes payload cell.payload i head.rowid_at v head.payload in
-    let p : payload ≡ cell.payload = payloads.0 in
+    let payloads = same_varint_front bytes payload cell.payload i head.rowid_at v head.payload in
     let same : head.rowid_at ≡ i = sym payloads.1 in
-    let rowid = subst (λ k. RowidIs bytes k head.number head.rowid_length) same head.rowid in
-    let rowids = same_front (drop i bytes) j head.rowid_length number head.number w.within rowid.within w.spelled rowid.spelled in
-    let locals : local ≡ cell.local = l ∙ ap (local_size TableLeaf usable) p ∙ sym head.local in
-    let over : overflow_size local payload ≡ overflow_size cell.local cell.payload = ap (λ k. overflow_size k payload) locals ∙ ap (overflow_size cell.local) p in
-    omega (arith, head.size, head.within, rowids.1, same, locals, over, short)
+    let rowid = subst (λ k. VarintIs (drop k bytes) head.number head.rowid_length) same head.rowid in
+    let rowids = same_varint_front (drop i bytes) number head.number j head.rowid_length w rowid in
+    let part : cell.local + overflow_size cell.local cell.payload ≡ part_size TableLeaf usable payload =
+    ap (λ k. k + overflow_size k cell.payload) head.local ∙ ap (part_size TableLeaf usable) (sym payloads.0) in
+    omega (arith, head.size, head.within, rowids.1, same, part, short, length-drop (i + j) bytes)
 
 -- bytes that have all of their cell
-pub cell_read : (usable : ℕ) (bytes : List ℕ) (payload i number j : ℕ) (cell : CellView) → PayloadIs bytes payload i → RowidIs bytes i number j
-    → payload ≤ payload_limit → cell.payload ≡ payload → cell.rowid ≡ cast_signed w64 number → cell.child ≡ 0 → cell.local_at ≡ i + j → cell.local ≡ local_size TableLeaf usable payload
-    → cell.size ≡ i + j + cell.local + overflow_size cell.local payload
-    → cell.overflow ≡ big_number (overflow_size cell.local payload) (take (overflow_size cell.local payload) (drop (i + j + cell.local) bytes))
-    → cell.size ≤ length bytes → BeginsWithCell TableLeaf usable bytes cell
-cell_read usable bytes payload i number j cell v w limit p rowid child at local size overflow within =
-    let n = overflow_size cell.local payload in
+pub cell_read : (usable : ℕ) (bytes : List ℕ) (payload i number j : ℕ) (rowid : ℤ) (part : LocalPart) → VarintIs bytes payload i → VarintIs (drop i bytes) number j
+    → payload ≤ payload_limit → rowid ≡ cast_signed w64 number → IsLocalPart TableLeaf usable payload (drop (i + j) bytes) part
+    → BeginsWithCell TableLeaf usable bytes (record { size = i + j + part.size; rowid = rowid; child = 0; payload = payload; local_at = i + j; local = part.local; overflow = part.overflow })
+cell_read usable bytes payload i number j rowid part v w limit e h =
+    let n = overflow_size part.local payload in
     let behind = drop (i + j) bytes in
-    let rest = drop (i + j + cell.local) bytes in
-    let inner : drop cell.local behind ≡ rest = drop-drop cell.local (i + j) bytes in
-    let second : drop j (drop i bytes) ≡ behind = drop-drop j i bytes in
-    let whole : take cell.size bytes ≡ take i bytes ++ (take j (drop i bytes) ++ (take cell.local behind ++ take n rest)) =
-    ap (λ k. take k bytes) (size ∙ omega arith)
-    ∙ take-add i (j + (cell.local + n)) bytes
-    ∙ ap (λ s. take i bytes ++ s) (take-add j (cell.local + n) (drop i bytes))
-    ∙ ap (λ s. take i bytes ++ (take j (drop i bytes) ++ take (cell.local + n) s)) second
-    ∙ ap (λ s. take i bytes ++ (take j (drop i bytes) ++ s)) (take-add cell.local n behind)
-    ∙ ap (λ s. take i bytes ++ (take j (drop i bytes) ++ (take cell.local behind ++ take n s))) inner in
+    let size = i + j + part.size in
+    let within : size ≤ length bytes = omega (arith, h.within, v.within, w.within, length-drop i bytes, length-drop (i + j) bytes) in
+    let whole : take size bytes ≡ take i bytes ++ (take j (drop i bytes) ++ (take part.local behind ++ take n (drop part.local behind))) =
+    ap (λ k. take k bytes) (let e : size ≡ i + (j + part.size) = omega arith in e)
+    ∙ take-add i (j + part.size) bytes
+    ∙ ap (λ s. take i bytes ++ s) (take-add j part.size (drop i bytes))
+    ∙ ap (λ s. take i bytes ++ (take j (drop i bytes) ++ take part.size s)) (drop-drop j i bytes)
+    ∙ ap (λ s. take i bytes ++ (take j (drop i bytes) ++ s)) (part_whole TableLeaf usable payload behind part h) in
     let first_length : length (take i bytes) ≡ i = length-take-le i bytes v.within in
     let second_length : length (take j (drop i bytes)) ≡ j = length-take-le j (drop i bytes) w.within in
-    let local_length : length (take cell.local behind) ≡ cell.local = length-take-le cell.local behind (omega (arith, length-drop (i + j) bytes)) in
-    let overflow_length : length (take n rest) ≡ n = length-take-le n rest (omega (arith, length-drop (i + j + cell.local) bytes)) in (
+    let overflow_length = part_overflow_length TableLeaf usable payload behind part h in (
       within,
       record {
         payload_bytes = take i bytes;
         rowid_bytes = take j (drop i bytes);
         rowid_number = number;
-        local_bytes = take cell.local behind;
-        overflow_bytes = take n rest;
+        local_bytes = take part.local behind;
+        overflow_bytes = take n (drop part.local behind);
         whole = whole;
-        payload = subst (IsVarint (take i bytes)) (sym p) v.spelled;
-        limit = omega (arith, p, limit);
+        payload = v.spelled;
+        limit = limit;
         rowid_varint = w.spelled;
-        rowid = rowid;
-        local_at = omega (arith, at, first_length, second_length);
-        local = local ∙ ap (local_size TableLeaf usable) (sym p);
-        local_length = local_length;
-        overflow_length = overflow_length ∙ ap (overflow_size cell.local) (sym p);
-        overflow = overflow ∙ ap (λ k. big_number k (take n rest)) (sym overflow_length);
-        child = child;
-        size = sym (length-take-le cell.size bytes within);
+        rowid = e;
+        local_at = omega (arith, first_length, second_length);
+        local = h.local;
+        local_length = part_local_length TableLeaf usable payload behind part h;
+        overflow_length = overflow_length;
+        overflow = h.overflow ∙ ap (λ k. big_number k (take n (drop part.local behind))) (sym overflow_length);
+        child = refl;
+        size = sym (length-take-le size bytes within);
       },
     )

@@ -31,19 +31,3 @@ next_lent old now front part given at n w l e =
           ∙ ap (λ s. front ++ s) lent
           ∙ sym (append_assoc front part (drop (at + n) old));
     }
-
--- a part is copied into its place
-pub next_copied : (old now front part given : List ℕ) (at n : ℕ) → IsWrittenTo old now front at → length part ≡ n → given ≡ part
-    → IsWrittenTo old (put_mid at (at + n - at) now given) (front ++ part) (at + n)
-next_copied old now front part given at n w l e =
-    let size : at + n - at ≡ n = omega arith in
-    record {
-      size = omega (arith, length-append front part, w.size, l);
-      written =
-          ap (λ s. s ++ (given ++ drop (at + n - at) (drop at now))) (front_is old now front at w)
-          ∙ ap (λ s. front ++ (s ++ drop (at + n - at) (drop at now))) e
-          ∙ ap (λ k. front ++ (part ++ drop k (drop at now))) size
-          ∙ ap (λ s. front ++ (part ++ drop n s)) (rest_is old now front at w)
-          ∙ ap (λ s. front ++ (part ++ s)) (drop-drop n at old)
-          ∙ sym (append_assoc front part (drop (at + n) old));
-    }

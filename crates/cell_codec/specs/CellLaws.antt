@@ -1,5 +1,5 @@
 -- What follows from the definition of cells alone: crates above cite these facts in their proofs.
-use Rattle.std.proofs.Common.{◌≡◌, ℕ, ℤ, ◌+◌, ◌-◌, ◌^◌, ◌<◌, ◌≤◌, cond, ltb, List, [], ◌∷◌, ◌++◌, length, take, drop, refl, sym, ◌∙◌, ap, subst, append_assoc, length-append, arith}
+use Rattle.std.proofs.Common.{◌≡◌, ℕ, ℤ, pos, ◌+◌, ◌-◌, ◌^◌, ◌<◌, ◌≤◌, cond, ltb, leb, List, [], ◌∷◌, ◌++◌, length, take, drop, refl, sym, ◌∙◌, ap, subst, append_assoc, length-append, arith}
 use Rattle.std.proofs.lemmas.List.{append_cancel_left, append-nil, take_at, take_all, drop_at, take-append-drop}
 use Rattle.std.proofs.lemmas.Int.{ints, to_z-of_z}
 use Rattle.std.proofs.lemmas.Bool.{cond_both, cond-true, ltb-false, le-leb, le-ltb}
@@ -9,10 +9,10 @@ use Rattle.std.specs.Int.RustNames.{FitsSigned}
 use Rattle.byteorder.specs.Endian.{big_bytes, big_number}
 use Rattle.byteorder.specs.Numbers.{length-bytes_high_first, big_number-reads_back}
 use Rattle.format_spec.specs.declared.PageKind.{PageKind}
-use Rattle.format_spec.specs.declared.PageKind.TheVariants.{TableLeaf}
+use Rattle.format_spec.specs.declared.PageKind.TheVariants.{IndexInterior, TableInterior, IndexLeaf, TableLeaf}
 use Rattle.format_spec.specs.declared.CellView.{CellView}
 use Rattle.format_spec.specs.Varint.{varint}
-use Rattle.format_spec.specs.Cell.{IsCell, IsTableLeafCell, payload_limit, local_size, overflow_size, cell_bytes, table_leaf_cell}
+use Rattle.format_spec.specs.Cell.{IsCell, IsTableLeafCell, IsTableInteriorCell, IsIndexCell, payload_limit, max_local, min_local, fitted_local, local_size, child_size, overflow_size, cell_bytes, index_cell_bytes, table_leaf_cell}
 use Rattle.cell_codec.specs.VarintLaws.{spelling_one_to_nine, same_varint, varint_spells}
 use Rattle.cell_codec.specs.Cells.{BeginsWithCell, IsWritable, whole_cell}
 
@@ -75,9 +75,64 @@ same_table_leaf_cell {usable} {a} {b} {c} {d} x y v w e =
           (v.overflow ∙ ap (λ z. big_number (length z) z) s ∙ sym w.overflow),
     )
 
+-- the cells of a table interior page
+pub same_table_interior_cell : {a b : List ℕ} {c d : CellView} (x y : List ℕ) → IsTableInteriorCell a c → IsTableInteriorCell b d → a ++ x ≡ b ++ y → (a ≡ b) × (c ≡ d)
+same_table_interior_cell {a} {b} {c} {d} x y v w e =
+    let left = ap (λ s. s ++ x) v.whole ∙ append_assoc v.child_bytes v.rowid_bytes x in
+    let right = ap (λ s. s ++ y) w.whole ∙ append_assoc w.child_bytes w.rowid_bytes y in
+    let children = same_parts v.child_bytes w.child_bytes (v.rowid_bytes ++ x) (w.rowid_bytes ++ y) (v.child_length ∙ sym w.child_length) (sym left ∙ e ∙ right) in
+    let p : v.child_bytes ≡ w.child_bytes = children.0 in
+    let rowids = same_varint x y v.rowid_varint w.rowid_varint children.1 in
+    let q : v.rowid_bytes ≡ w.rowid_bytes = rowids.0 in
+    let bytes : a ≡ b = v.whole ∙ ap (λ z. z ++ v.rowid_bytes) p ∙ ap (λ z. w.child_bytes ++ z) q ∙ sym w.whole in (
+      bytes,
+      same_view c d
+          (v.size ∙ ap length bytes ∙ sym w.size)
+          (v.rowid ∙ ap (cast_signed w64) rowids.1 ∙ sym w.rowid)
+          (v.child ∙ ap (big_number 4) p ∙ sym w.child)
+          (v.payload ∙ sym w.payload)
+          (v.local_at ∙ sym w.local_at)
+          (v.local ∙ sym w.local)
+          (v.overflow ∙ sym w.overflow),
+    )
+
+-- and of an index page
+pub same_index_cell : {kind : PageKind} {usable : ℕ} {a b : List ℕ} {c d : CellView} (x y : List ℕ) → IsIndexCell kind usable a c → IsIndexCell kind usable b d → a ++ x ≡ b ++ y → (a ≡ b) × (c ≡ d)
+same_index_cell {kind} {usable} {a} {b} {c} {d} x y v w e =
+    let left = ap (λ s. s ++ x) v.whole ∙ regroup v.child_bytes v.payload_bytes v.local_bytes v.overflow_bytes x in
+    let right = ap (λ s. s ++ y) w.whole ∙ regroup w.child_bytes w.payload_bytes w.local_bytes w.overflow_bytes y in
+    let children = same_parts v.child_bytes w.child_bytes _ _ (v.child_length ∙ sym w.child_length) (sym left ∙ e ∙ right) in
+    let p : v.child_bytes ≡ w.child_bytes = children.0 in
+    let payloads = same_varint _ _ v.payload w.payload children.1 in
+    let q : v.payload_bytes ≡ w.payload_bytes = payloads.0 in
+    let payload : c.payload ≡ d.payload = payloads.1 in
+    let rest = append_cancel_left _ _ _ (ap (λ s. s ++ (v.local_bytes ++ (v.overflow_bytes ++ x))) (sym q) ∙ children.1) in
+    let local : c.local ≡ d.local = v.local ∙ ap (local_size kind usable) payload ∙ sym w.local in
+    let locals = same_parts v.local_bytes w.local_bytes _ _ (v.local_length ∙ local ∙ sym w.local_length) rest in
+    let over : length v.overflow_bytes ≡ length w.overflow_bytes = v.overflow_length ∙ ap (λ n. overflow_size n c.payload) local ∙ ap (overflow_size d.local) payload ∙ sym w.overflow_length in
+    let overflows = same_parts v.overflow_bytes w.overflow_bytes x y over locals.1 in
+    let r : v.local_bytes ≡ w.local_bytes = locals.0 in
+    let s : v.overflow_bytes ≡ w.overflow_bytes = overflows.0 in
+    let bytes : a ≡ b =
+    v.whole ∙ ap (λ z. z ++ (v.payload_bytes ++ (v.local_bytes ++ v.overflow_bytes))) p ∙ ap (λ z. w.child_bytes ++ (z ++ (v.local_bytes ++ v.overflow_bytes))) q
+    ∙ ap (λ z. w.child_bytes ++ (w.payload_bytes ++ (z ++ v.overflow_bytes))) r ∙ ap (λ z. w.child_bytes ++ (w.payload_bytes ++ (w.local_bytes ++ z))) s ∙ sym w.whole in (
+      bytes,
+      same_view c d
+          (v.size ∙ ap length bytes ∙ sym w.size)
+          (v.rowid ∙ sym w.rowid)
+          (v.child ∙ ap (λ z. big_number (length z) z) p ∙ sym w.child)
+          payload
+          (v.local_at ∙ ap (λ z. length z + length v.payload_bytes) p ∙ ap (λ z. length w.child_bytes + length z) q ∙ sym w.local_at)
+          local
+          (v.overflow ∙ ap (λ z. big_number (length z) z) s ∙ sym w.overflow),
+    )
+
 -- bytes spell one cell, and no cell begins another
 pub same_cell : (kind : PageKind) (usable : ℕ) (a b x y : List ℕ) (c d : CellView) → IsCell kind usable a c → IsCell kind usable b d → a ++ x ≡ b ++ y → (a ≡ b) × (c ≡ d)
 same_cell TableLeaf usable a b x y c d v w e = same_table_leaf_cell x y v w e
+same_cell TableInterior usable a b x y c d v w e = same_table_interior_cell x y v w e
+same_cell IndexLeaf usable a b x y c d v w e = same_index_cell x y v w e
+same_cell IndexInterior usable a b x y c d v w e = same_index_cell x y v w e
 
 -- bytes begin with one cell at most
 pub same_first_cell : (kind : PageKind) (usable : ℕ) (bytes : List ℕ) (c d : CellView) → BeginsWithCell kind usable bytes c → BeginsWithCell kind usable bytes d → c ≡ d
@@ -97,6 +152,19 @@ local_bytes_at usable bytes cell v =
     let whole : bytes ≡ head ++ (v.local_bytes ++ v.overflow_bytes) = v.whole ∙ sym (append_assoc v.payload_bytes v.rowid_bytes (v.local_bytes ++ v.overflow_bytes)) in
     sym (ap (λ s. take cell.local (drop cell.local_at s)) whole ∙ ap (take cell.local) (drop_at head (v.local_bytes ++ v.overflow_bytes) cell.local_at size) ∙ take_at v.local_bytes v.overflow_bytes cell.local v.local_length)
 
+-- the lengths of the parts of an index page's cell
+pub index_cell_parts : (kind : PageKind) (usable : ℕ) (bytes : List ℕ) (cell : CellView) → IsIndexCell kind usable bytes cell → cell.size ≡ cell.local_at + cell.local + overflow_size cell.local cell.payload
+index_cell_parts kind usable bytes cell v =
+    omega (arith, v.size, ap length v.whole, length-append v.child_bytes (v.payload_bytes ++ (v.local_bytes ++ v.overflow_bytes)), length-append v.payload_bytes (v.local_bytes ++ v.overflow_bytes), length-append v.local_bytes v.overflow_bytes, v.local_at, v.local_length, v.overflow_length)
+
+-- where the local payload lies on an index page
+pub index_local_bytes_at : (kind : PageKind) (usable : ℕ) (bytes : List ℕ) (cell : CellView) (v : IsIndexCell kind usable bytes cell) → v.local_bytes ≡ take cell.local (drop cell.local_at bytes)
+index_local_bytes_at kind usable bytes cell v =
+    let head = v.child_bytes ++ v.payload_bytes in
+    let size : length head ≡ cell.local_at = length-append v.child_bytes v.payload_bytes ∙ sym v.local_at in
+    let whole : bytes ≡ head ++ (v.local_bytes ++ v.overflow_bytes) = v.whole ∙ sym (append_assoc v.child_bytes v.payload_bytes (v.local_bytes ++ v.overflow_bytes)) in
+    sym (ap (λ s. take cell.local (drop cell.local_at s)) whole ∙ ap (take cell.local) (drop_at head (v.local_bytes ++ v.overflow_bytes) cell.local_at size) ∙ take_at v.local_bytes v.overflow_bytes cell.local v.local_length)
+
 -- how long the shortest spelling is
 pub cell_bytes_size : (cell : CellView) (local : List ℕ) → length (cell_bytes TableLeaf cell local) ≡ length (varint cell.payload) + length (varint (cast_unsigned w64 cell.rowid)) + length local + overflow_size cell.local cell.payload
 unfolding cell_bytes
@@ -105,6 +173,33 @@ cell_bytes_size cell local =
     let q = varint (cast_unsigned w64 cell.rowid) in
     let o = big_bytes (overflow_size cell.local cell.payload) cell.overflow in
     omega (arith, length-append p (q ++ (local ++ o)), length-append q (local ++ o), length-append local o, length-bytes_high_first (overflow_size cell.local cell.payload) cell.overflow)
+
+-- on a table interior page
+pub table_interior_cell_bytes_size : (cell : CellView) (local : List ℕ) → length (cell_bytes TableInterior cell local) ≡ 4 + length (varint (cast_unsigned w64 cell.rowid))
+unfolding cell_bytes
+table_interior_cell_bytes_size cell local = omega (arith, length-append (big_bytes 4 cell.child) (varint (cast_unsigned w64 cell.rowid)), length-bytes_high_first 4 cell.child)
+
+-- and on an index page
+pub index_cell_bytes_size : (kind : PageKind) (cell : CellView) (local : List ℕ) → length (index_cell_bytes kind cell local) ≡ child_size kind + length (varint cell.payload) + length local + overflow_size cell.local cell.payload
+unfolding index_cell_bytes
+index_cell_bytes_size kind cell local =
+    let c = big_bytes (child_size kind) cell.child in
+    let p = varint cell.payload in
+    let o = big_bytes (overflow_size cell.local cell.payload) cell.overflow in
+    omega (arith, length-append c (p ++ (local ++ o)), length-append p (local ++ o), length-append local o, length-bytes_high_first (child_size kind) cell.child, length-bytes_high_first (overflow_size cell.local cell.payload) cell.overflow)
+
+-- which of them they are at each kind
+pub table_interior_cell_is : (cell : CellView) (local : List ℕ) → cell_bytes TableInterior cell local ≡ cell_bytes TableInterior cell []
+unfolding cell_bytes
+table_interior_cell_is cell local = refl
+
+pub index_leaf_cell_is : (cell : CellView) (local : List ℕ) → cell_bytes IndexLeaf cell local ≡ index_cell_bytes IndexLeaf cell local
+unfolding cell_bytes
+index_leaf_cell_is cell local = refl
+
+pub index_interior_cell_is : (cell : CellView) (local : List ℕ) → cell_bytes IndexInterior cell local ≡ index_cell_bytes IndexInterior cell local
+unfolding cell_bytes
+index_interior_cell_is cell local = refl
 
 rowid_fits : (rowid : ℤ) → FitsSigned w64 rowid → cast_unsigned w64 rowid < 2 ^ 64
 rowid_fits rowid h = omega (arith, ints)
@@ -139,13 +234,71 @@ written_table_leaf_cell usable cell local w =
       local_length = w.local_length;
       overflow_length = length-bytes_high_first n cell.overflow;
       overflow = number_read n cell.overflow (overflow_fits cell.local cell.payload cell.overflow w.overflow w.no_overflow);
-      child = w.child;
+      child = w.lacked;
       size = w.size;
+    }
+
+written_table_interior_cell : (usable : ℕ) (cell : CellView) (local : List ℕ) → IsWritable TableInterior usable cell local → IsTableInteriorCell (cell_bytes TableInterior cell local) cell
+unfolding cell_bytes
+written_table_interior_cell usable cell local w =
+    let number = cast_unsigned w64 cell.rowid in
+    let none : cell.payload ≡ 0 = w.lacked in
+    let local_none : cell.local ≡ 0 = w.local ∙ ap (local_size TableInterior usable) none ∙ cond-true _ _ _ (le-leb 0 (usable - 35) (omega arith)) in
+    record {
+      child_bytes = big_bytes 4 cell.child;
+      rowid_bytes = varint number;
+      rowid_number = number;
+      whole = refl;
+      child_length = length-bytes_high_first 4 cell.child;
+      child = number_read 4 cell.child w.child;
+      rowid_varint = varint_spells number (rowid_fits cell.rowid w.rowid);
+      rowid = sym (to_z-of_z w64 cell.rowid w.rowid);
+      payload = none;
+      local_at = w.local_at;
+      local = local_none;
+      overflow = w.no_overflow (omega arith);
+      size = w.size;
+    }
+
+-- an index page's child, over which a leaf has none
+child_fits : (kind : PageKind) (child : ℕ) → child < 2 ^ 32 → (child_size kind ≡ 0 → child ≡ 0) → child < 256 ^ child_size kind
+child_fits TableLeaf child h z = omega (arith, z refl)
+child_fits TableInterior child h z = h
+child_fits IndexLeaf child h z = omega (arith, z refl)
+child_fits IndexInterior child h z = h
+
+written_index_cell : (kind : PageKind) (usable : ℕ) (cell : CellView) (local : List ℕ) → IsWritable kind usable cell local → (child_size kind ≡ 0 → cell.child ≡ 0) → cell.rowid ≡ pos 0
+    → cell.local_at ≡ child_size kind + length (varint cell.payload) → cell.size ≡ length (index_cell_bytes kind cell local) → IsIndexCell kind usable (index_cell_bytes kind cell local) cell
+unfolding index_cell_bytes
+written_index_cell kind usable cell local w child rowid at size =
+    let n = overflow_size cell.local cell.payload in
+    let m = child_size kind in
+    record {
+      child_bytes = big_bytes m cell.child;
+      payload_bytes = varint cell.payload;
+      local_bytes = local;
+      overflow_bytes = big_bytes n cell.overflow;
+      whole = refl;
+      child_length = length-bytes_high_first m cell.child;
+      child = number_read m cell.child (child_fits kind cell.child w.child child);
+      payload = varint_spells cell.payload (omega (arith, w.limit));
+      limit = w.limit;
+      local_at = at ∙ ap (λ k. k + length (varint cell.payload)) (sym (length-bytes_high_first m cell.child));
+      local = w.local;
+      local_length = w.local_length;
+      overflow_length = length-bytes_high_first n cell.overflow;
+      overflow = number_read n cell.overflow (overflow_fits cell.local cell.payload cell.overflow w.overflow w.no_overflow);
+      rowid = rowid;
+      size = size;
     }
 
 -- what is written is the cell
 pub written_cell : (kind : PageKind) (usable : ℕ) (cell : CellView) (local : List ℕ) → IsWritable kind usable cell local → IsCell kind usable (cell_bytes kind cell local) cell
+unfolding cell_bytes
 written_cell TableLeaf usable cell local w = written_table_leaf_cell usable cell local w
+written_cell TableInterior usable cell local w = written_table_interior_cell usable cell local w
+written_cell IndexLeaf usable cell local w = written_index_cell IndexLeaf usable cell local w (λ _. w.lacked.1) w.lacked.0 (omega (arith, w.local_at)) w.size
+written_cell IndexInterior usable cell local w = written_index_cell IndexInterior usable cell local w (λ e. absurd (omega arith)) w.lacked w.local_at w.size
 
 whole_bytes : (rowid : ℤ) (payload : List ℕ) → cell_bytes TableLeaf (whole_cell rowid payload) payload ≡ table_leaf_cell rowid payload
 unfolding cell_bytes table_leaf_cell
@@ -163,9 +316,10 @@ whole_cell_writable usable rowid payload r h l =
       rowid = r;
       local = sym (cond-true _ _ _ (le-leb (length payload) (usable - 35) h));
       local_length = refl;
+      child = omega arith;
       overflow = omega arith;
       no_overflow = λ _. refl;
-      child = refl;
+      lacked = refl;
       local_at = refl;
       size = sym (ap length (whole_bytes rowid payload));
     }
@@ -201,10 +355,30 @@ local_at_bounds usable bytes cell v =
     let q = spelling_one_to_nine v.rowid_bytes v.rowid_number v.rowid_varint in
     (omega (arith, v.local_at, p, q), omega (arith, v.local_at, p, q))
 
+size_within : (usable payload most : ℕ) → min_local usable ≤ most → cond (leb payload most) payload (cond (leb (fitted_local usable payload) most) (fitted_local usable payload) (min_local usable)) ≤ payload
+size_within usable payload most h = grind (arith, nat_tests)
+
+size_room : (usable payload most : ℕ) → min_local usable ≤ most → most + 35 ≤ usable → cond (leb payload most) payload (cond (leb (fitted_local usable payload) most) (fitted_local usable payload) (min_local usable)) + 35 ≤ usable
+size_room usable payload most h m = grind (arith, nat_tests)
+
+-- the least that a cell keeps of a longer payload is below the most
+pub min_below_max : (kind : PageKind) (usable : ℕ) → min_local usable ≤ max_local kind usable
+min_below_max TableLeaf usable = omega arith
+min_below_max TableInterior usable = omega arith
+min_below_max IndexLeaf usable = omega arith
+min_below_max IndexInterior usable = omega arith
+
+-- which a page has room for
+pub max_local_room : (kind : PageKind) (usable : ℕ) → 480 ≤ usable → max_local kind usable + 35 ≤ usable
+max_local_room TableLeaf usable h = omega arith
+max_local_room TableInterior usable h = omega arith
+max_local_room IndexLeaf usable h = omega arith
+max_local_room IndexInterior usable h = omega arith
+
 -- a cell keeps no more than its payload has
-pub local_size_within : (usable payload : ℕ) → local_size TableLeaf usable payload ≤ payload
-local_size_within usable payload = grind (arith, nat_tests)
+pub local_size_within : (kind : PageKind) (usable payload : ℕ) → local_size kind usable payload ≤ payload
+local_size_within kind usable payload = size_within usable payload (max_local kind usable) (min_below_max kind usable)
 
 -- and no more than a page has room for
-pub local_size_room : (usable payload : ℕ) → 480 ≤ usable → local_size TableLeaf usable payload + 35 ≤ usable
-local_size_room usable payload h = grind (arith, nat_tests)
+pub local_size_room : (kind : PageKind) (usable payload : ℕ) → 480 ≤ usable → local_size kind usable payload + 35 ≤ usable
+local_size_room kind usable payload h = size_room usable payload (max_local kind usable) (min_below_max kind usable) (max_local_room kind usable h)

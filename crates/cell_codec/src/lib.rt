@@ -1,4 +1,4 @@
-//! SQLite's variable-length integers, and the cells of table leaves (Database File Format, section 1.6).
+//! SQLite's variable-length integers, and the cells of all four kinds of b-tree page (Database File Format, section 1.6).
 //!
 //! The layer above reads and writes by `read_varint`, `write_varint`, `read_cell` and `write_cell`, asks `varint_length` and `cell_length` for the room that they need, and `local_size` for how much of a payload a cell keeps. What bytes mean is said by `Varint` and `Cell` in the `specs/` of `format_spec`.
 //!

@@ -73,8 +73,17 @@ fn varints_that_are_cut_off_are_not_read(rt: HostRuntime) {
     assert_eq!(rt; read_varint(b"\xff\xff\xff\xff\xff\xff\xff\xff"), None);
 }
 
-fn check_cell(rt: &impl Abort, rowid: i64, bytes: &[u8]) {
-    let payload = b"\x03\x00\x13one";
+fn check_cell(rt: &impl Abort, kind: PageKind, cell: &CellView, local: &[u8], bytes: &[u8]) {
+    assert!(rt; local.len() == cell.local as usize && bytes.len() <= 16);
+    assert_eq!(rt; read_cell(kind, 4096, bytes), Ok(*cell));
+
+    let mut written = [0; 16];
+    assert_eq!(rt; cell_length(kind, cell), bytes.len());
+    assert_eq!(rt; write_cell(kind, cell, local, &mut written), bytes.len());
+    assert_eq!(rt; &written[..bytes.len()], bytes);
+}
+
+fn check_leaf_cell(rt: &impl Abort, rowid: i64, bytes: &[u8]) {
     assert!(rt; 6 <= bytes.len() && bytes.len() <= 16);
     let size = bytes.len() as u32;
     let cell = CellView {
@@ -86,22 +95,64 @@ fn check_cell(rt: &impl Abort, rowid: i64, bytes: &[u8]) {
         local: 6,
         overflow: 0,
     };
-    assert_eq!(rt; read_cell(PageKind::TableLeaf, 4096, bytes), Ok(cell));
-
-    let mut written = [0; 16];
-    assert_eq!(rt; cell_length(PageKind::TableLeaf, &cell), bytes.len());
-    assert_eq!(rt;
-        write_cell(PageKind::TableLeaf, &cell, payload, &mut written),
-        bytes.len()
-    );
-    assert_eq!(rt; &written[..bytes.len()], bytes);
+    check_cell(rt, PageKind::TableLeaf, &cell, b"\x03\x00\x13one", bytes);
 }
 
 #[test]
 fn cells_of_sqlite_are_written_and_read(rt: HostRuntime) {
     for (rowid, bytes) in CELLS {
-        check_cell(&rt, rowid, bytes);
+        check_leaf_cell(&rt, rowid, bytes);
     }
+}
+
+#[test]
+fn a_child_and_a_rowid_are_written_and_read(rt: HostRuntime) {
+    let cell = CellView {
+        size: 6,
+        rowid: 300,
+        child: 5,
+        payload: 0,
+        local_at: 0,
+        local: 0,
+        overflow: 0,
+    };
+    check_cell(
+        &rt,
+        PageKind::TableInterior,
+        &cell,
+        b"",
+        b"\x00\x00\x00\x05\x82\x2c",
+    );
+}
+
+#[test]
+fn cells_of_an_index_are_written_and_read(rt: HostRuntime) {
+    let payload = b"\x01\x02\x03\x04\x05";
+    let leaf = CellView {
+        size: 6,
+        rowid: 0,
+        child: 0,
+        payload: 5,
+        local_at: 1,
+        local: 5,
+        overflow: 0,
+    };
+    check_cell(
+        &rt,
+        PageKind::IndexLeaf,
+        &leaf,
+        payload,
+        b"\x05\x01\x02\x03\x04\x05",
+    );
+
+    let interior = CellView {
+        size: 10,
+        child: 7,
+        local_at: 5,
+        ..leaf
+    };
+    let bytes = b"\x00\x00\x00\x07\x05\x01\x02\x03\x04\x05";
+    check_cell(&rt, PageKind::IndexInterior, &interior, payload, bytes);
 }
 
 #[test]
@@ -109,6 +160,9 @@ fn payloads_of_512_byte_pages_keep_their_local_size(rt: HostRuntime) {
     assert_eq!(rt; local_size(PageKind::TableLeaf, 512, 477), 477);
     assert_eq!(rt; local_size(PageKind::TableLeaf, 512, 478), 39);
     assert_eq!(rt; local_size(PageKind::TableLeaf, 512, 1048576), 64);
+    assert_eq!(rt; local_size(PageKind::IndexLeaf, 512, 102), 102);
+    assert_eq!(rt; local_size(PageKind::IndexLeaf, 512, 103), 39);
+    assert_eq!(rt; local_size(PageKind::IndexInterior, 512, 610), 102);
 }
 
 #[test]
@@ -135,6 +189,23 @@ fn long_payloads_go_on_in_overflow_pages(rt: HostRuntime) {
 }
 
 #[test]
+fn long_payloads_of_an_index_go_on_in_overflow_pages(rt: HostRuntime) {
+    let mut bytes = [1; 50];
+    bytes[4] = 0x67;
+    bytes[47] = 9;
+    let cell = CellView {
+        size: 48,
+        rowid: 0,
+        child: 0x0101_0101,
+        payload: 103,
+        local_at: 5,
+        local: 39,
+        overflow: 0x0101_0109,
+    };
+    assert_eq!(rt; read_cell(PageKind::IndexInterior, 512, &bytes), Ok(cell));
+}
+
+#[test]
 fn bytes_that_are_no_cell_are_refused(rt: HostRuntime) {
     let read = |bytes: &[u8]| read_cell(PageKind::TableLeaf, 4096, bytes);
     assert_eq!(rt; read(b"\x06\x01\x03\x00\x13on"), Err(CellFault::ShortCell));
@@ -142,6 +213,35 @@ fn bytes_that_are_no_cell_are_refused(rt: HostRuntime) {
     assert_eq!(rt; read(b"\x87\xff\xff\xff\x7f"), Err(CellFault::ShortCell));
     assert_eq!(rt;
         read(b"\x88\x80\x80\x80\x00"),
+        Err(CellFault::SizeOverLimit)
+    );
+}
+
+#[test]
+fn bytes_that_are_no_cell_of_another_kind_are_refused(rt: HostRuntime) {
+    let read = |kind: PageKind, bytes: &[u8]| read_cell(kind, 4096, bytes).map(|cell| cell.size);
+    let interior = PageKind::TableInterior;
+    assert_eq!(rt;
+        read(interior, b"\x00\x00\x00\x05\x82"),
+        Err(CellFault::ShortCell)
+    );
+    assert_eq!(rt;
+        read(interior, b"\x00\x00\x00\x05\x88\x80\x80\x80\x00"),
+        Ok(9)
+    );
+    let leaf = PageKind::IndexLeaf;
+    assert_eq!(rt;
+        read(leaf, b"\x05\x01\x02\x03\x04"),
+        Err(CellFault::ShortCell)
+    );
+    assert_eq!(rt;
+        read(leaf, b"\x88\x80\x80\x80\x00"),
+        Err(CellFault::SizeOverLimit)
+    );
+    let interior = PageKind::IndexInterior;
+    assert_eq!(rt; read(interior, b"\x00\x00\x00"), Err(CellFault::ShortCell));
+    assert_eq!(rt;
+        read(interior, b"\x00\x00\x00\x07\x88\x80\x80\x80\x00"),
         Err(CellFault::SizeOverLimit)
     );
 }

@@ -4,7 +4,7 @@ use Rattle.std.specs.List.{flat_map}
 use Rattle.byteorder.specs.Endian.{big_bytes}
 use Rattle.file_spec.specs.Files.{part_of}
 use Rattle.format_spec.specs.declared.PageKind.{PageKind}
-use Rattle.format_spec.specs.declared.PageKind.TheVariants.{TableLeaf}
+use Rattle.format_spec.specs.declared.PageKind.TheVariants.{IndexInterior, TableInterior, IndexLeaf, TableLeaf}
 use Rattle.format_spec.specs.declared.CellView.{CellView}
 use Rattle.format_spec.specs.Numbers.{number_at}
 use Rattle.format_spec.specs.Cell.{IsCell}
@@ -12,14 +12,23 @@ use Rattle.format_spec.specs.Cell.{IsCell}
 -- the byte that stands for a kind of page
 abbrev pub kind_byte : PageKind → ℕ
 kind_byte TableLeaf = 13
+kind_byte TableInterior = 5
+kind_byte IndexLeaf = 10
+kind_byte IndexInterior = 2
 
 -- how many bytes a page's header has
 abbrev pub header_length : PageKind → ℕ
 header_length TableLeaf = 8
+header_length TableInterior = 12
+header_length IndexLeaf = 8
+header_length IndexInterior = 12
 
 -- the page of an interior page's last child; a leaf has none
 abbrev pub RightChild : PageKind → List ℕ → ℕ → ℕ → Type 0
 RightChild TableLeaf page header right = right ≡ 0
+RightChild TableInterior page header right = right ≡ number_at (header + 8) 4 page
+RightChild IndexLeaf page header right = right ≡ 0
+RightChild IndexInterior page header right = right ≡ number_at (header + 8) 4 page
 
 -- where a page's header begins: behind the database header on page 1
 abbrev pub header_place : ℕ → ℕ

@@ -14,6 +14,12 @@
 /// The kinds of b-tree page (Database File Format, section 1.6).
 #[derive(Clone, Copy, Debug, PartialEq, Eq)]
 pub enum PageKind {
+    /// An interior page of an index's tree: type 2.
+    IndexInterior,
+    /// An interior page of a table's tree: type 5.
+    TableInterior,
+    /// A leaf of an index's tree: type 10.
+    IndexLeaf,
     /// A leaf of a table's tree: type 13.
     TableLeaf,
 }
@@ -40,5 +46,6 @@ pub struct CellView {
 mod worked;
 
 pub use worked::{
-    worked_cell, worked_log_header, worked_page, worked_record, worked_sizes, worked_varints,
+    worked_cell, worked_log_header, worked_other_cells, worked_page, worked_record, worked_sizes,
+    worked_varints,
 };

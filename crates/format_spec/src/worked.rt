@@ -1,10 +1,10 @@
 // The definitions, computed on rows that were worked out apart from them.
 ghost use Rattle.std.specs.Prelude.{◌≡◌, pos, [], ◌∷◌, ◌++◌, true};
 ghost use Rattle.rbu_value.specs.declared.value.Value.TheVariants.{Null, Int, Text};
-ghost use Rattle.format_spec.specs.declared.PageKind.TheVariants.{TableLeaf};
+ghost use Rattle.format_spec.specs.declared.PageKind.TheVariants.{IndexInterior, TableInterior, IndexLeaf, TableLeaf};
 ghost use Rattle.format_spec.specs.Varint.{varint};
 ghost use Rattle.format_spec.specs.Record.{canonical_record};
-ghost use Rattle.format_spec.specs.Cell.{local_size, table_leaf_cell};
+ghost use Rattle.format_spec.specs.Cell.{local_size, cell_bytes, table_leaf_cell};
 ghost use Rattle.format_spec.specs.Page.{packed_leaf};
 ghost use Rattle.format_spec.specs.Log.{log_header};
 
@@ -33,11 +33,26 @@ pub fn worked_cell()
         ≡ 0x07 ∷ 0x03 ∷ 0x03 ∷ 0x00 ∷ 0x15 ∷ 0x64 ∷ 0x72 ∷ 0x65 ∷ 0x69 ∷ [] }
 {}
 
-/// How much of a payload a table leaf of 512 bytes keeps.
+/// The other kinds' cells: child 5 at rowid 300, and a payload of five bytes on a leaf and over child 7.
+#[tactic(auto, unfolding(crate::specs::Varint::varint, crate::specs::Varint::varint_front, crate::specs::Cell::cell_bytes, crate::specs::Cell::index_cell_bytes))]
+pub fn worked_other_cells()
+    ensures table_interior { cell_bytes TableInterior (record { size = 6; rowid = pos 300; child = 5; payload = 0; local_at = 0; local = 0; overflow = 0 }) []
+        ≡ 0x00 ∷ 0x00 ∷ 0x00 ∷ 0x05 ∷ 0x82 ∷ 0x2c ∷ [] }
+    ensures index_leaf { cell_bytes IndexLeaf (record { size = 6; rowid = pos 0; child = 0; payload = 5; local_at = 1; local = 5; overflow = 0 }) (1 ∷ 2 ∷ 3 ∷ 4 ∷ 5 ∷ [])
+        ≡ 0x05 ∷ 0x01 ∷ 0x02 ∷ 0x03 ∷ 0x04 ∷ 0x05 ∷ [] }
+    ensures index_interior { cell_bytes IndexInterior (record { size = 10; rowid = pos 0; child = 7; payload = 5; local_at = 5; local = 5; overflow = 0 }) (1 ∷ 2 ∷ 3 ∷ 4 ∷ 5 ∷ [])
+        ≡ 0x00 ∷ 0x00 ∷ 0x00 ∷ 0x07 ∷ 0x05 ∷ 0x01 ∷ 0x02 ∷ 0x03 ∷ 0x04 ∷ 0x05 ∷ [] }
+{}
+
+/// How much of a payload a table leaf and the pages of an index keep, at 512 bytes.
 pub fn worked_sizes()
     ensures whole { local_size TableLeaf 512 477 ≡ 477 }
     ensures least { local_size TableLeaf 512 478 ≡ 39 }
     ensures long { local_size TableLeaf 512 1048576 ≡ 64 }
+    ensures index_whole { local_size IndexLeaf 512 102 ≡ 102 }
+    ensures index_least { local_size IndexLeaf 512 103 ≡ 39 }
+    ensures index_most { local_size IndexInterior 512 610 ≡ 102 }
+    ensures index_over { local_size IndexInterior 512 611 ≡ 39 }
 {}
 
 /// The log's header for pages of 4096 bytes and the salt 1, 2.

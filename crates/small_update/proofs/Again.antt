@@ -36,7 +36,7 @@ use Rattle.small_update.proofs.FirstPage.{length-new_first_page, field_kept, val
 -- a record that lies in its cell whole is short
 short_record : (cell : List ℕ) (rowid : ℤ) (values : List Value) → IsRowCell cell rowid values → length (canonical_record 4 values) + 35 ≤ 4096
 short_record cell rowid values row =
-    let within = local_size_room 4096 row.view.payload (omega arith) in
+    let within = local_size_room TableLeaf 4096 row.view.payload (omega arith) in
     let local = row.is_cell.local in
     omega (arith, ap length row.record_is, length-take row.view.local (drop row.view.local_at cell), within, local)
 

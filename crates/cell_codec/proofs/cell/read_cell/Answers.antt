@@ -1,19 +1,19 @@
-use Rattle.std.proofs.Common.{◌≡◌, ◌↔◌, ℕ, List, Result, Ok, Err, IfOk, refl}
+use Rattle.std.proofs.Common.{◌≡◌, ◌↔◌, ℕ, List, Result, Ok, Err, IfOk, refl, sym, subst}
 use Rattle.format_spec.specs.declared.PageKind.{PageKind}
-use Rattle.format_spec.specs.declared.PageKind.TheVariants.{TableLeaf}
+use Rattle.format_spec.specs.declared.PageKind.TheVariants.{IndexInterior, TableInterior, IndexLeaf, TableLeaf}
 use Rattle.format_spec.specs.declared.CellView.{CellView}
 use Rattle.cell_codec.specs.Cells.{BeginsWithCell, BeginsOverLimit}
 use Rattle.cell_codec.specs.declared.cell.CellFault.{CellFault}
 use Rattle.cell_codec.specs.declared.cell.CellFault.TheVariants.{ShortCell, SizeOverLimit}
 use Rattle.cell_codec.proofs.cell.read_cell.Goals as goal
 
-found_at : (kind : PageKind) (usable : ℕ) (bytes : List ℕ) (r : Result CellView CellFault) → IfOk r (BeginsWithCell TableLeaf usable bytes) → IfOk r (BeginsWithCell kind usable bytes)
-found_at TableLeaf usable bytes r h = h
+-- the cell at the front was read, or there is none
+record IsRead (kind : PageKind) (usable : ℕ) (bytes : List ℕ) (r : Result CellView CellFault) : Type 0 where
+  found : IfOk r (BeginsWithCell kind usable bytes)
+  only : (cell : CellView) → BeginsWithCell kind usable bytes cell → r ≡ Ok cell
+  over : (r ≡ Err SizeOverLimit) ↔ BeginsOverLimit kind bytes
 
-only_at : (kind : PageKind) (usable : ℕ) (bytes : List ℕ) (r : Result CellView CellFault) → ((cell : CellView) → BeginsWithCell TableLeaf usable bytes cell → r ≡ Ok cell) → (cell : CellView) → BeginsWithCell kind usable bytes cell → r ≡ Ok cell
-only_at TableLeaf usable bytes r h = h
-
--- what is neither a cell nor over the limit is short
+-- then what is neither a cell nor over the limit is short
 short_at : (P : CellView → Type 0) (Q : Type 0) (r : Result CellView CellFault) → IfOk r P → ((cell : CellView) → P cell → r ≡ Ok cell) → ((r ≡ Err SizeOverLimit) ↔ Q)
     → (((cell : CellView) → ¬ P cell) × ¬ Q) → r ≡ Err ShortCell
 short_at P Q (Ok cell) found only over none = absurd (none.0 cell found)
@@ -24,16 +24,52 @@ none_at : (P : CellView → Type 0) (Q : Type 0) (r : Result CellView CellFault)
     → r ≡ Err ShortCell → ((cell : CellView) → ¬ P cell) × ¬ Q
 none_at P Q r only over e = (λ cell h. let f : r ≡ Ok cell = only cell h in absurd (cc), λ h. let f : r ≡ Err SizeOverLimit = over.1 h in absurd (cc))
 
-pub returns-clause-found : goal.returns-clause-found
-returns-clause-found c = found_at c.args.kind c.args.usable c.args.bytes.now c.read_table_leaf_cell.result c.read_table_leaf_cell.ensures.found
+short_is : (kind : PageKind) (usable : ℕ) (bytes : List ℕ) (r : Result CellView CellFault) → IsRead kind usable bytes r
+    → (r ≡ Err ShortCell) ↔ (((cell : CellView) → ¬ BeginsWithCell kind usable bytes cell) × ¬ BeginsOverLimit kind bytes)
+short_is kind usable bytes r h = (
+  none_at (BeginsWithCell kind usable bytes) (BeginsOverLimit kind bytes) r h.only h.over,
+  short_at (BeginsWithCell kind usable bytes) (BeginsOverLimit kind bytes) r h.found h.only h.over,
+)
 
-pub returns-clause-only : goal.returns-clause-only
-returns-clause-only c = λ cell h v. only_at c.args.kind c.args.usable c.args.bytes.now c.read_table_leaf_cell.result c.read_table_leaf_cell.ensures.only cell (h, v)
+at_kind : (kind other : PageKind) (usable : ℕ) (bytes : List ℕ) (r : Result CellView CellFault) → other ≡ kind → IsRead kind usable bytes r → IsRead other usable bytes r
+at_kind kind other usable bytes r e h = subst (λ k. IsRead k usable bytes r) (sym e) h
 
-pub returns-clause-short : goal.returns-clause-short
-returns-clause-short c =
-    let r = c.read_table_leaf_cell.result in
-    let P : CellView → Type 0 = BeginsWithCell c.args.kind c.args.usable c.args.bytes.now in
-    let found = found_at c.args.kind c.args.usable c.args.bytes.now r c.read_table_leaf_cell.ensures.found in
-    let only = only_at c.args.kind c.args.usable c.args.bytes.now r c.read_table_leaf_cell.ensures.only in
-    (none_at P (BeginsOverLimit c.args.bytes.now) r only c.read_table_leaf_cell.ensures.over, short_at P (BeginsOverLimit c.args.bytes.now) r found only c.read_table_leaf_cell.ensures.over)
+pub returns-in-TableLeaf : goal.returns-in-TableLeaf
+returns-in-TableLeaf c =
+    let read = at_kind TableLeaf c.args.kind c.args.usable c.args.bytes.now c.read_table_leaf_cell.result c.in-TableLeaf.is (record { found = c.read_table_leaf_cell.ensures.found; only = c.read_table_leaf_cell.ensures.only; over = c.read_table_leaf_cell.ensures.over }) in
+    record {
+      found = read.found;
+      only = λ cell h v. read.only cell (h, v);
+      over = read.over;
+      short = short_is c.args.kind c.args.usable c.args.bytes.now c.read_table_leaf_cell.result read;
+    }
+
+pub returns-in-TableInterior : goal.returns-in-TableInterior
+returns-in-TableInterior c =
+    let read = at_kind TableInterior c.args.kind c.args.usable c.args.bytes.now c.read_table_interior_cell.result c.in-TableInterior.is (record { found = c.read_table_interior_cell.ensures.found; only = c.read_table_interior_cell.ensures.only; over = (λ e. c.read_table_interior_cell.ensures.over e, λ h. absurd h) }) in
+    record {
+      found = read.found;
+      only = λ cell h v. read.only cell (h, v);
+      over = read.over;
+      short = short_is c.args.kind c.args.usable c.args.bytes.now c.read_table_interior_cell.result read;
+    }
+
+pub returns-in-IndexLeaf : goal.returns-in-IndexLeaf
+returns-in-IndexLeaf c =
+    let read = at_kind IndexLeaf c.args.kind c.args.usable c.args.bytes.now c.read_index_cell.result c.in-IndexLeaf.is (record { found = c.read_index_cell.ensures.found; only = c.read_index_cell.ensures.only; over = c.read_index_cell.ensures.over }) in
+    record {
+      found = read.found;
+      only = λ cell h v. read.only cell (h, v);
+      over = read.over;
+      short = short_is c.args.kind c.args.usable c.args.bytes.now c.read_index_cell.result read;
+    }
+
+pub returns-in-IndexInterior : goal.returns-in-IndexInterior
+returns-in-IndexInterior c =
+    let read = at_kind IndexInterior c.args.kind c.args.usable c.args.bytes.now c.read_index_cell-in-IndexInterior.result c.in-IndexInterior.is (record { found = c.read_index_cell-in-IndexInterior.ensures.found; only = c.read_index_cell-in-IndexInterior.ensures.only; over = c.read_index_cell-in-IndexInterior.ensures.over }) in
+    record {
+      found = read.found;
+      only = λ cell h v. read.only cell (h, v);
+      over = read.over;
+      short = short_is c.args.kind c.args.usable c.args.bytes.now c.read_index_cell-in-IndexInterior.result read;
+    }

@@ -1,99 +1,40 @@
-use Rattle.std.proofs.Common.{rules, ◌≡◌, ℕ, List, ◌+◌, ◌-◌, ◌<◌, ◌≤◌, length, take, drop, IfOk, IfSome, Some, None, Result, Ok, Err, slice_range, Option, sym, ◌∙◌, ap, subst, arith, refl}
-use Rattle.std.proofs.lemmas.List.{take_rest, length-take-le, length-drop}
+use Rattle.std.proofs.Common.{rules, ◌+◌, ◌<◌, length, Ok, slice_range, ◌∙◌, subst, ap, refl}
+use Rattle.std.proofs.lemmas.List.{take_rest}
 use Rattle.std.proofs.lemmas.Int.{to_z-of_z}
 use Rattle.std.specs.Int.{w64, cast_signed, cast_unsigned}
 use Rattle.std.specs.Int.RustNames.{FitsSigned}
-use Rattle.std.specs.Option.{ok_or}
-use Rattle.byteorder.specs.Endian.{big_number}
 use Rattle.format_spec.specs.declared.PageKind.TheVariants.{TableLeaf}
 use Rattle.format_spec.specs.declared.CellView.{CellView}
-use Rattle.format_spec.specs.Cell.{overflow_size}
+use Rattle.cell_codec.specs.Cells.{part_size, IsLocalPart}
 use Rattle.cell_codec.specs.CellLaws.{same_first_cell}
-use Rattle.cell_codec.specs.declared.cell.CellFault.{CellFault}
-use Rattle.std.proofs.lemmas.Result.{err_from_is_err_and}
-use Rattle.format_spec.specs.Varint.{IsVarint}
-use Rattle.cell_codec.specs.Cells.{BeginsWithCell}
-use Rattle.cell_codec.specs.declared.cell.CellFault.TheVariants.{ShortCell}
-use Rattle.cell_codec.proofs.CellReading.{PayloadIs, RowidIs, BeginsWithNone, begins_with_none, no_payload, no_payload_over, no_cell_over, not_over, no_rowid, too_short, cell_read}
+use Rattle.cell_codec.proofs.CellReading.{varint_is, varint_at, begins_with_none, BeginsWithNone, begins_with_no_length, part_is, none_is, no_payload, no_rowid, not_over, too_short, cell_read}
 use Rattle.cell_codec.proofs.cell.read_table_leaf_cell.Goals as goal
 
-payload_is : (bytes : List ℕ) (r : Option (ℕ × ℕ)) (payload i : ℕ) → r ≡ Some (payload, i) → IfSome r (λ found. (found.1 ≤ length bytes) × IsVarint (take found.1 bytes) found.0) → PayloadIs bytes payload i
-payload_is bytes r payload i e h =
-    let f : (i ≤ length bytes) × IsVarint (take i bytes) payload = rw e at h in
-    record { within = f.0; spelled = f.1 }
+pub returns-in_err-payload-clause-only : goal.returns-in_err-payload-clause-only
+returns-in_err-payload-clause-only c =
+    let none = begins_with_no_length c.args.bytes.now c.read_payload_length.result c.in_err-payload.field-0.0 c.in_err-payload.was c.read_payload_length.ensures.only in
+    λ cell h. absurd (no_payload c.args.usable c.args.bytes.now none cell h)
 
-rowid_is : (bytes rest : List ℕ) (r : Option (ℕ × ℕ)) (i number j : ℕ) → rest ≡ drop i bytes → r ≡ Some (number, j) → IfSome r (λ found. (found.1 ≤ length rest) × IsVarint (take found.1 rest) found.0) → RowidIs bytes i number j
-rowid_is bytes rest r i number j s e h =
-    let f : (j ≤ length rest) × IsVarint (take j rest) number = rw e at h in
-    record { within = subst (λ t. j ≤ length t) s f.0; spelled = subst (λ t. IsVarint (take j t) number) s f.1 }
-
-short_is : (r : Result CellView CellFault) (x y : CellFault) (o : Option (ℕ × ℕ)) → r ≡ Err x → x ≡ y → ◌≡◌ {A = Result (ℕ × ℕ) CellFault} (Err y) (ok_or o ShortCell) → o ≡ None → r ≡ Err ShortCell
-short_is r x y o e f g h =
-    let k : ◌≡◌ {A = Result (ℕ × ℕ) CellFault} (Err y) (Err ShortCell) = g ∙ ap (λ (t : Option (ℕ × ℕ)). ok_or t ShortCell) h in
-    cc
-
-at_short : (usable : ℕ) (bytes : List ℕ) (r : Result CellView CellFault) → r ≡ Err ShortCell → IfOk r (BeginsWithCell TableLeaf usable bytes)
-at_short usable bytes r e = subst (λ (t : Result CellView CellFault). IfOk t (BeginsWithCell TableLeaf usable bytes)) (sym e) tt
-
-pub returns-in_err-payload : goal.returns-in_err-payload
-returns-in_err-payload c =
-    let bytes = c.args.bytes.now in
-    let none = begins_with_none bytes c.read_varint.result c.in_err-payload.ensures.ok_part c.read_varint.ensures.only in
-    let e = err_from_is_err_and c.from_residual.result c.from_residual.ensures.1 in
-    let short = short_is c.from_residual.result e.0 c.in_err-payload.field-0.0 c.read_varint.result e.1 e.2 c.in_err-payload.ensures.value c.in_err-payload.ensures.ok_part in
-    record {
-      found = at_short c.args.usable bytes c.from_residual.result short;
-      only = λ cell h. absurd (no_payload c.args.usable bytes none cell h);
-      over = (λ q. absurd (cc), λ h. absurd (no_payload_over bytes none h));
-    }
-
-pub returns-then-payload-gt-PAYLOAD_LIMIT : goal.returns-then-payload-gt-PAYLOAD_LIMIT
-returns-then-payload-gt-PAYLOAD_LIMIT c =
+pub returns-in_err-rowid-clause-only : goal.returns-in_err-rowid-clause-only
+returns-in_err-rowid-clause-only c =
     let bytes = c.args.bytes.now in
     let payload = c.in_ok-payload.payload in
     let i = c.in_ok-payload.rowid_at in
-    let v = payload_is bytes c.read_varint.result payload i c.in_ok-payload.ensures.ok_part c.read_varint.ensures.found in
-    let over : 2147483647 < payload = omega arith in
-    record {
-      found = tt;
-      only = λ cell h. absurd (no_cell_over c.args.usable bytes payload i v over cell h);
-      over = (λ _. (payload, i, v.within, v.spelled, over), λ _. refl);
-    }
+    let v = varint_at bytes bytes 0 payload i refl c.in_ok-payload.ensures.found.0 c.in_ok-payload.ensures.found.1 in
+    let none = begins_with_none (slice_range bytes i (length bytes)) c.read_varint.result c.in_err-rowid.ensures.ok_part c.read_varint.ensures.only in
+    λ cell h. absurd (no_rowid c.args.usable bytes payload i v (subst BeginsWithNone (take_rest bytes i) none) cell h)
 
-pub returns-in_err-rowid : goal.returns-in_err-rowid
-returns-in_err-rowid c =
-    let bytes = c.args.bytes.now in
-    let payload = c.in_ok-payload.payload in
-    let i = c.in_ok-payload.rowid_at in
-    let v = payload_is bytes c.read_varint.result payload i c.in_ok-payload.ensures.ok_part c.read_varint.ensures.found in
-    let rest = slice_range bytes i (length bytes) in
-    let same : rest ≡ drop i bytes = take_rest bytes i in
-    let none = begins_with_none rest c.read_varint-2.result c.in_err-rowid.ensures.ok_part c.read_varint-2.ensures.only in
-    let nothing = subst BeginsWithNone same none in
-    let e = err_from_is_err_and c.from_residual-in_err-rowid.result c.from_residual-in_err-rowid.ensures.1 in
-    let short = short_is c.from_residual-in_err-rowid.result e.0 c.in_err-rowid.field-0.0 c.read_varint-2.result e.1 e.2 c.in_err-rowid.ensures.value c.in_err-rowid.ensures.ok_part in
-    record {
-      found = at_short c.args.usable bytes c.from_residual-in_err-rowid.result short;
-      only = λ cell h. absurd (no_rowid c.args.usable bytes payload i v nothing cell h);
-      over = (λ q. absurd (cc), λ h. absurd (not_over bytes payload i v (omega arith) h));
-    }
-
-pub returns-then-bytes-size : goal.returns-then-bytes-size
-returns-then-bytes-size c =
+pub returns-in_err-part-clause-only : goal.returns-in_err-part-clause-only
+returns-in_err-part-clause-only c =
     let bytes = c.args.bytes.now in
     let payload = c.in_ok-payload.payload in
     let i = c.in_ok-payload.rowid_at in
     let number = c.in_ok-rowid.rowid in
-    let j = c.in_ok-rowid.rowid_length in
-    let v = payload_is bytes c.read_varint.result payload i c.in_ok-payload.ensures.ok_part c.read_varint.ensures.found in
-    let rest = slice_range bytes i (length bytes) in
-    let same : rest ≡ drop i bytes = take_rest bytes i in
-    let w = rowid_is bytes rest c.read_varint-2.result i number j same c.in_ok-rowid.ensures.ok_part c.read_varint-2.ensures.found in
-    record {
-      found = tt;
-      only = λ cell h. absurd (too_short c.args.usable bytes payload i number j c.local_size-local.result v w c.local_size-local.ensures.value (omega (arith, c.overflow_size.ensures.value)) cell h);
-      over = (λ e. absurd (cc), λ h. absurd (not_over bytes payload i v (omega arith) h));
-    }
+    let j = c.in_ok-rowid.rowid_size in
+    let v = varint_at bytes bytes 0 payload i refl c.in_ok-payload.ensures.found.0 c.in_ok-payload.ensures.found.1 in
+    let w = varint_is bytes (slice_range bytes i (length bytes)) i c.read_varint.result number j (take_rest bytes i) c.in_ok-rowid.ensures.ok_part c.read_varint.ensures.found in
+    let short = none_is _ c.read_local_part.result c.in_err-part.ensures.ok_part c.read_local_part.ensures.none in
+    λ cell h. absurd (too_short c.args.usable bytes payload i number j v w (subst (λ s. length s < part_size TableLeaf c.args.usable payload) (take_rest bytes (i + j)) short) cell h)
 
 pub returns : goal.returns
 returns c =
@@ -101,36 +42,16 @@ returns c =
     let payload = c.in_ok-payload.payload in
     let i = c.in_ok-payload.rowid_at in
     let number = c.in_ok-rowid.rowid in
-    let j = c.in_ok-rowid.rowid_length in
-    let v = payload_is bytes c.read_varint.result payload i c.in_ok-payload.ensures.ok_part c.read_varint.ensures.found in
-    let rest = slice_range bytes i (length bytes) in
-    let same : rest ≡ drop i bytes = take_rest bytes i in
-    let w = rowid_is bytes rest c.read_varint-2.result i number j same c.in_ok-rowid.ensures.ok_part c.read_varint-2.ensures.found in
-    let local = c.local_size-local.result in
-    let n = c.overflow_size.result in
-    let at = i + j + local in
+    let j = c.in_ok-rowid.rowid_size in
+    let part = c.in_ok-part.part in
+    let v = varint_at bytes bytes 0 payload i refl c.in_ok-payload.ensures.found.0 c.in_ok-payload.ensures.found.1 in
+    let w = varint_is bytes (slice_range bytes i (length bytes)) i c.read_varint.result number j (take_rest bytes i) c.in_ok-rowid.ensures.ok_part c.read_varint.ensures.found in
+    let part_found = subst (λ s. IsLocalPart TableLeaf c.args.usable payload s part) (take_rest bytes (i + j))
+    (part_is (IsLocalPart TableLeaf c.args.usable payload (slice_range bytes (i + j) (length bytes))) c.read_local_part.result part c.in_ok-part.ensures.ok_part c.read_local_part.ensures.found) in
     let fits : FitsSigned w64 c.cast_signed.result = search rules in
-    let cell : CellView = record {
-      size = at + n;
-      rowid = cast_signed w64 (cast_unsigned w64 c.cast_signed.result);
-      child = 0;
-      payload = payload;
-      local_at = i + j;
-      local = local;
-      overflow = c.read_overflow.result;
-    } in
-    let m : n ≡ overflow_size local payload = c.overflow_size.ensures.value in
-    let some : at + n - at ≡ n = omega arith in
-    let here : length (take n (drop at bytes)) ≡ n = length-take-le n (drop at bytes) (omega (arith, length-drop at bytes)) in
-    let overflow : c.read_overflow.result ≡ big_number (overflow_size local payload) (take (overflow_size local payload) (drop at bytes)) =
-    c.read_overflow.ensures
-    ∙ ap (λ k. big_number (length (take k (drop at bytes))) (take k (drop at bytes))) some
-    ∙ ap (λ k. big_number k (take n (drop at bytes))) here
-    ∙ ap (λ k. big_number k (take k (drop at bytes))) m in
-    let found = cell_read c.args.usable bytes payload i number j cell v w (omega arith) refl (to_z-of_z w64 c.cast_signed.result fits ∙ c.cast_signed.ensures) refl refl c.local_size-local.ensures.value
-    (ap (λ k. at + k) m) overflow (omega arith) in
+    let found = cell_read c.args.usable bytes payload i number j (cast_signed w64 (cast_unsigned w64 c.cast_signed.result)) part v w c.in_ok-payload.ensures.found.2 (to_z-of_z w64 c.cast_signed.result fits ∙ c.cast_signed.ensures) part_found in
     record {
       found = found;
-      only = λ other h. ap (λ (d : CellView). Ok d) (same_first_cell TableLeaf c.args.usable bytes cell other found h);
-      over = (λ e. absurd (cc), λ h. absurd (not_over bytes payload i v (omega arith) h));
+      only = λ other h. ap (λ (d : CellView). Ok d) (same_first_cell TableLeaf c.args.usable bytes _ other found h);
+      over = (λ e. absurd (cc), λ h. absurd (not_over bytes payload i v c.in_ok-payload.ensures.found.2 h));
     }

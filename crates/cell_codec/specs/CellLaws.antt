@@ -17,7 +17,7 @@ use Rattle.cell_codec.specs.VarintLaws.{spelling_one_to_nine, same_varint, varin
 use Rattle.cell_codec.specs.Cells.{BeginsWithCell, IsWritable, whole_cell}
 
 -- lists that are equal have equal fronts of one length
-same_parts : (a b x y : List ℕ) → length a ≡ length b → a ++ x ≡ b ++ y → (a ≡ b) × (x ≡ y)
+pub same_parts : (a b x y : List ℕ) → length a ≡ length b → a ++ x ≡ b ++ y → (a ≡ b) × (x ≡ y)
 same_parts [] [] x y l e = (refl, e)
 same_parts [] (b ∷ bs) x y l e = absurd (omega arith)
 same_parts (a ∷ us) [] x y l e = absurd (omega arith)

@@ -1,0 +1,146 @@
+-- Bytes have one fault at most, and a record has none.
+use Rattle.std.proofs.Common.{◌≡◌, ℕ, ◌+◌, List, [], ◌∷◌, ◌++◌, length, inl, inr, refl, sym, ◌∙◌, ap, subst, length-append, take, arith}
+use Rattle.std.proofs.lemmas.List.{append_cancel_left, take_at}
+use Rattle.std.proofs.lemmas.List.Sums.{sum_by-cons}
+use Rattle.std.specs.List.{sum_by}
+use Rattle.rbu_value.specs.declared.value.Value.{Value}
+use Rattle.rbu_value.specs.declared.value.Value.TheVariants.{Null, Int, Text, Blob}
+use Rattle.format_spec.specs.Varint.{IsVarint}
+use Rattle.format_spec.specs.Record.{IsField, AreFields, IsRecord}
+use Rattle.cell_codec.specs.VarintLaws.{same_varint, none_in_high}
+use Rattle.record_codec.specs.declared.read.RecordFault.{RecordFault}
+use Rattle.record_codec.specs.declared.read.RecordFault.TheVariants.{ShortHeader, ReservedType, RealValue, BodyLength, Memory}
+use Rattle.record_codec.specs.Faults.{IsReserved, IsValueType, body_size, IsCut, BeginsWith, After, StopsWith, FieldsHaveFault, HasHeader, HasNoHeader, HasFault}
+use Rattle.record_codec.specs.RecordLaws.{field_size, no_varint_ends, same_header}
+
+-- no varint stands at the front of bytes that end inside it
+pub cut_short : (bytes spelling rest : List ℕ) (type : ℕ) → IsCut bytes → IsVarint spelling type → bytes ≡ spelling ++ rest → ⊥
+cut_short bytes spelling rest type c v e =
+    none_in_high bytes (length spelling) type c.0 c.1 (subst (λ s. IsVarint s type) (sym (ap (take (length spelling)) e ∙ take_at spelling rest (length spelling) refl)) v)
+
+no_value_reserved : (type : ℕ) → IsReserved type → IsValueType type → ⊥
+no_value_reserved type r k = elim r [ inl e ↦ k.1 e | inr e ↦ k.2 e ]
+
+-- the serial type of a value stops no reading
+pub stops_not : (fault : RecordFault) (bytes spelling rest : List ℕ) (type : ℕ) → StopsWith fault bytes → IsVarint spelling type → IsValueType type → bytes ≡ spelling ++ rest → ⊥
+stops_not ShortHeader bytes spelling rest type s v k e = cut_short bytes spelling rest type s.1 v e
+stops_not ReservedType bytes spelling rest type s v k e =
+    no_value_reserved type (subst IsReserved (same_varint s.rest rest s.varint v (sym s.whole ∙ e)).1 s.holds) k
+stops_not RealValue bytes spelling rest type s v k e = k.0 (sym (same_varint s.rest rest s.varint v (sym s.whole ∙ e)).1 ∙ s.holds)
+stops_not BodyLength bytes spelling rest type s v k e = no_varint_ends bytes spelling rest type v e s
+stops_not (Memory error) bytes spelling rest type s v k e = s
+
+-- a varint at the front is neither cut nor the end
+not_cut : (P : ℕ → Type 0) (bytes : List ℕ) → BeginsWith P bytes → IsCut bytes → ⊥
+not_cut P bytes b c = cut_short bytes b.spelling b.rest b.type c b.varint b.whole
+
+not_end : (P : ℕ → Type 0) (bytes : List ℕ) → BeginsWith P bytes → bytes ≡ [] → ⊥
+not_end P bytes b e = no_varint_ends bytes b.spelling b.rest b.type b.varint b.whole e
+
+not_both : (bytes : List ℕ) → BeginsWith IsReserved bytes → BeginsWith (λ type. type ≡ 7) bytes → ⊥
+not_both bytes b c =
+    let same : b.type ≡ c.type = (same_varint b.rest c.rest b.varint c.varint (sym b.whole ∙ c.whole)).1 in
+    let seven : c.type ≡ 7 = c.holds in
+    elim b.holds [ inl e ↦ omega (arith, e, same, seven) | inr e ↦ omega (arith, e, same, seven) ]
+
+-- one fault stops the reading
+pub same_stop : (f g : RecordFault) (bytes : List ℕ) → StopsWith f bytes → StopsWith g bytes → f ≡ g
+same_stop ShortHeader ShortHeader bytes s t = refl
+same_stop ShortHeader ReservedType bytes s t = absurd (not_cut IsReserved bytes t s.1)
+same_stop ShortHeader RealValue bytes s t = absurd (not_cut (λ type. type ≡ 7) bytes t s.1)
+same_stop ShortHeader BodyLength bytes s t = absurd (s.0 t)
+same_stop ShortHeader (Memory error) bytes s t = absurd t
+same_stop ReservedType ShortHeader bytes s t = absurd (not_cut IsReserved bytes s t.1)
+same_stop ReservedType ReservedType bytes s t = refl
+same_stop ReservedType RealValue bytes s t = absurd (not_both bytes s t)
+same_stop ReservedType BodyLength bytes s t = absurd (not_end IsReserved bytes s t)
+same_stop ReservedType (Memory error) bytes s t = absurd t
+same_stop RealValue ShortHeader bytes s t = absurd (not_cut (λ type. type ≡ 7) bytes s t.1)
+same_stop RealValue ReservedType bytes s t = absurd (not_both bytes t s)
+same_stop RealValue RealValue bytes s t = refl
+same_stop RealValue BodyLength bytes s t = absurd (not_end (λ type. type ≡ 7) bytes s t)
+same_stop RealValue (Memory error) bytes s t = absurd t
+same_stop BodyLength ShortHeader bytes s t = absurd (t.0 s)
+same_stop BodyLength ReservedType bytes s t = absurd (not_end IsReserved bytes t s)
+same_stop BodyLength RealValue bytes s t = absurd (not_end (λ type. type ≡ 7) bytes t s)
+same_stop BodyLength BodyLength bytes s t = refl
+same_stop BodyLength (Memory error) bytes s t = absurd t
+same_stop (Memory error) g bytes s t = absurd s
+
+-- and after the same serial types
+pub same_reading : (f g : RecordFault) (rs ss types : List ℕ) → After (StopsWith f) rs types → After (StopsWith g) ss types → (rs ≡ ss) × (f ≡ g)
+same_reading f g [] [] types a b = (refl, same_stop f g types a b)
+same_reading f g [] (s ∷ ss) types a b = absurd (stops_not f types b.0 b.1 s a b.2 b.3 b.4)
+same_reading f g (r ∷ rs) [] types a b = absurd (stops_not g types a.0 a.1 r b a.2 a.3 a.4)
+same_reading f g (r ∷ rs) (s ∷ ss) types a b =
+    let same = same_varint a.1 b.1 a.2 b.2 (sym a.4 ∙ b.4) in
+    let rests : a.1 ≡ b.1 = append_cancel_left a.0 a.1 b.1 (sym a.4 ∙ b.4 ∙ ap (λ t. t ++ b.1) (sym same.0)) in
+    let behind = same_reading f g rs ss b.1 (subst (After (StopsWith f) rs) rests a.5) b.5 in
+    let first : r ≡ s = same.1 in
+    let others : rs ≡ ss = behind.0 in
+    (cc, behind.1)
+
+-- a field's serial type is one of a value
+pub field_type : (type : ℕ) (bytes : List ℕ) (value : Value) → IsField type bytes value → IsValueType type
+field_type type bytes Null f = (λ e. omega (arith, f.0, e), λ e. omega (arith, f.0, e), λ e. omega (arith, f.0, e))
+field_type type bytes (Int z) f =
+    elim f [
+      | inl g ↦ (λ e. omega (arith, g.1, e), λ e. omega (arith, g.1, e), λ e. omega (arith, g.1, e))
+      | inr g ↦ (λ e. omega (arith, g.0, e), λ e. omega (arith, g.1, e), λ e. omega (arith, g.1, e))
+    ]
+field_type type bytes (Text text) f = (λ e. omega (arith, f.0, e), λ e. omega (arith, f.0, e), λ e. omega (arith, f.0, e))
+field_type type bytes (Blob blob) f = (λ e. omega (arith, f.0, e), λ e. omega (arith, f.0, e), λ e. omega (arith, f.0, e))
+
+-- the serial types of fields
+fields_types : (types bodies : List ℕ) (values : List Value) → AreFields types bodies values → (read : List ℕ) × After (StopsWith BodyLength) read types × (length bodies ≡ sum_by body_size read)
+fields_types types bodies [] f = ([], f.0, ap length f.1)
+fields_types types bodies (v ∷ vs) f =
+    let rest = fields_types f.3 f.4 vs f.9 in (
+      f.0 ∷ rest.0,
+      (f.1, f.3, f.5, field_type f.0 f.2 v f.8, f.6, rest.1),
+      ap length f.7 ∙ length-append f.2 f.4 ∙ ap (λ n. n + length f.4) (field_size f.0 f.2 v f.8) ∙ ap (λ n. body_size f.0 + n) rest.2 ∙ sym (sum_by-cons body_size f.0 rest.0),
+    )
+
+fields_no_fault : (types bodies : List ℕ) (values : List Value) (fault : RecordFault) → AreFields types bodies values → FieldsHaveFault types bodies fault → ⊥
+fields_no_fault types bodies values fault f h =
+    let read = fields_types types bodies values f in
+    let same = same_reading fault BodyLength h.read read.0 types h.stop read.1 in
+    h.sizes same.1 (read.2 ∙ ap (sum_by body_size) (sym same.0))
+
+header_whole : (bytes types bodies : List ℕ) → HasHeader bytes types bodies → HasNoHeader bytes → ⊥
+header_whole bytes types bodies h n =
+    elim n [
+      | inl cut ↦ cut_short bytes h.size (types ++ bodies) (length h.size + length types) cut h.header h.whole
+      | inr w ↦
+          let same = same_varint (types ++ bodies) w.1 h.header w.4 (sym h.whole ∙ w.3) in
+          let sizes : length h.size ≡ length w.0 = ap length same.0 in
+          let header : length h.size + length types ≡ w.2 = same.1 in
+          let all : length bytes ≡ length h.size + (length types + length bodies) =
+          ap length h.whole ∙ length-append h.size (types ++ bodies) ∙ ap (λ n. length h.size + n) (length-append types bodies) in
+          elim w.5 [ inl less ↦ omega (arith, less, sizes, header) | inr more ↦ omega (arith, more, all, header) ]
+    ]
+
+-- a record has no fault
+pub record_no_fault : (bytes : List ℕ) (values : List Value) (fault : RecordFault) → IsRecord bytes values → HasFault bytes fault → ⊥
+record_no_fault bytes values fault r h =
+    let own : HasHeader bytes r.types r.bodies = record { size = r.size; whole = r.whole; header = r.header } in
+    elim h [
+      | inl n ↦ header_whole bytes r.types r.bodies own n.1
+      | inr f ↦
+          let parts = same_header r.size r.types r.bodies f.2.size f.0 f.1 r.header f.2.header (sym r.whole ∙ f.2.whole) in
+          fields_no_fault f.0 f.1 values fault (subst (λ t. AreFields t f.1 values) parts.1 (subst (λ b. AreFields r.types b values) parts.2 r.fields)) f.3
+    ]
+
+-- and other bytes have one
+pub same_fault : (bytes : List ℕ) (f g : RecordFault) → HasFault bytes f → HasFault bytes g → f ≡ g
+same_fault bytes f g h k =
+    elim h [
+      | inl m ↦ elim k [ inl n ↦ m.0 ∙ sym n.0 | inr w ↦ absurd (header_whole bytes w.0 w.1 w.2 m.1) ]
+      | inr v ↦
+          elim k [
+            | inl n ↦ absurd (header_whole bytes v.0 v.1 v.2 n.1)
+            | inr w ↦
+                let parts = same_header v.2.size v.0 v.1 w.2.size w.0 w.1 v.2.header w.2.header (sym v.2.whole ∙ w.2.whole) in
+                (same_reading f g v.3.read w.3.read w.0 (subst (After (StopsWith f) v.3.read) parts.1 v.3.stop) w.3.stop).1
+          ]
+    ]

@@ -1,0 +1,144 @@
+-- What the loops of the reader keep.
+use Rattle.std.proofs.Common.{◌≡◌, ℕ, ◌-◌, ◌<◌, ◌≤◌, ◌⊎◌, List, [], ◌∷◌, ◌++◌, length, take, drop, inl, inr, refl, sym, ◌∙◌, ap, subst, append_assoc, length-append, arith, Result, Ok, Err, Option, Some, IfSome}
+use Rattle.cell_codec.specs.VarintLaws.{spelling_one_to_nine}
+use Rattle.std.proofs.lemmas.List.{nil_from_length, length-take-le, length-drop, take_all, drop-drop, take-append-drop}
+use Rattle.std.proofs.lemmas.List.Sums.{sum_by-cons}
+use Rattle.std.proofs.lemmas.Bool.{cases_lt}
+use Rattle.std.specs.Result.{IfOk, IfErr, MatchResult}
+use Rattle.rbu_value.specs.declared.value.Value.{Value}
+use Rattle.format_spec.specs.Varint.{IsVarint}
+use Rattle.format_spec.specs.Record.{IsField, AreFields, IsRecord}
+use Rattle.record_codec.specs.declared.read.RecordFault.{RecordFault}
+use Rattle.record_codec.specs.declared.read.RecordFault.TheVariants.{BodyLength}
+use Rattle.record_codec.specs.Faults.{IsMemory, IsReserved, IsValueType, body_size, BeginsWith, After, StopsWith, FieldsHaveFault, HasHeader, HasNoHeader, HasFault}
+use Rattle.record_codec.specs.RecordLaws.{field_size, same_record}
+use Rattle.record_codec.proofs.Apart.{record_no_fault, same_fault}
+
+-- the reading of serial types ends with this fault
+abbrev pub ReadingStops : List ℕ → RecordFault → Type 0
+ReadingStops types fault = (read : List ℕ) × After (StopsWith fault) read types
+
+-- what stops the reading of the rest stops that of the whole
+pub record TypesContinue (types rest : List ℕ) : Type 0 where
+  pub stop : (fault : RecordFault) → ReadingStops rest fault → ReadingStops types fault
+
+-- a serial type of a value at the front, and what is behind it
+abbrev pub Splits : List ℕ → ℕ → List ℕ → Type 0
+Splits types type behind = IsValueType type × ((spelling : List ℕ) × IsVarint spelling type × (types ≡ spelling ++ behind))
+
+pub one_more_type : (types rest behind : List ℕ) (type : ℕ) → TypesContinue types rest → Splits rest type behind → TypesContinue types behind
+one_more_type types rest behind type c s =
+    record { stop = λ fault r. c.stop fault (type ∷ r.0, (s.1.0, behind, s.1.1, s.0, s.1.2, r.1)) }
+
+-- a varint takes something off the serial types
+pub shorter : (types behind : List ℕ) (type : ℕ) → Splits types type behind → length behind < length types
+shorter types behind type s = omega (arith, ap length s.1.2, length-append s.1.0 behind, spelling_one_to_nine s.1.0 type s.1.1)
+
+-- the fields that were read stand in front of those of the rest, and the rest has the fault of the whole
+pub record FieldsContinue (types bodies types_left bodies_left : List ℕ) (values : List Value) : Type 0 where
+  pub fields : (others : List Value) → AreFields types_left bodies_left others → AreFields types bodies (values ++ others)
+  pub fault : (fault : RecordFault) → FieldsHaveFault types_left bodies_left fault → FieldsHaveFault types bodies fault
+
+pub nothing_read : (types bodies : List ℕ) → FieldsContinue types bodies types bodies []
+nothing_read types bodies = record { fields = λ others f. f; fault = λ fault h. h }
+
+-- the fault of what is behind a field
+fault_behind : (types bodies behind rest body : List ℕ) (type : ℕ) (fault : RecordFault) → Splits types type behind → bodies ≡ body ++ rest → length body ≡ body_size type
+    → FieldsHaveFault behind rest fault → FieldsHaveFault types bodies fault
+fault_behind types bodies behind rest body type fault s e n h =
+    record {
+      read = type ∷ h.read;
+      stop = (s.1.0, behind, s.1.1, s.0, s.1.2, h.stop);
+      sizes = λ b all. h.sizes b (omega (arith, all, ap length e, length-append body rest, n, sum_by-cons body_size type h.read));
+    }
+
+pub one_more_field : (types bodies types_left bodies_left behind rest body : List ℕ) (values : List Value) (type : ℕ) (value : Value) → FieldsContinue types bodies types_left bodies_left values
+    → Splits types_left type behind → bodies_left ≡ body ++ rest → IsField type body value → FieldsContinue types bodies behind rest (values ++ value ∷ [])
+one_more_field types bodies types_left bodies_left behind rest body values type value c s e f =
+    record {
+      fields =
+          λ others g.
+          subst (AreFields types bodies) (sym (append_assoc values (value ∷ []) others))
+          (c.fields (value ∷ others) (type, s.1.0, body, behind, rest, s.1.1, s.1.2, e, f, g));
+      fault = λ fault h. c.fault fault (fault_behind types_left bodies_left behind rest body type fault s e (field_size type body value f) h);
+    }
+
+-- the serial type at the front has the fault
+pub stopped : (types bodies : List ℕ) (fault : RecordFault) → 0 < length types → StopsWith fault types → FieldsHaveFault types bodies fault
+stopped types bodies fault p s =
+    record {
+      read = [];
+      stop = s;
+      sizes = λ b all. let none : types ≡ [] = subst (λ f. StopsWith f types) b s in omega (arith, ap length none, p);
+    }
+
+-- the bodies end inside the first one
+pub bodies_end : (types bodies behind : List ℕ) (type : ℕ) (fault : RecordFault) → Splits types type behind → length bodies < body_size type → ReadingStops behind fault → FieldsHaveFault types bodies fault
+bodies_end types bodies behind type fault s short r =
+    record {
+      read = type ∷ r.0;
+      stop = (s.1.0, behind, s.1.1, s.0, s.1.2, r.1);
+      sizes = λ b all. omega (arith, all, short, sum_by-cons body_size type r.0);
+    }
+
+-- something follows the last body
+pub bodies_go_on : (bodies : List ℕ) → (bodies ≡ [] → ⊥) → FieldsHaveFault [] bodies BodyLength
+bodies_go_on bodies n = record { read = []; stop = refl; sizes = λ b all. n (nil_from_length bodies all) }
+
+-- what was read is the record, and nothing else was
+pub read_only : {V : Type 0} (items : V → List Value) (bytes : List ℕ) (r : Result V RecordFault) → IfOk r (λ v. IsRecord bytes (items v)) → IfErr r (λ fault. IsMemory fault ⊎ HasFault bytes fault)
+    → (values : List Value) → IsRecord bytes values → MatchResult r (λ v. items v ≡ values) IsMemory
+read_only items bytes (Ok v) f g values w = (same_record (items v) values bytes bytes [] [] f w refl).0
+read_only items bytes (Err e) f g values w = elim g [ inl m ↦ m | inr h ↦ absurd (record_no_fault bytes values e w h) ]
+
+-- the fault is the one of the bytes
+pub fault_only : {V : Type 0} (items : V → List Value) (bytes : List ℕ) (r : Result V RecordFault) → IfOk r (λ v. IsRecord bytes (items v)) → IfErr r (λ fault. IsMemory fault ⊎ HasFault bytes fault)
+    → (fault : RecordFault) → HasFault bytes fault → MatchResult r (λ _. ⊥) (λ other. IsMemory other ⊎ (other ≡ fault))
+fault_only items bytes (Ok v) f g fault h = record_no_fault bytes (items v) fault f h
+fault_only items bytes (Err e) f g fault h = elim g [ inl m ↦ inl m | inr k ↦ inr (same_fault bytes e fault k h) ]
+
+-- a varint at the front of bytes, and how many bytes it takes
+pub record FrontIs (bytes : List ℕ) (number size : ℕ) : Type 0 where
+  pub within : size ≤ length bytes
+  pub spelled : IsVarint (take size bytes) number
+
+pub front_is : (bytes : List ℕ) (r : Option (ℕ × ℕ)) (number size : ℕ) → r ≡ Some (number, size) → IfSome r (λ found. (found.1 ≤ length bytes) × IsVarint (take found.1 bytes) found.0) → FrontIs bytes number size
+front_is bytes r number size e h =
+    let f : (size ≤ length bytes) × IsVarint (take size bytes) number = rw e at h in
+    record { within = f.0; spelled = f.1 }
+
+pub header_found : (bytes : List ℕ) (end start : ℕ) → FrontIs bytes end start → start ≤ end → end ≤ length bytes
+    → HasHeader bytes (take (end - start) (drop start bytes)) (take (length bytes - end) (drop end bytes))
+header_found bytes end start f l m =
+    let types = take (end - start) (drop start bytes) in
+    let bodies = take (length bytes - end) (drop end bytes) in
+    let first : length (take start bytes) ≡ start = length-take-le start bytes f.within in
+    let second : length types ≡ end - start = length-take-le (end - start) (drop start bytes) (omega (arith, length-drop start bytes)) in
+    let all : bodies ≡ drop end bytes = take_all (length bytes - end) (drop end bytes) (omega (arith, length-drop end bytes)) in
+    let behind : drop (end - start) (drop start bytes) ≡ drop end bytes = drop-drop (end - start) start bytes ∙ ap (λ k. drop k bytes) (omega arith) in
+    record {
+      size = take start bytes;
+      whole =
+          sym (take-append-drop start bytes)
+          ∙ ap (λ s. take start bytes ++ s) (sym (take-append-drop (end - start) (drop start bytes)) ∙ ap (λ s. types ++ s) (behind ∙ sym all));
+      header = subst (IsVarint (take start bytes)) (omega (arith, first, second)) f.spelled;
+    }
+
+pub wrong_size : (bytes : List ℕ) (end start : ℕ) → FrontIs bytes end start → (end < start) ⊎ (length bytes < end) → HasNoHeader bytes
+wrong_size bytes end start f w =
+    let size : length (take start bytes) ≡ start = length-take-le start bytes f.within in
+    inr (
+      take start bytes,
+      drop start bytes,
+      end,
+      sym (take-append-drop start bytes),
+      f.spelled,
+      elim w [ inl less ↦ inl (omega (arith, less, size)) | inr more ↦ inr more ],
+    )
+
+pub begins_with : (P : ℕ → Type 0) (bytes : List ℕ) (number size : ℕ) → FrontIs bytes number size → P number → BeginsWith P bytes
+begins_with P bytes number size f p =
+    record { type = number; spelling = take size bytes; rest = drop size bytes; whole = sym (take-append-drop size bytes); varint = f.spelled; holds = p }
+
+pub reserved_between : (type : ℕ) → 10 ≤ type → type < 12 → IsReserved type
+reserved_between type low high = elim (cases_lt type 11) [ inl less ↦ inl (omega arith) | inr more ↦ inr (omega arith) ]

@@ -1,0 +1,17 @@
+//! The records of table rows (Database File Format, section 2.1): lists of values as bytes.
+//!
+//! The layer above reads by `read_record`, which takes longer spellings of varints and integers too, and writes by `write_record`, which writes the canonical record. What a record is, and which one is canonical, is said by `Record` in the `specs/` of `format_spec`.
+//!
+//! This crate's `specs/` have `Faults`, for bytes that are no record, and the laws of records, `RecordLaws`, which proofs above cite. The functions without parameters promise the main ones: `canonical_record_is_read`, `canonical_records_are_apart` and `record_has_one_reading`.
+#![tactic(auto)]
+
+mod laws;
+mod read;
+mod write;
+
+pub use laws::{canonical_record_is_read, canonical_records_are_apart, record_has_one_reading};
+pub use read::{RecordFault, read_record};
+pub use write::write_record;
+
+#[cfg(test)]
+mod tests;

@@ -1,0 +1,287 @@
+use super::*;
+use Lent::{Blob, Int, Null, Text};
+use rbu_value::{Bytes, Collation, Value, compare};
+use std::alloc::{AllocError, Global};
+use std::cmp::Ordering;
+use std::process::Abort;
+use std::test::Fail;
+
+// A value with its bytes lent.
+#[derive(Clone, Copy)]
+enum Lent {
+    Null,
+    Int(i64),
+    Text(&'static [u8]),
+    Blob(&'static [u8]),
+}
+
+// Records of one value as SQLite wrote them in schema format 4.
+const RECORDS: [(&[u8], Lent); 55] = [
+    (b"\x02\x06\x80\x00\x00\x00\x00\x00\x00\x00", Int(i64::MIN)),
+    (
+        b"\x02\x06\x80\x00\x00\x00\x00\x00\x00\x01",
+        Int(-9223372036854775807),
+    ),
+    (
+        b"\x02\x06\xff\xff\x7f\xff\xff\xff\xff\xfe",
+        Int(-140737488355330),
+    ),
+    (
+        b"\x02\x06\xff\xff\x7f\xff\xff\xff\xff\xff",
+        Int(-140737488355329),
+    ),
+    (b"\x02\x05\x80\x00\x00\x00\x00\x00", Int(-140737488355328)),
+    (b"\x02\x05\x80\x00\x00\x00\x00\x01", Int(-140737488355327)),
+    (b"\x02\x05\xff\xff\x7f\xff\xff\xfe", Int(-2147483650)),
+    (b"\x02\x05\xff\xff\x7f\xff\xff\xff", Int(-2147483649)),
+    (b"\x02\x04\x80\x00\x00\x00", Int(-2147483648)),
+    (b"\x02\x04\x80\x00\x00\x01", Int(-2147483647)),
+    (b"\x02\x04\xff\x7f\xff\xfe", Int(-8388610)),
+    (b"\x02\x04\xff\x7f\xff\xff", Int(-8388609)),
+    (b"\x02\x03\x80\x00\x00", Int(-8388608)),
+    (b"\x02\x03\x80\x00\x01", Int(-8388607)),
+    (b"\x02\x03\xff\x7f\xfe", Int(-32770)),
+    (b"\x02\x03\xff\x7f\xff", Int(-32769)),
+    (b"\x02\x02\x80\x00", Int(-32768)),
+    (b"\x02\x02\x80\x01", Int(-32767)),
+    (b"\x02\x02\xff\x7e", Int(-130)),
+    (b"\x02\x02\xff\x7f", Int(-129)),
+    (b"\x02\x01\x80", Int(-128)),
+    (b"\x02\x01\x81", Int(-127)),
+    (b"\x02\x01\xfe", Int(-2)),
+    (b"\x02\x01\xff", Int(-1)),
+    (b"\x02\x08", Int(0)),
+    (b"\x02\x09", Int(1)),
+    (b"\x02\x01\x02", Int(2)),
+    (b"\x02\x01\x7e", Int(126)),
+    (b"\x02\x01\x7f", Int(127)),
+    (b"\x02\x02\x00\x80", Int(128)),
+    (b"\x02\x02\x00\x81", Int(129)),
+    (b"\x02\x02\x7f\xfe", Int(32766)),
+    (b"\x02\x02\x7f\xff", Int(32767)),
+    (b"\x02\x03\x00\x80\x00", Int(32768)),
+    (b"\x02\x03\x00\x80\x01", Int(32769)),
+    (b"\x02\x03\x7f\xff\xfe", Int(8388606)),
+    (b"\x02\x03\x7f\xff\xff", Int(8388607)),
+    (b"\x02\x04\x00\x80\x00\x00", Int(8388608)),
+    (b"\x02\x04\x00\x80\x00\x01", Int(8388609)),
+    (b"\x02\x04\x7f\xff\xff\xfe", Int(2147483646)),
+    (b"\x02\x04\x7f\xff\xff\xff", Int(2147483647)),
+    (b"\x02\x05\x00\x00\x80\x00\x00\x00", Int(2147483648)),
+    (b"\x02\x05\x00\x00\x80\x00\x00\x01", Int(2147483649)),
+    (b"\x02\x05\x7f\xff\xff\xff\xff\xfe", Int(140737488355326)),
+    (b"\x02\x05\x7f\xff\xff\xff\xff\xff", Int(140737488355327)),
+    (
+        b"\x02\x06\x00\x00\x80\x00\x00\x00\x00\x00",
+        Int(140737488355328),
+    ),
+    (
+        b"\x02\x06\x00\x00\x80\x00\x00\x00\x00\x01",
+        Int(140737488355329),
+    ),
+    (
+        b"\x02\x06\x7f\xff\xff\xff\xff\xff\xff\xfe",
+        Int(9223372036854775806),
+    ),
+    (b"\x02\x06\x7f\xff\xff\xff\xff\xff\xff\xff", Int(i64::MAX)),
+    (b"\x02\x00", Null),
+    (b"\x02\x0d", Text(b"")),
+    (b"\x02\x13\x61\x27\x62", Text(b"a'b")),
+    (b"\x02\x11\xc3\xa9", Text(b"\xc3\xa9")),
+    (b"\x02\x0c", Blob(b"")),
+    (b"\x02\x10\x00\xff", Blob(b"\x00\xff")),
+];
+
+// Records of several values as SQLite wrote them in schema format 4.
+const ROWS: [(&[u8], &[Lent]); 5] = [
+    (b"\x04\x00\x13\x01one\x0a", &[Null, Text(b"one"), Int(10)]),
+    (b"\x04\x09\x08\x01\x02", &[Int(1), Int(0), Int(2)]),
+    (b"\x05\x00\x00\x00\x00", &[Null, Null, Null, Null]),
+    (
+        b"\x06\x0c\x0d\x08\x09\x01\xff",
+        &[Blob(b""), Text(b""), Int(0), Int(1), Int(-1)],
+    ),
+    (
+        b"\x04\x06\x06\x13\x7f\xff\xff\xff\xff\xff\xff\xff\x80\x00\x00\x00\x00\x00\x00\x00end",
+        &[Int(i64::MAX), Int(i64::MIN), Text(b"end")],
+    ),
+];
+
+// Bytes that are no record, some for more than one reason.
+const FAULTS: [(&[u8], RecordFault); 14] = [
+    (b"", RecordFault::ShortHeader),
+    (b"\x81", RecordFault::ShortHeader),
+    (b"\x00", RecordFault::ShortHeader),
+    (b"\x04\x00", RecordFault::ShortHeader),
+    (b"\x02\x81", RecordFault::ShortHeader),
+    (b"\x02\x0a", RecordFault::ReservedType),
+    (b"\x02\x0b", RecordFault::ReservedType),
+    (
+        b"\x02\x07\x3f\xf8\x00\x00\x00\x00\x00\x00",
+        RecordFault::RealValue,
+    ),
+    (b"\x02\x01", RecordFault::BodyLength),
+    (b"\x02\x01\x05\x06", RecordFault::BodyLength),
+    (b"\x04\x0a", RecordFault::ShortHeader),
+    (b"\x03\x0a\x07", RecordFault::ReservedType),
+    (b"\x03\x07\x0a", RecordFault::RealValue),
+    (b"\x03\x01\x0a", RecordFault::ReservedType),
+];
+
+// Records that are not canonical in schema format 4.
+const LONGER: [(&[u8], Lent); 4] = [
+    (b"\x02\x01\x00", Int(0)),
+    (b"\x02\x06\xff\xff\xff\xff\xff\xff\xff\xfb", Int(-5)),
+    (b"\x80\x03\x08", Int(0)),
+    (b"\x03\x80\x0fx", Text(b"x")),
+];
+
+fn owned(alloc: Global, lent: Lent) -> Result<Value, AllocError> {
+    Ok(match lent {
+        Null => Value::Null,
+        Int(z) => Value::Int(z),
+        Text(text) => Value::Text(Bytes::of(alloc, text)?),
+        Blob(blob) => Value::Blob(Bytes::of(alloc, blob)?),
+    })
+}
+
+fn same_values(a: &[Value], b: &[Value]) -> bool {
+    a.len() == b.len()
+        && a.iter().zip(b).all(|(x, y)| compare(x, y, Collation::Binary) == Ordering::Equal)
+}
+
+// The record is read as these values.
+fn check_read(rt: &impl Abort, alloc: Global, record: &[u8], values: &[Value]) -> Result<(), Fail> {
+    let read = read_record(alloc, record)?;
+    assert!(rt; same_values(&read, values));
+    Ok(())
+}
+
+// The record of these values is written, and read again.
+fn check_both(rt: &impl Abort, alloc: Global, record: &[u8], values: &[Value]) -> Result<(), Fail> {
+    let written = write_record(alloc, values, 4)?;
+    assert_eq!(rt; written.as_slice(), record);
+    check_read(rt, alloc, record, values)
+}
+
+// A byte, so many times.
+fn repeated(alloc: Global, byte: u8, count: usize) -> Result<Bytes, AllocError> {
+    let mut bytes = Vec::new(alloc);
+    for _ in 0..count {
+        bytes.push(byte)?;
+    }
+    Ok(Bytes::from_vec(bytes))
+}
+
+// The record of a text or a blob has this header.
+fn check_header(rt: &impl Abort, alloc: Global, header: &[u8], value: Value) -> Result<(), Fail> {
+    let mut record = header.to_vec(alloc)?;
+    if let Value::Text(bytes) | Value::Blob(bytes) = &value {
+        record.extend_from_slice(bytes.as_slice())?;
+    }
+    let values = vec![in alloc; value]?;
+    check_both(rt, alloc, &record, &values)
+}
+
+#[test]
+fn records_of_one_value_as_sqlite_wrote_them(rt: HostRuntime) -> Result<(), Fail> {
+    let alloc = rt.alloc();
+    for (record, lent) in RECORDS {
+        let values = vec![in alloc; owned(alloc, lent)?]?;
+        check_both(&rt, alloc, record, &values)?;
+    }
+    Ok(())
+}
+
+#[test]
+fn records_of_several_values_as_sqlite_wrote_them(rt: HostRuntime) -> Result<(), Fail> {
+    let alloc = rt.alloc();
+    for (record, row) in ROWS {
+        let mut values = Vec::new(alloc);
+        for lent in row {
+            values.push(owned(alloc, *lent)?)?;
+        }
+        check_both(&rt, alloc, record, &values)?;
+    }
+    Ok(())
+}
+
+#[test]
+fn long_texts_and_blobs_as_sqlite_wrote_them(rt: HostRuntime) -> Result<(), Fail> {
+    let alloc = rt.alloc();
+    let value = Value::Text(repeated(alloc, b'x', 56)?);
+    check_header(&rt, alloc, b"\x02\x7d", value)?;
+    let value = Value::Text(repeated(alloc, b'x', 57)?);
+    check_header(&rt, alloc, b"\x02\x7f", value)?;
+    let value = Value::Blob(repeated(alloc, b'y', 57)?);
+    check_header(&rt, alloc, b"\x02\x7e", value)?;
+    let value = Value::Blob(repeated(alloc, b'y', 58)?);
+    check_header(&rt, alloc, b"\x03\x81\x00", value)?;
+    let value = Value::Text(repeated(alloc, b'z', 300)?);
+    check_header(&rt, alloc, b"\x03\x84\x65", value)
+}
+
+#[test]
+fn a_header_of_one_byte_of_size_as_sqlite_wrote_it(rt: HostRuntime) -> Result<(), Fail> {
+    let alloc = rt.alloc();
+    let mut record = b"\x79\x08\x09".to_vec(alloc)?;
+    let mut values = Vec::new(alloc);
+    values.push(Value::Int(0))?;
+    values.push(Value::Int(1))?;
+    for _ in 2..120 {
+        record.push(1)?;
+    }
+    for number in 2..120u8 {
+        record.push(number)?;
+        values.push(Value::Int(i64::from(number)))?;
+    }
+    check_both(&rt, alloc, &record, &values)
+}
+
+#[test]
+fn a_header_of_two_bytes_of_size_as_sqlite_wrote_it(rt: HostRuntime) -> Result<(), Fail> {
+    let alloc = rt.alloc();
+    let mut record = b"\x81\x04".to_vec(alloc)?;
+    let mut values = Vec::new(alloc);
+    for _ in 0..130 {
+        record.push(0x0f)?;
+        values.push(Value::Text(Bytes::of(alloc, b"w")?))?;
+    }
+    for _ in 0..130 {
+        record.push(b'w')?;
+    }
+    check_both(&rt, alloc, &record, &values)
+}
+
+#[test]
+fn longer_spellings_are_read(rt: HostRuntime) -> Result<(), Fail> {
+    let alloc = rt.alloc();
+    for (record, lent) in LONGER {
+        let values = vec![in alloc; owned(alloc, lent)?]?;
+        check_read(&rt, alloc, record, &values)?;
+    }
+    Ok(())
+}
+
+#[test]
+fn bytes_that_are_no_record_have_their_first_fault(rt: HostRuntime) {
+    let alloc = rt.alloc();
+    for (bytes, fault) in FAULTS {
+        assert!(rt; read_record(alloc, bytes).is_err_and(|other| other == fault));
+    }
+}
+
+#[test]
+fn zero_has_a_byte_in_schema_format_1(rt: HostRuntime) -> Result<(), Fail> {
+    let alloc = rt.alloc();
+    let values = vec![in alloc; Value::Int(0)]?;
+    assert_eq!(rt;
+        write_record(alloc, &values, 1)?.as_slice(),
+        b"\x02\x01\x00".as_slice()
+    );
+    assert_eq!(rt;
+        write_record(alloc, &values, 4)?.as_slice(),
+        b"\x02\x08".as_slice()
+    );
+    Ok(())
+}

@@ -1,0 +1,159 @@
+// Writes canonical records.
+ghost use Rattle.std.specs.Prelude.{◌≡◌, ◌+◌, ◌*◌, ◌≤◌, ◌++◌, IfOk, OnOk, length};
+ghost use Rattle.std.specs.List.{flat_map};
+ghost use Rattle.format_spec.specs.Varint.{varint};
+ghost use Rattle.format_spec.specs.Record.{int_type as shortest_type, int_serial_type as type_of_int, int_body, serial_type as type_of, header_size_bytes as size_bytes, serial_types, record_header, body, canonical_record};
+ghost use Rattle.record_codec.specs.Faults.{body_size as size_of};
+
+use byteorder::{BigEndian, ByteOrder};
+use cell_codec::{varint_length, write_varint};
+use rbu_value::Value;
+use std::alloc::{AllocError, Global};
+
+// The serial type of an integer's shortest two's complement form.
+fn int_type(z: i64) -> u64
+    ensures { result ≡ shortest_type z }
+{
+    match z {
+        -0x80..=0x7f => 1,
+        -0x8000..=0x7fff => 2,
+        -0x80_0000..=0x7f_ffff => 3,
+        -0x8000_0000..=0x7fff_ffff => 4,
+        -0x8000_0000_0000..=0x7fff_ffff_ffff => 5,
+        _ => 6,
+    }
+}
+
+// The serial type of an integer under a schema format.
+fn int_serial_type(z: i64, format: u32) -> u64
+    ensures { result ≡ type_of_int format z }
+{
+    match z {
+        0 if format == 4 => 8,
+        1 if format == 4 => 9,
+        _ => int_type(z),
+    }
+}
+
+// The serial type of so many bytes, 12 above twice their number for a blob and 13 for a text. A record of more bytes than fit would be longer than memory.
+fn bytes_type(length: usize, first: u64) -> Result<u64, AllocError>
+    ensures { IfOk result (λ serial_type. serial_type ≡ 2 * length + first) }
+{
+    let double = (length as u64).checked_mul(2).ok_or(AllocError)?;
+    double.checked_add(first).ok_or(AllocError)
+}
+
+// The serial type of a value under a schema format.
+fn serial_type(value: &Value, format: u32) -> Result<u64, AllocError>
+    ensures { IfOk result (λ serial_type. serial_type ≡ type_of format value.now) }
+{
+    match value {
+        Value::Null => Ok(0),
+        Value::Int(z) => Ok(int_serial_type(*z, format)),
+        Value::Text(text) => bytes_type(text.as_slice().len(), 13),
+        Value::Blob(blob) => bytes_type(blob.as_slice().len(), 12),
+    }
+}
+
+// How many bytes a value of a serial type has behind the header.
+pub fn body_size(serial_type: u64) -> usize
+    ensures { result ≡ size_of serial_type }
+{
+    match serial_type {
+        1..=4 => serial_type as usize,
+        5 => 6,
+        6 => 8,
+        12.. => (serial_type as usize - 12) / 2,
+        _ => 0,
+    }
+}
+
+// How many bytes the serial types take.
+fn types_length(values: &[Value], format: u32) -> Result<usize, AllocError>
+    ensures { IfOk result (λ n. n ≡ length (serial_types format values.now)) }
+{
+    let mut total = 0usize;
+    for value in values {
+        let size = varint_length(serial_type(value, format)?);
+        total = total.checked_add(size).ok_or(AllocError)?;
+    }
+    Ok(total)
+}
+
+// How many bytes the size of a header has, of which the serial types take so many.
+fn header_size_bytes(types: usize) -> usize
+    ensures { result ≡ size_bytes types }
+{
+    match types {
+        0..=0x7e => 1,
+        0x7f..=0x3ffd => 2,
+        0x3ffe..=0x1f_fffc => 3,
+        0x1f_fffd..=0xfff_fffb => 4,
+        _ => 5,
+    }
+}
+
+// Appends a number's shortest varint.
+fn push_varint(value: u64, into: &mut Vec<u8>) -> Result<(), AllocError>
+    ensures { OnOk result (into.new.items ≡ into.old.items ++ varint value) }
+{
+    let mut spelling = [0; 9];
+    let size = write_varint(value, &mut spelling);
+    into.extend_from_slice(&spelling[..size])
+}
+
+// Appends the header of the canonical record.
+fn push_header(values: &[Value], format: u32, into: &mut Vec<u8>) -> Result<(), AllocError>
+    ensures { OnOk result (into.new.items ≡ into.old.items ++ record_header format values.now) }
+{
+    let types = types_length(values, format)?;
+    let header = types
+        .checked_add(header_size_bytes(types))
+        .ok_or(AllocError)?;
+    push_varint(header as u64, into)?;
+    for value in values {
+        push_varint(serial_type(value, format)?, into)?;
+    }
+    Ok(())
+}
+
+// Appends an integer in the form of a serial type from 1 to 9; 8 and 9 have no bytes.
+fn push_int(z: i64, serial_type: u64, into: &mut Vec<u8>) -> Result<(), AllocError>
+    requires least { 1 ≤ serial_type }
+    requires most { serial_type ≤ 9 }
+    ensures { OnOk result (into.new.items ≡ into.old.items ++ int_body serial_type z) }
+{
+    let size = body_size(serial_type);
+    if size == 0 {
+        return Ok(());
+    }
+    let mut bytes = [0; 8];
+    BigEndian::write_int(&mut bytes, z, size);
+    into.extend_from_slice(&bytes[..size])
+}
+
+// Appends the bytes that follow the header for a value.
+fn push_body(value: &Value, format: u32, into: &mut Vec<u8>) -> Result<(), AllocError>
+    ensures { OnOk result (into.new.items ≡ into.old.items ++ body format value.now) }
+{
+    match value {
+        Value::Null => Ok(()),
+        Value::Int(z) => push_int(*z, int_serial_type(*z, format), into),
+        Value::Text(bytes) | Value::Blob(bytes) => into.extend_from_slice(bytes.as_slice()),
+    }
+}
+
+/// Writes the canonical record of values under schema format 1 to 4 (types 8 and 9 are of format 4 alone).
+#[tactic(auto, unfolding(format_spec::specs::Record::canonical_record))]
+pub fn write_record(alloc: Global, values: &[Value], format: u32) -> Result<Vec<u8>, AllocError>
+    requires least { 1 ≤ format }
+    requires most { format ≤ 4 }
+    ensures { IfOk result (λ written. written.items ≡ canonical_record format values.now) }
+{
+    let mut record = Vec::new(alloc);
+    push_header(values, format, &mut record)?;
+    for value in values {
+        push_body(value, format, &mut record)?;
+    }
+    Ok(record)
+}

@@ -1,5 +1,5 @@
 -- What follows from the definition of cells alone: crates above cite these facts in their proofs.
-use Rattle.std.proofs.Common.{◌≡◌, ℕ, ℤ, pos, ◌+◌, ◌-◌, ◌^◌, ◌<◌, ◌≤◌, cond, ltb, leb, List, [], ◌∷◌, ◌++◌, length, take, drop, refl, sym, ◌∙◌, ap, subst, append_assoc, length-append, arith}
+use Rattle.std.proofs.Common.{◌≡◌, ℕ, ℤ, pos, ◌+◌, ◌-◌, ◌^◌, ◌<◌, ◌≤◌, cond, ltb, leb, List, [], ◌∷◌, ◌++◌, length, take, drop, refl, sym, ◌∙◌, ap, subst, append_assoc, length-append, arith, rules}
 use Rattle.std.proofs.lemmas.List.{append_cancel_left, append-nil, take_at, take_all, drop_at, take-append-drop}
 use Rattle.std.proofs.lemmas.Int.{ints, to_z-of_z}
 use Rattle.std.proofs.lemmas.Bool.{cond_both, cond-true, ltb-false, le-leb, le-ltb}
@@ -14,7 +14,7 @@ use Rattle.format_spec.specs.declared.CellView.{CellView}
 use Rattle.format_spec.specs.Varint.{varint}
 use Rattle.format_spec.specs.Cell.{IsCell, IsTableLeafCell, IsTableInteriorCell, IsIndexCell, payload_limit, max_local, min_local, fitted_local, local_size, child_size, overflow_size, cell_bytes, index_cell_bytes, table_leaf_cell}
 use Rattle.cell_codec.specs.VarintLaws.{spelling_one_to_nine, same_varint, varint_spells}
-use Rattle.cell_codec.specs.Cells.{BeginsWithCell, IsWritable, whole_cell}
+use Rattle.cell_codec.specs.Cells.{BeginsWithCell, IsWritable, whole_cell, interior_cell, whole_index_cell}
 
 -- lists that are equal have equal fronts of one length
 pub same_parts : (a b x y : List ℕ) → length a ≡ length b → a ++ x ≡ b ++ y → (a ≡ b) × (x ≡ y)
@@ -329,6 +329,60 @@ pub whole_cell_read : (usable : ℕ) (rowid : ℤ) (payload : List ℕ) → Fits
 whole_cell_read usable rowid payload r h l =
     subst (λ bytes. IsTableLeafCell usable bytes (whole_cell rowid payload)) (whole_bytes rowid payload)
     (written_table_leaf_cell usable (whole_cell rowid payload) payload (whole_cell_writable usable rowid payload r h l))
+
+-- a view of a child and a rowid
+pub interior_cell_writable : (usable child : ℕ) (rowid : ℤ) → child < 2 ^ 32 → FitsSigned w64 rowid → IsWritable TableInterior usable (interior_cell child rowid) []
+interior_cell_writable usable child rowid h r =
+    record {
+      limit = omega arith;
+      rowid = r;
+      child = h;
+      local = sym (cond-true _ _ _ (le-leb 0 (usable - 35) (omega arith)));
+      local_length = refl;
+      overflow = omega arith;
+      no_overflow = λ _. refl;
+      lacked = refl;
+      local_at = refl;
+      size = sym (table_interior_cell_bytes_size (interior_cell child rowid) []);
+    }
+
+whole_index_size : (kind : PageKind) (child : ℕ) (payload : List ℕ) → (whole_index_cell kind child payload).size ≡ length (index_cell_bytes kind (whole_index_cell kind child payload) payload)
+whole_index_size kind child payload =
+    let n = length payload in
+    let none : overflow_size n n ≡ 0 = ap (λ b. cond b 4 0) (le-ltb n n (omega arith)) in
+    omega (arith, none, index_cell_bytes_size kind (whole_index_cell kind child payload) payload)
+
+-- views of payloads that lie whole in the cells of an index
+pub whole_index_leaf_cell_writable : (usable : ℕ) (payload : List ℕ) → length payload ≤ max_local IndexLeaf usable → length payload ≤ payload_limit → IsWritable IndexLeaf usable (whole_index_cell IndexLeaf 0 payload) payload
+whole_index_leaf_cell_writable usable payload h l =
+    record {
+      limit = l;
+      rowid = search rules;
+      child = omega arith;
+      local = sym (cond-true _ _ _ (le-leb (length payload) (max_local IndexLeaf usable) h));
+      local_length = refl;
+      overflow = omega arith;
+      no_overflow = λ _. refl;
+      lacked = (refl, refl);
+      local_at = omega arith;
+      size = whole_index_size IndexLeaf 0 payload ∙ sym (ap length (index_leaf_cell_is (whole_index_cell IndexLeaf 0 payload) payload));
+    }
+
+pub whole_index_interior_cell_writable : (usable child : ℕ) (payload : List ℕ) → child < 2 ^ 32 → length payload ≤ max_local IndexInterior usable → length payload ≤ payload_limit
+    → IsWritable IndexInterior usable (whole_index_cell IndexInterior child payload) payload
+whole_index_interior_cell_writable usable child payload c h l =
+    record {
+      limit = l;
+      rowid = search rules;
+      child = c;
+      local = sym (cond-true _ _ _ (le-leb (length payload) (max_local IndexInterior usable) h));
+      local_length = refl;
+      overflow = omega arith;
+      no_overflow = λ _. refl;
+      lacked = refl;
+      local_at = refl;
+      size = whole_index_size IndexInterior child payload ∙ sym (ap length (index_interior_cell_is (whole_index_cell IndexInterior child payload) payload));
+    }
 
 -- the payload lies in it
 pub whole_cell_payload : (rowid : ℤ) (payload : List ℕ) → take (length payload) (drop (whole_cell rowid payload).local_at (table_leaf_cell rowid payload)) ≡ payload

@@ -7,7 +7,7 @@ use Rattle.format_spec.specs.declared.PageKind.{PageKind}
 use Rattle.format_spec.specs.declared.PageKind.TheVariants.{IndexInterior, TableInterior, IndexLeaf, TableLeaf}
 use Rattle.format_spec.specs.declared.CellView.{CellView}
 use Rattle.format_spec.specs.Varint.{IsVarint, varint}
-use Rattle.format_spec.specs.Cell.{IsCell, payload_limit, local_size, overflow_size, cell_bytes, table_leaf_cell}
+use Rattle.format_spec.specs.Cell.{IsCell, payload_limit, local_size, child_size, overflow_size, cell_bytes, table_leaf_cell}
 use Rattle.cell_codec.specs.declared.cell.LocalPart.{LocalPart}
 
 -- the bytes begin with a cell
@@ -71,6 +71,30 @@ whole_cell rowid payload = record {
   child = 0;
   payload = length payload;
   local_at = length (varint (length payload)) + length (varint (cast_unsigned w64 rowid));
+  local = length payload;
+  overflow = 0;
+}
+
+-- the view of a table interior page's cell
+abbrev pub interior_cell : ℕ → ℤ → CellView
+interior_cell child rowid = record {
+  size = 4 + length (varint (cast_unsigned w64 rowid));
+  rowid = rowid;
+  child = child;
+  payload = 0;
+  local_at = 0;
+  local = 0;
+  overflow = 0;
+}
+
+-- the view of an index page's cell whose payload lies in it whole; a leaf's has the child 0
+abbrev pub whole_index_cell : PageKind → ℕ → List ℕ → CellView
+whole_index_cell kind child payload = record {
+  size = child_size kind + length (varint (length payload)) + length payload;
+  rowid = pos 0;
+  child = child;
+  payload = length payload;
+  local_at = child_size kind + length (varint (length payload));
   local = length payload;
   overflow = 0;
 }

@@ -1,5 +1,5 @@
 // The cells of b-tree pages.
-ghost use Rattle.std.specs.Prelude.{◌≡◌, [], ◌+◌, ◌-◌, ◌<◌, ◌≤◌, ◌⊎◌, ◌↔◌, ◌++◌, ℕ, ℤ, List, IfOk, IfSome, IsNone, length, take, drop};
+ghost use Rattle.std.specs.Prelude.{◌≡◌, [], ◌+◌, ◌-◌, ◌^◌, ◌<◌, ◌≤◌, ◌⊎◌, ◌↔◌, ◌++◌, ℕ, ℤ, List, IfOk, IfSome, IsNone, length, take, drop};
 ghost use Rattle.std.specs.Int.{w64};
 ghost use Rattle.std.specs.Int.RustNames.{FitsSigned};
 ghost use Rattle.byteorder.specs.Endian.{big_bytes, big_number};
@@ -8,7 +8,7 @@ ghost use Rattle.format_spec.specs.declared.PageKind.{PageKind};
 ghost use Rattle.format_spec.specs.declared.PageKind.TheVariants.{IndexInterior, TableInterior, IndexLeaf, TableLeaf};
 ghost use Rattle.format_spec.specs.Cell.{IsCell, IsTableInteriorCell, IsIndexCell, payload_limit, max_local as local_limit, local_size as local_bytes, child_size as child_bytes, overflow_size as overflow_bytes, cell_bytes, index_cell_bytes, table_leaf_cell};
 ghost use Rattle.format_spec.specs.Varint.{IsVarint, varint};
-ghost use Rattle.cell_codec.specs.Cells.{BeginsWithCell, BeginsWithLengthOver, BeginsOverLimit, part_size, IsLocalPart, IsWritable, whole_cell};
+ghost use Rattle.cell_codec.specs.Cells.{BeginsWithCell, BeginsWithLengthOver, BeginsOverLimit, part_size, IsLocalPart, IsWritable, whole_cell, interior_cell, whole_index_cell};
 
 use crate::varint::{read_varint, varint_length, write_varint};
 use byteorder::{BigEndian, ByteOrder};
@@ -322,7 +322,7 @@ fn write_index_cell(kind: PageKind, cell: &CellView, local: &[u8], into: &mut [u
     local_at + put_local_part(cell, local, &mut into[local_at..])
 }
 
-/// Writes a cell's shortest spelling, with the local part of its payload, at the front of the buffer, and answers its length. `cell_length` tells beforehand whether it fits. The view's `size`, `local_at` and `child` are not read.
+/// Writes a cell's shortest spelling, with the local part of its payload, at the front of the buffer, and answers its length. `cell_length` tells beforehand whether it fits. The view's `size` and `local_at` are not read, and no field that the kind lacks.
 pub fn write_cell(kind: PageKind, cell: &CellView, local: &[u8], into: &mut [u8]) -> usize
     requires local { length local.now ≡ cell.now.local }
     requires room { length (cell_bytes kind cell.now local.now) ≤ length into.old }
@@ -342,10 +342,15 @@ pub fn cell_has_one_reading()
     ensures { (kind : PageKind) (usable : ℕ) (a b x y : List ℕ) (c d : CellView) → IsCell kind usable a c → IsCell kind usable b d → a ++ x ≡ b ++ y → (a ≡ b) × (c ≡ d) }
 {}
 
-/// What is written of a view is a cell with that view. So is a row whose payload lies in its cell whole, and there it is read.
+/// What is written of a view is a cell with that view. There are such views: a row whose payload lies in its cell whole, and there it is read; a child and a rowid; a payload that lies whole in a cell of an index.
 pub fn written_cell_is_read()
     ensures cell { (kind : PageKind) (usable : ℕ) (cell : CellView) (local : List ℕ) → IsWritable kind usable cell local → IsCell kind usable (cell_bytes kind cell local) cell }
     ensures whole { (usable : ℕ) (rowid : ℤ) (payload : List ℕ) → FitsSigned w64 rowid → length payload ≤ usable - 35 → length payload ≤ payload_limit
         → IsCell TableLeaf usable (table_leaf_cell rowid payload) (whole_cell rowid payload) }
     ensures payload { (rowid : ℤ) (payload : List ℕ) → take (length payload) (drop (whole_cell rowid payload).local_at (table_leaf_cell rowid payload)) ≡ payload }
+    ensures interior { (usable child : ℕ) (rowid : ℤ) → child < 2 ^ 32 → FitsSigned w64 rowid → IsWritable TableInterior usable (interior_cell child rowid) [] }
+    ensures index_leaf { (usable : ℕ) (payload : List ℕ) → length payload ≤ local_limit IndexLeaf usable → length payload ≤ payload_limit
+        → IsWritable IndexLeaf usable (whole_index_cell IndexLeaf 0 payload) payload }
+    ensures index_interior { (usable child : ℕ) (payload : List ℕ) → child < 2 ^ 32 → length payload ≤ local_limit IndexInterior usable → length payload ≤ payload_limit
+        → IsWritable IndexInterior usable (whole_index_cell IndexInterior child payload) payload }
 {}

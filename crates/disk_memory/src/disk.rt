@@ -17,7 +17,7 @@ use std::mem;
 const LIMIT: u64 = 1 << 62;
 
 /// A disk in memory, whose calls fail where their numbers stand in a list or no memory is found. Only `write_at` and
-/// `set_len` take memory. A call that fails changes no file.
+/// `set_len` take memory, and these only where the file grows. A call that fails changes no file.
 #[derive(Drop)]
 pub struct MemoryDisk {
     alloc: Global,
@@ -196,12 +196,13 @@ impl Disk for MemoryDisk {
         Ok(copy_part(self.bytes_of(name), at, into))
     }
 
-    /// Takes memory where the file grows.
+    /// Takes memory only where the file grows.
     fn write_at(&mut self, name: FileName, at: u64, bytes: &[u8]) -> Result<(), DiskFault>
         ensures done { OnOk result (files_of self.new ≡ after_write (files_of self.old) name at bytes.now) }
         ensures failed { OnErr result (files_of self.new ≡ files_of self.old) }
         ensures limit { 2 ^ 62 < at + length bytes.now → IsErr result }
         ensures counts { CountsRefusal (is_listed self.old.counts || is_over_limit (at + length bytes.now)) (is_err result) self.old.counts self.new.counts }
+        ensures within { at + length bytes.now ≤ length (content (files_of self.old) name) → is_err result ≡ (is_listed self.old.counts || is_over_limit (at + length bytes.now)) }
         ensures cause { HasCause self.old.counts.faults self.new.counts.faults name DiskCall.Write result }
     {
         self.count_growth(name, DiskCall::Write, exceeds_limit(at, bytes.len() as u64))?;
@@ -216,12 +217,13 @@ impl Disk for MemoryDisk {
         }
     }
 
-    /// Takes memory where the file grows.
+    /// Takes memory only where the file grows.
     fn set_len(&mut self, name: FileName, n: u64) -> Result<(), DiskFault>
         ensures done { OnOk result (files_of self.new ≡ after_set_len (files_of self.old) name n) }
         ensures failed { OnErr result (files_of self.new ≡ files_of self.old) }
         ensures limit { 2 ^ 62 < n → IsErr result }
         ensures counts { CountsRefusal (is_listed self.old.counts || is_over_limit n) (is_err result) self.old.counts self.new.counts }
+        ensures within { n ≤ length (content (files_of self.old) name) → is_err result ≡ (is_listed self.old.counts || is_over_limit n) }
         ensures cause { HasCause self.old.counts.faults self.new.counts.faults name DiskCall.SetLen result }
     {
         self.count_growth(name, DiskCall::SetLen, exceeds_limit(n, 0))?;

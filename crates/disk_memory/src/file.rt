@@ -1,5 +1,5 @@
 // The bytes of one file, and the work on them.
-ghost use Rattle.std.specs.Prelude.{◌≡◌, ◌+◌, ◌-◌, ◌≤◌, ◌^◌, ◌++◌, [], length, take, drop, replicate, OnOk, OnErr, Some, unwrap_or};
+ghost use Rattle.std.specs.Prelude.{◌≡◌, ◌+◌, ◌-◌, ◌≤◌, ◌<◌, ◌^◌, ◌++◌, [], length, take, drop, replicate, IsErr, OnOk, OnErr, Some, unwrap_or};
 ghost use Rattle.file_spec.specs.Files.{overwritten, part_of, resized};
 
 use std::alloc::{AllocError, Global};
@@ -43,19 +43,25 @@ impl File {
         self.bytes.as_slice()
     }
 
-    /// Sets the length; new bytes are zeros.
+    /// Sets the length; new bytes are zeros. Takes memory only for these.
     pub fn resize(&mut self, n: usize) -> Result<(), AllocError>
         ensures done { OnOk result (self.new ≡ resized self.old n) }
         ensures failed { OnErr result (self.new ≡ self.old) }
+        ensures grows { IsErr result → length self.old < n }
     {
+        if n <= self.bytes.len() {
+            self.bytes.truncate(n);
+            return Ok(());
+        }
         self.bytes.resize(n, 0)
     }
 
-    /// Writes at a place; zeros lie between an earlier end and the place.
+    /// Writes at a place; zeros lie between an earlier end and the place. Takes memory only for a new end.
     pub fn overwrite(&mut self, at: usize, bytes: &[u8]) -> Result<(), AllocError>
         requires { at + length bytes.now ≤ 2 ^ 62 }
         ensures done { OnOk result (self.new ≡ overwritten self.old at bytes.now) }
         ensures failed { OnErr result (self.new ≡ self.old) }
+        ensures grows { IsErr result → length self.old < at + length bytes.now }
     {
         grow(&mut self.bytes, at + bytes.len())?;
         put_at(&mut self.bytes, at, bytes);
@@ -67,6 +73,7 @@ impl File {
 fn grow(text: &mut Vec<u8>, end: usize) -> Result<(), AllocError>
     ensures done { OnOk result (text.new.items ≡ text.old.items ++ replicate (end - length text.old.items) 0) }
     ensures failed { OnErr result (text.new.items ≡ text.old.items) }
+    ensures grows { IsErr result → length text.old.items < end }
 {
     if text.len() < end {
         text.resize(end, 0)?;
@@ -105,6 +112,7 @@ pub fn write_slot(
     requires { at + length bytes.now ≤ 2 ^ 62 }
     ensures done { OnOk result (slot.new ≡ Some (overwritten (unwrap_or slot.old []) at bytes.now)) }
     ensures failed { OnErr result (slot.new ≡ slot.old) }
+    ensures grows { IsErr result → length (unwrap_or slot.old []) < at + length bytes.now }
 {
     match slot {
         Some(file) => file.overwrite(at, bytes),
@@ -121,6 +129,7 @@ pub fn write_slot(
 pub fn resize_slot(slot: &mut Option<File>, alloc: Global, n: usize) -> Result<(), AllocError>
     ensures done { OnOk result (slot.new ≡ Some (resized (unwrap_or slot.old []) n)) }
     ensures failed { OnErr result (slot.new ≡ slot.old) }
+    ensures grows { IsErr result → length (unwrap_or slot.old []) < n }
 {
     match slot {
         Some(file) => file.resize(n),

@@ -36,7 +36,7 @@ HasAffinity type Blob = (¬ MeansInteger type) × (¬ MeansText type) × MeansBl
 HasAffinity type Real = (¬ MeansInteger type) × (¬ MeansText type) × (¬ MeansBlob type) × MeansReal type
 HasAffinity type Numeric = (¬ MeansInteger type) × (¬ MeansText type) × (¬ MeansBlob type) × (¬ MeansReal type)
 
--- a column of this affinity stores the value in another class: TEXT an integer, and INTEGER and NUMERIC a text that is a number (section 3)
+-- a column of this affinity stores the value in another class: TEXT an integer, and INTEGER and NUMERIC a text that is a number (section 3); floating point values, and so REAL, are left out
 abbrev pub ChangesClass : Value → Affinity → Type 0
 ChangesClass (Int z) Text = ⊤
 ChangesClass (TextValue text) Integer = IsNumericText text

@@ -35,7 +35,7 @@ pub fn affinity_of(type_text: &[u8]) -> Affinity
 
 /// Whether a column of this affinity stores the value in the value's own class (Datatypes In SQLite, section 3). It does not where it would make a text of an integer, or a number of a text.
 ///
-/// An integer counts as kept under REAL, though SQLite would store it as a floating point value.
+/// Under REAL an integer and a text count as kept, though SQLite would store a floating point value: tables with such columns are not updated.
 pub fn keeps_class(value: &Value, affinity: Affinity) -> bool
     ensures { IsFalse result ↔ ChangesClass value.now affinity }
 {

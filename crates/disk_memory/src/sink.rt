@@ -60,6 +60,7 @@ impl Sink for MemorySink {
         ensures failed { OnErr result (self.new.written ≡ self.old.written) }
         ensures counts { CountsRefusal (is_listed self.old.counts) (is_err result) self.old.counts self.new.counts }
         ensures count { self.old.counts.faults ≤ self.new.counts.faults }
+        ensures still { OnOk result (self.new.counts.faults ≡ self.old.counts.faults) }
         ensures cause { OnErr result (Rises self.old.counts.faults self.new.counts.faults) }
     {
         if self.calls.is_to_fail() {

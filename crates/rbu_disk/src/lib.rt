@@ -2,7 +2,7 @@
 //!
 //! The layer above may use `Disk`, `Sink`, the names of files and calls, and the faults. What the calls do to the
 //! files is said by `Files` and `Faults` of `file_spec`, and what every call owes by `Call` in `specs/`. Each device
-//! has a count of faults that never falls, and answers a fault only where that count rose in the call.
+//! has a count of faults that never falls: it rises in a call that fails, and stands in one that ends well.
 #![tactic(auto)]
 
 mod disk;

@@ -21,5 +21,6 @@ pub trait Sink {
         ensures done { OnOk result (written self.new ≡ option_map (λ text. text ++ bytes.now) (written self.old)) }
         ensures failed { OnErr result (Leads (GrewByPrefix bytes.now) (written self.old) (written self.new)) }
         ensures count { faults self.old ≤ faults self.new }
+        ensures still { OnOk result (faults self.new ≡ faults self.old) }
         ensures cause { OnErr result (Rises (faults self.old) (faults self.new)) };
 }

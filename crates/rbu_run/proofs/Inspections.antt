@@ -1,5 +1,5 @@
 -- What the reading of the files says of them.
-use Rattle.std.proofs.Common.{◌≡◌, ◌≤◌, arith, ℕ, List, Option, Some, None, Result, Ok, Err, IfOk, IfSome, MatchOption, Vec, Global, IsTrue, ◌↔◌, true, false, refl, sym, ◌∙◌, subst}
+use Rattle.std.proofs.Common.{◌≡◌, ℕ, List, Option, Some, None, Result, Ok, Err, IfOk, IfSome, MatchOption, Vec, Global, IsTrue, ◌↔◌, true, false, refl, sym, ◌∙◌, subst}
 use Rattle.std.proofs.lemmas.Bool.{false≢true}
 use Rattle.file_spec.specs.declared.FileName.TheVariants.{Target, Rbu}
 use Rattle.file_spec.specs.Files.{Files, content}
@@ -102,7 +102,6 @@ after-halt K a b c same known (Fault fault) step =
     (Leads-weaken (λ f g. K f → SeesOldOrNew f g) (λ f g. K f → Unit {0} → SeesOldOrNew f g) b c step (λ f g s k _. s k))
 after-halt K a b c same known Memory step = step ∙ same
 
--- a count that rose from a later value rose from an earlier one
-pub later-cause : (a b c : ℕ) → a ≤ b → (halt : Halt) → HasCause b c halt → HasCause a c halt
-later-cause a b c le (Fault fault) rose = omega (arith, rose)
-later-cause a b c le Memory rose = tt
+-- a cause counts from a count that stood until then
+pub later-cause : (a b c : ℕ) → b ≡ a → (halt : Halt) → HasCause b c halt → HasCause a c halt
+later-cause a b c same halt cause = subst (λ (n : ℕ). HasCause n c halt) same cause

@@ -1,6 +1,7 @@
 -- What each status of a command says.
 use Rattle.std.specs.Prelude.{◌≡◌, ◌≤◌, ◌⊎◌, ℕ, ℤ, List, Option}
 use Rattle.file_spec.specs.Files.{Files}
+use Rattle.file_spec.specs.Faults.{Rises}
 use Rattle.refusal.specs.declared.Refusal.{Refusal}
 use Rattle.update_spec.specs.declared.Outcome.{Outcome}
 use Rattle.update_spec.specs.declared.Outcome.TheVariants.{KeyPresent, Refused}
@@ -38,7 +39,7 @@ IsOutcome outcome (Ended other) = outcome ≡ other
 IsOutcome outcome (Fault file call) = Unit {0}
 IsOutcome outcome NoMemory = Unit {0}
 
--- the answer of a fault
-abbrev pub OnFault : Answer → Type 0 → Type 0
-OnFault (Fault file call) fact = fact
-OnFault other fact = Unit {0}
+-- a fault is answered where the disk's count of faults rose, and any other answer where it stands
+abbrev pub CountsFault : ℕ → ℕ → Answer → Type 0
+CountsFault before now (Fault file call) = Rises before now
+CountsFault before now other = now ≡ before

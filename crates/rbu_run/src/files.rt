@@ -17,6 +17,7 @@ pub fn has_other_file<D: Disk>(disk: &mut D) -> Result<bool, DiskFault>
     ensures answer { IfOk result (λ there. Leads (λ f _. IsTrue there ↔ HasOtherFile f) (D.shown disk.old) (D.shown disk.new)) }
     ensures same { D.shown disk.new ≡ D.shown disk.old }
     ensures count { D.faults disk.old ≤ D.faults disk.new }
+    ensures still { OnOk result (D.faults disk.new ≡ D.faults disk.old) }
     ensures cause { OnErr result (Rises (D.faults disk.old) (D.faults disk.new)) }
 {
     Ok(
@@ -40,6 +41,7 @@ fn read_whole<D: Disk>(disk: &mut D, name: FileName, into: &mut [u8]) -> Result<
     ensures answer { OnOk result (Leads (λ f _. length (content f name) ≡ length into.old → into.new ≡ content f name) (D.shown disk.old) (D.shown disk.new)) }
     ensures same { D.shown disk.new ≡ D.shown disk.old }
     ensures count { D.faults disk.old ≤ D.faults disk.new }
+    ensures still { OnOk result (D.faults disk.new ≡ D.faults disk.old) }
     ensures cause { OnErr result (Rises (D.faults disk.old) (D.faults disk.new)) }
 {
     let _read = disk.read_at(name, 0, into)?;
@@ -57,6 +59,7 @@ pub fn small_bytes<D: Disk>(
         (D.shown disk.old) (D.shown disk.new)) }
     ensures same { D.shown disk.new ≡ D.shown disk.old }
     ensures count { D.faults disk.old ≤ D.faults disk.new }
+    ensures still { OnOk result (D.faults disk.new ≡ D.faults disk.old) }
     ensures cause { IfErr result (HasCause (D.faults disk.old) (D.faults disk.new)) }
 {
     if disk.len(name)? != SMALL as u64 {

@@ -19,6 +19,7 @@ fn write_parts<D: Disk>(disk: &mut D, parts: &[&[u8]]) -> Result<(), DiskFault>
         (D.shown disk.old) (D.shown disk.new)) }
     ensures only { Leads (OnlyChanges Oal) (D.shown disk.old) (D.shown disk.new) }
     ensures count { D.faults disk.old ≤ D.faults disk.new }
+    ensures still { OnOk result (D.faults disk.new ≡ D.faults disk.old) }
     ensures cause { OnErr result (Rises (D.faults disk.old) (D.faults disk.new)) }
 {
     let mut at: u64 = 0;
@@ -36,6 +37,7 @@ fn write_log<D: Disk>(disk: &mut D, salt: [u32; 2], pages: &[u8]) -> Result<(), 
         (D.shown disk.old) (D.shown disk.new)) }
     ensures only { Leads (OnlyChanges Oal) (D.shown disk.old) (D.shown disk.new) }
     ensures count { D.faults disk.old ≤ D.faults disk.new }
+    ensures still { OnOk result (D.faults disk.new ≡ D.faults disk.old) }
     ensures cause { OnErr result (Rises (D.faults disk.old) (D.faults disk.new)) }
 {
     let (first_page, second_page) = pages.split_at(PAGE_SIZE);
@@ -56,6 +58,7 @@ fn copy_back<D: Disk>(disk: &mut D, pages: &[u8]) -> Result<(), DiskFault>
     ensures done { OnOk result (Leads (λ f g. length (content f Target) ≡ 8192 → HasPages pages.now f g) (D.shown disk.old) (D.shown disk.new)) }
     ensures only { Leads (OnlyChanges Target) (D.shown disk.old) (D.shown disk.new) }
     ensures count { D.faults disk.old ≤ D.faults disk.new }
+    ensures still { OnOk result (D.faults disk.new ≡ D.faults disk.old) }
     ensures cause { OnErr result (Rises (D.faults disk.old) (D.faults disk.new)) }
 {
     let (first_page, second_page) = pages.split_at(PAGE_SIZE);
@@ -69,6 +72,7 @@ fn move_log<D: Disk>(disk: &mut D) -> Result<(), DiskFault>
     ensures done { OnOk result (D.shown disk.new ≡ option_map (λ f. after_rename f Oal Wal) (D.shown disk.old)) }
     ensures failed { OnErr result ((D.shown disk.new ≡ D.shown disk.old) ⊎ (D.shown disk.new ≡ option_map (λ f. after_rename f Oal Wal) (D.shown disk.old))) }
     ensures count { D.faults disk.old ≤ D.faults disk.new }
+    ensures still { OnOk result (D.faults disk.new ≡ D.faults disk.old) }
     ensures cause { OnErr result (Rises (D.faults disk.old) (D.faults disk.new)) }
 {
     disk.rename(FileName::Oal, FileName::Wal)?;
@@ -80,6 +84,7 @@ fn drop_log<D: Disk>(disk: &mut D) -> Result<(), DiskFault>
     ensures done { OnOk result (D.shown disk.new ≡ option_map (λ f. after_remove f Wal) (D.shown disk.old)) }
     ensures failed { OnErr result ((D.shown disk.new ≡ D.shown disk.old) ⊎ (D.shown disk.new ≡ option_map (λ f. after_remove f Wal) (D.shown disk.old))) }
     ensures count { D.faults disk.old ≤ D.faults disk.new }
+    ensures still { OnOk result (D.faults disk.new ≡ D.faults disk.old) }
     ensures cause { OnErr result (Rises (D.faults disk.old) (D.faults disk.new)) }
 {
     disk.remove(FileName::Wal)?;
@@ -92,6 +97,7 @@ pub fn hand_over<D: Disk>(disk: &mut D, salt: [u32; 2], pages: &[u8]) -> Result<
     ensures done { OnOk result (Leads (HandsOver pages.now) (D.shown disk.old) (D.shown disk.new)) }
     ensures failed { OnErr result (Leads (SeesPages pages.now) (D.shown disk.old) (D.shown disk.new)) }
     ensures count { D.faults disk.old ≤ D.faults disk.new }
+    ensures still { OnOk result (D.faults disk.new ≡ D.faults disk.old) }
     ensures cause { OnErr result (Rises (D.faults disk.old) (D.faults disk.new)) }
 {
     write_log(disk, salt, pages)?;

@@ -1,5 +1,5 @@
 // The inspection of the files, which changes nothing.
-ghost use Rattle.std.specs.Prelude.{◌≡◌, ◌≤◌, ℕ, List, IfOk, IfErr, IfSome, MatchOption};
+ghost use Rattle.std.specs.Prelude.{◌≡◌, ◌≤◌, ℕ, List, IfOk, IfErr, OnOk, IfSome, MatchOption};
 ghost use Rattle.file_spec.specs.declared.FileName.TheVariants.{Target, Rbu};
 ghost use Rattle.file_spec.specs.Files.{content};
 ghost use Rattle.file_spec.specs.Faults.{Leads};
@@ -54,6 +54,7 @@ fn target_rows<D: Disk>(
     ensures rows { IfOk result (λ found. IfSome found (λ pair. IsSmallTarget pair.0.items pair.1.items)) }
     ensures same { D.shown disk.new ≡ D.shown disk.old }
     ensures count { D.faults disk.old ≤ D.faults disk.new }
+    ensures still { OnOk result (D.faults disk.new ≡ D.faults disk.old) }
     ensures cause { IfErr result (HasCause (D.faults disk.old) (D.faults disk.new)) }
 {
     let Some(bytes) = small_bytes(alloc, disk, FileName::Target)? else {
@@ -72,6 +73,7 @@ fn prepared_rows<D: Disk>(alloc: Global, disk: &mut D) -> Result<Option<Vec<Prep
     ensures rows { IfOk result (λ found. IfSome found (λ v. (bytes : List ℕ) × IsSmallRbu bytes v.items)) }
     ensures same { D.shown disk.new ≡ D.shown disk.old }
     ensures count { D.faults disk.old ≤ D.faults disk.new }
+    ensures still { OnOk result (D.faults disk.new ≡ D.faults disk.old) }
     ensures cause { IfErr result (HasCause (D.faults disk.old) (D.faults disk.new)) }
 {
     let Some(bytes) = small_bytes(alloc, disk, FileName::Rbu)? else {
@@ -89,6 +91,7 @@ pub fn inspect<D: Disk>(alloc: Global, disk: &mut D) -> Result<Inspected, Halt>
     ensures rows { IfOk result HasSmallRows }
     ensures same { D.shown disk.new ≡ D.shown disk.old }
     ensures count { D.faults disk.old ≤ D.faults disk.new }
+    ensures still { OnOk result (D.faults disk.new ≡ D.faults disk.old) }
     ensures cause { IfErr result (HasCause (D.faults disk.old) (D.faults disk.new)) }
 {
     if has_other_file(disk)? {

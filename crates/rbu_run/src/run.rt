@@ -1,12 +1,12 @@
 // The commands, from the words in to the line out.
-ghost use Rattle.std.specs.Prelude.{◌≡◌, ◌≤◌, ◌⊎◌, ◌↔◌, List, ℕ, map, string_bytes, IsTrue};
+ghost use Rattle.std.specs.Prelude.{◌≡◌, ◌≢◌, ◌≤◌, ◌⊎◌, ◌↔◌, List, ℕ, map, string_bytes, IsTrue};
 ghost use Rattle.file_spec.specs.Faults.{Leads, Rises};
 ghost use Rattle.update_spec.specs.declared.Outcome.{Outcome};
 ghost use Rattle.update_spec.specs.declared.Command.TheVariants.{Apply};
 ghost use Rattle.update_spec.specs.Answer.{HasOutcome, IsAnswer, IsUpdateAnswer, IsFinished, SeesOldOrNew};
 ghost use Rattle.update_spec.specs.Words.{IsUsage, AsksUpdate, AsksMore};
 ghost use Rattle.update_spec.specs.Text.{answer_line};
-ghost use Rattle.rbu_run.specs.Status.{Tells, KeepsOnFault, KeepsOnRefusal, IsHalted, HasStatusOf, IsOutcome, OnFault};
+ghost use Rattle.rbu_run.specs.Status.{Tells, KeepsOnFault, KeepsOnRefusal, IsHalted, HasStatusOf, IsOutcome, CountsFault};
 
 use crate::halt::Halt;
 use crate::text::{tellable, write_line};
@@ -29,7 +29,7 @@ fn update_answer<D: Disk>(alloc: Global, salt: [u32; 2], disk: &mut D) -> Answer
     ensures answer { IsUpdateAnswer (D.shown disk.old) (D.shown disk.new) result }
     ensures only { Leads (λ f _. (outcome : Outcome) → HasOutcome f outcome → IsOutcome outcome result) (D.shown disk.old) (D.shown disk.new) }
     ensures count { D.faults disk.old ≤ D.faults disk.new }
-    ensures cause { OnFault result (Rises (D.faults disk.old) (D.faults disk.new)) }
+    ensures cause { CountsFault (D.faults disk.old) (D.faults disk.new) result }
 {
     match update(alloc, salt, disk) {
         Ok(outcome) => Answer::Ended { outcome },
@@ -58,7 +58,7 @@ fn answer_of<D: Disk>(alloc: Global, words: &[String], salt: [u32; 2], disk: &mu
         Leads (λ f _. (outcome : Outcome) → HasOutcome f outcome → IsOutcome outcome result) (D.shown disk.old) (D.shown disk.new) }
     ensures idle { (¬ AsksUpdate (map string_bytes words.now)) → disk.new ≡ disk.old }
     ensures count { D.faults disk.old ≤ D.faults disk.new }
-    ensures cause { OnFault result (Rises (D.faults disk.old) (D.faults disk.new)) }
+    ensures cause { CountsFault (D.faults disk.old) (D.faults disk.new) result }
 {
     let Some(command) = command_of(words) else {
         return Answer::Usage;
@@ -102,9 +102,11 @@ pub fn run_command<D: Disk, O: Sink>(
     // The output has the one line of the answer, or a prefix of it where the output failed.
     ensures told { Tells (map string_bytes words.now) (D.shown disk) (D.shown result.disk) result.status (O.written out.old) (O.written out.new) }
 
-    // A fault has its cause.
+    // A fault has its cause, and none is passed over.
     ensures disk_fault { result.status ≡ 6 → Rises (D.faults disk) (D.faults result.disk) }
     ensures output_fault { result.status ≡ 8 → Rises (O.faults out.old) (O.faults out.new) }
+    ensures no_disk_fault { result.status ≢ 6 → result.status ≢ 8 → D.faults result.disk ≡ D.faults disk }
+    ensures no_output_fault { result.status ≢ 8 → O.faults out.new ≡ O.faults out.old }
     ensures counts { (D.faults disk ≤ D.faults result.disk) × (O.faults out.old ≤ O.faults out.new) }
 {
     let answer = answer_of(alloc, words, salt, &mut disk);

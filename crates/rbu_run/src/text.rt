@@ -1,5 +1,5 @@
 // The line and the status of an answer.
-ghost use Rattle.std.specs.Prelude.{◌≡◌, ◌≤◌, ◌⊎◌, ◌++◌, ◌∷◌, [], ℤ, length, string_bytes, IfOk, OnErr};
+ghost use Rattle.std.specs.Prelude.{◌≡◌, ◌≢◌, ◌≤◌, ◌⊎◌, ◌++◌, ◌∷◌, [], ℤ, length, string_bytes, IfOk, OnErr};
 ghost use Rattle.std.specs.Fmt.{signed_decimal};
 ghost use Rattle.file_spec.specs.Faults.{Rises};
 ghost use Rattle.refusal.specs.Refusal.{refusal_text};
@@ -115,6 +115,7 @@ pub fn write_line<O: Sink>(answer: &Answer, line: &Line, out: &mut O) -> u8
     requires { line.now.bytes ≡ answer_line answer.now }
     ensures told { IsTold answer.now result (O.written out.old) (O.written out.new) }
     ensures count { O.faults out.old ≤ O.faults out.new }
+    ensures still { result ≢ 8 → O.faults out.new ≡ O.faults out.old }
     ensures cause { result ≡ 8 → Rises (O.faults out.old) (O.faults out.new) }
 {
     match out.write_all(line.as_bytes()) {

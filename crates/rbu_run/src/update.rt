@@ -40,6 +40,7 @@ fn install<D: Disk>(
     ensures done { OnOk result (Leads (HandsOver (new_pages target.old rows.now)) (D.shown disk.old) (D.shown disk.new)) }
     ensures failed { OnErr result (Leads (SeesPages (new_pages target.old rows.now)) (D.shown disk.old) (D.shown disk.new)) }
     ensures count { D.faults disk.old ≤ D.faults disk.new }
+    ensures still { OnOk result (D.faults disk.new ≡ D.faults disk.old) }
     ensures cause { OnErr result (Rises (D.faults disk.old) (D.faults disk.new)) }
 {
     write_pages(target, rows);
@@ -62,6 +63,7 @@ fn finish<D: Disk>(
         (D.shown disk.old) (D.shown disk.new)) }
     ensures halted { IfErr result (λ halt. AfterHalt (IsSmallWith target.items old.items prepared.items) (D.shown disk.old) (D.shown disk.new) halt) }
     ensures count { D.faults disk.old ≤ D.faults disk.new }
+    ensures still { OnOk result (D.faults disk.new ≡ D.faults disk.old) }
     ensures cause { IfErr result (HasCause (D.faults disk.old) (D.faults disk.new)) }
 {
     match decide(alloc, old, prepared)? {
@@ -85,6 +87,7 @@ pub fn update<D: Disk>(alloc: Global, salt: [u32; 2], disk: &mut D) -> Result<Ou
     ensures only { IfOk result (λ outcome. Leads (λ f _. HasOnly f outcome) (D.shown disk.old) (D.shown disk.new)) }
     ensures halted { IfErr result (λ halt. AfterHalt (λ _. Unit {0}) (D.shown disk.old) (D.shown disk.new) halt) }
     ensures count { D.faults disk.old ≤ D.faults disk.new }
+    ensures still { OnOk result (D.faults disk.new ≡ D.faults disk.old) }
     ensures cause { IfErr result (HasCause (D.faults disk.old) (D.faults disk.new)) }
 {
     disk.sync_folder()?;

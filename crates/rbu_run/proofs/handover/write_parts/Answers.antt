@@ -1,4 +1,4 @@
-use Rattle.std.proofs.Common.{◌≡◌, ◌+◌, ℕ, [], List, ◌++◌, length, take, get_or, arith, refl, length-append}
+use Rattle.std.proofs.Common.{◌≡◌, ◌+◌, ℕ, [], List, ◌++◌, length, take, get_or, ◌∙◌, arith, refl, length-append}
 use Rattle.std.specs.Borrow.{Bor}
 use Rattle.std.specs.List.{flat_map}
 use Rattle.file_spec.specs.declared.FileName.TheVariants.{Oal}
@@ -11,7 +11,7 @@ loop-part-init g c = record {
   place = refl;
   wrote = Wrote-none (g.D.Disk.shown c.args.disk.now);
   only = only-none Oal (g.D.Disk.shown c.args.disk.now) (g.D.Disk.shown c.args.disk.now) refl;
-  count = omega arith;
+  still = refl;
 }
 
 pub loop-part-preserved : goal.loop-part-preserved
@@ -27,7 +27,7 @@ loop-part-preserved g c =
           c.loop-part.invariant.place c.loop-part.invariant.wrote c.in_ok-write_at.ensures.done;
       only = only-more Oal part.now c.loop-part.at (g.D.Disk.shown c.args.disk.now) (g.D.Disk.shown c.loop-part.disk) (g.D.Disk.shown c.write_at.new.self)
           c.loop-part.invariant.only c.in_ok-write_at.ensures.done;
-      count = omega (arith, c.loop-part.invariant.count, c.write_at.ensures.cause.later);
+      still = c.in_ok-write_at.ensures.cause.still ∙ c.loop-part.invariant.still;
     })
 
 pub returns-in_err-write_at-clause-only : goal.returns-in_err-write_at-clause-only

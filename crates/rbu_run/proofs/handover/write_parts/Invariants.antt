@@ -1,4 +1,4 @@
-use Rattle.std.proofs.Common.{◌≡◌, ◌≤◌, [], length, take, Some}
+use Rattle.std.proofs.Common.{◌≡◌, [], length, take, Some}
 use Rattle.std.specs.List.{flat_map}
 use Rattle.file_spec.specs.declared.FileName.TheVariants.{Oal}
 use Rattle.file_spec.specs.Files.{with_file, OnlyChanges}
@@ -12,5 +12,5 @@ invariant-loop-part g l =
       place : l.at ≡ length written;
       wrote : Leads (λ f h. f Oal ≡ Some [] → h ≡ with_file f Oal (Some written)) (g.D.Disk.shown l.fn.disk) (g.D.Disk.shown l.disk);
       only : Leads (OnlyChanges Oal) (g.D.Disk.shown l.fn.disk) (g.D.Disk.shown l.disk);
-      count : g.D.Disk.faults l.fn.disk ≤ g.D.Disk.faults l.disk;
+      still : g.D.Disk.faults l.disk ≡ g.D.Disk.faults l.fn.disk;
     }

@@ -1,4 +1,4 @@
-use Rattle.std.proofs.Common.{◌≡◌, ◌∙◌, IfSome, arith}
+use Rattle.std.proofs.Common.{◌≡◌, ◌∙◌, IfSome}
 use Rattle.file_spec.specs.Faults.{Leads}
 use Rattle.file_spec.specs.FaultsLaws.{Leads-weaken}
 use Rattle.update_spec.specs.Answer.{AfterOutcome}
@@ -51,4 +51,4 @@ returns-in-Small-clause-halted g c =
 pub returns-in-Small-clause-cause : goal.returns-in-Small-clause-cause
 returns-in-Small-clause-cause g c =
     if-err-map {Q = HasCause (g.D.Disk.faults c.args.disk.now) (g.D.Disk.faults c.finish.new.disk)} c.finish.result c.finish.ensures.cause
-    (later-cause (g.D.Disk.faults c.args.disk.now) (g.D.Disk.faults c.inspect.new.disk) (g.D.Disk.faults c.finish.new.disk) (omega (arith, c.sync_folder.ensures.cause.later, c.inspect.ensures.count)))
+    (later-cause (g.D.Disk.faults c.args.disk.now) (g.D.Disk.faults c.inspect.new.disk) (g.D.Disk.faults c.finish.new.disk) (c.in_ok-part.ensures.still ∙ c.in_ok-sync_folder.ensures.cause.still))

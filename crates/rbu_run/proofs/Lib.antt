@@ -5,5 +5,6 @@ mod Handovers
 mod Inspections
 mod LogWrites
 mod Numerals
+mod Others
 mod Outcomes
 mod Parts

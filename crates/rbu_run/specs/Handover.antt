@@ -38,3 +38,8 @@ HandsOver pages before after = IsAlone before → HasPages pages before after
 -- from files that stand alone, what a reader sees is as before, or the pages
 abbrev pub SeesPages : List ℕ → Files → Files → Type 0
 SeesPages pages before after = IsAlone before → KeepsView before after ⊎ IsView after pages
+
+-- every file but the target and its two logs is as before
+abbrev pub KeepsOthers : Files → Files → Type 0
+KeepsOthers before after =
+    (name : FileName) → is_name Target name ≡ false → is_name Oal name ≡ false → is_name Wal name ≡ false → after name ≡ before name

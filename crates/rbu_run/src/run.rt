@@ -6,6 +6,7 @@ ghost use Rattle.update_spec.specs.declared.Command.TheVariants.{Apply};
 ghost use Rattle.update_spec.specs.Answer.{HasOutcome, IsAnswer, IsUpdateAnswer, IsFinished, SeesOldOrNew};
 ghost use Rattle.update_spec.specs.Words.{IsUsage, AsksUpdate, AsksMore};
 ghost use Rattle.update_spec.specs.Text.{answer_line};
+ghost use Rattle.rbu_run.specs.Handover.{KeepsOthers};
 ghost use Rattle.rbu_run.specs.Status.{Tells, KeepsOnFault, KeepsOnRefusal, IsHalted, HasStatusOf, IsOutcome, CountsFault};
 
 use crate::halt::Halt;
@@ -27,6 +28,7 @@ pub struct Ran<D> {
 /// The answer of the update.
 fn update_answer<D: Disk>(alloc: Global, salt: [u32; 2], disk: &mut D) -> Answer
     ensures answer { IsUpdateAnswer (D.shown disk.old) (D.shown disk.new) result }
+    ensures others { Leads KeepsOthers (D.shown disk.old) (D.shown disk.new) }
     ensures only { Leads (λ f _. (outcome : Outcome) → HasOutcome f outcome → IsOutcome outcome result) (D.shown disk.old) (D.shown disk.new) }
     ensures count { D.faults disk.old ≤ D.faults disk.new }
     ensures cause { CountsFault (D.faults disk.old) (D.faults disk.new) result }
@@ -56,6 +58,7 @@ fn answer_of<D: Disk>(alloc: Global, words: &[String], salt: [u32; 2], disk: &mu
     ensures answer { IsAnswer (map string_bytes words.now) (D.shown disk.old) (D.shown disk.new) result }
     ensures only { AsksUpdate (map string_bytes words.now) →
         Leads (λ f _. (outcome : Outcome) → HasOutcome f outcome → IsOutcome outcome result) (D.shown disk.old) (D.shown disk.new) }
+    ensures others { Leads KeepsOthers (D.shown disk.old) (D.shown disk.new) }
     ensures idle { (¬ AsksUpdate (map string_bytes words.now)) → disk.new ≡ disk.old }
     ensures count { D.faults disk.old ≤ D.faults disk.new }
     ensures cause { CountsFault (D.faults disk.old) (D.faults disk.new) result }
@@ -85,6 +88,9 @@ pub fn run_command<D: Disk, O: Sink>(
 ) -> Ran<D>
     // Whatever stopped the call, a reader of the files sees the old database, or all of the new one.
     ensures headline { Leads SeesOldOrNew (D.shown disk) (D.shown result.disk) }
+
+    // Nor is any other file than the target and its two logs changed.
+    ensures others { Leads KeepsOthers (D.shown disk) (D.shown result.disk) }
 
     // An update that ends has put every prepared row into the target, and neither log exists.
     ensures finished { result.status ≡ 0 → AsksUpdate (map string_bytes words.now) × Leads IsFinished (D.shown disk) (D.shown result.disk) }

@@ -2,6 +2,7 @@ use Rattle.file_spec.specs.Faults.{Leads}
 use Rattle.format_spec.specs.Numbers.{pair_of}
 use Rattle.rbu_run.proofs.Parts.{on-err, on-ok-map, on-err-map}
 use Rattle.rbu_run.proofs.Handovers.{PagesCopied, log-moved, sees-log, sees-move, sees-copy, pages-copied, handed-over, sees-drop}
+use Rattle.rbu_run.proofs.Others.{others-oal, others-target, others-rename, others-maybe_rename, others-dropped, others-then}
 use Rattle.rbu_run.proofs.handover.hand_over.Given as given
 use Rattle.rbu_run.proofs.handover.hand_over.Goals as goal
 
@@ -40,3 +41,33 @@ pub returns-clause-failed : goal.returns-clause-failed
 returns-clause-failed g c =
     on-err-map c.drop_log.result c.drop_log.ensures.failed
     (sees-drop (pair_of c.args.salt) c.args.pages.now c.requires (g.D.Disk.shown c.args.disk.now) (g.D.Disk.shown c.copy_back.new.disk) (g.D.Disk.shown c.drop_log.new.disk) (copied g c))
+
+pub returns-in_err-write_log-clause-others : goal.returns-in_err-write_log-clause-others
+returns-in_err-write_log-clause-others g c = others-oal (g.D.Disk.shown c.args.disk.now) (g.D.Disk.shown c.write_log.new.disk) c.write_log.ensures.only
+
+pub returns-in_err-move_log-clause-others : goal.returns-in_err-move_log-clause-others
+returns-in_err-move_log-clause-others g c =
+    let shown = g.D.Disk.shown in
+    others-then (shown c.args.disk.now) (shown c.write_log.new.disk) (shown c.move_log.new.disk)
+    (others-oal (shown c.args.disk.now) (shown c.write_log.new.disk) c.write_log.ensures.only)
+    (others-maybe_rename (shown c.write_log.new.disk) (shown c.move_log.new.disk) c.in_err-move_log.ensures.failed)
+
+pub returns-in_err-copy_back-clause-others : goal.returns-in_err-copy_back-clause-others
+returns-in_err-copy_back-clause-others g c =
+    let shown = g.D.Disk.shown in
+    others-then (shown c.args.disk.now) (shown c.write_log.new.disk) (shown c.copy_back.new.disk)
+    (others-oal (shown c.args.disk.now) (shown c.write_log.new.disk) c.write_log.ensures.only)
+    (others-then (shown c.write_log.new.disk) (shown c.move_log.new.disk) (shown c.copy_back.new.disk)
+    (others-rename (shown c.write_log.new.disk) (shown c.move_log.new.disk) c.in_ok-move_log.ensures.done)
+    (others-target (shown c.move_log.new.disk) (shown c.copy_back.new.disk) c.copy_back.ensures.only))
+
+pub returns-clause-others : goal.returns-clause-others
+returns-clause-others g c =
+    let shown = g.D.Disk.shown in
+    others-then (shown c.args.disk.now) (shown c.copy_back.new.disk) (shown c.drop_log.new.disk)
+    (others-then (shown c.args.disk.now) (shown c.write_log.new.disk) (shown c.copy_back.new.disk)
+    (others-oal (shown c.args.disk.now) (shown c.write_log.new.disk) c.write_log.ensures.only)
+    (others-then (shown c.write_log.new.disk) (shown c.move_log.new.disk) (shown c.copy_back.new.disk)
+    (others-rename (shown c.write_log.new.disk) (shown c.move_log.new.disk) c.in_ok-move_log.ensures.done)
+    (others-target (shown c.move_log.new.disk) (shown c.copy_back.new.disk) c.copy_back.ensures.only)))
+    (others-dropped c.drop_log.result (shown c.copy_back.new.disk) (shown c.drop_log.new.disk) c.drop_log.ensures.done c.drop_log.ensures.failed)

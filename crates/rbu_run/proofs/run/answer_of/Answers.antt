@@ -1,6 +1,7 @@
 use Rattle.std.proofs.Common.{◌≡◌, Some, refl, sym, ◌∙◌, inr, inl, true, map, string_bytes}
 use Rattle.update_spec.specs.declared.Command.TheVariants.{Apply}
 use Rattle.update_spec.specs.Words.{AsksUpdate}
+use Rattle.rbu_run.proofs.Others.{others-same}
 use Rattle.rbu_run.proofs.run.answer_of.Given as given
 use Rattle.rbu_run.proofs.run.answer_of.Goals as goal
 
@@ -22,3 +23,9 @@ returns-then-not-is_whole_update-clause-answer g c =
 
 pub returns-then-not-is_whole_update-clause-only : goal.returns-then-not-is_whole_update-clause-only
 returns-then-not-is_whole_update-clause-only g c asks = absurd (not_update g c asks)
+
+pub returns-in_default-clause-others : goal.returns-in_default-clause-others
+returns-in_default-clause-others g c = others-same (g.D.Disk.shown c.args.disk.now) (g.D.Disk.shown c.args.disk.now) refl
+
+pub returns-then-not-is_whole_update-clause-others : goal.returns-then-not-is_whole_update-clause-others
+returns-then-not-is_whole_update-clause-others g c = others-same (g.D.Disk.shown c.args.disk.now) (g.D.Disk.shown c.args.disk.now) refl

@@ -13,6 +13,7 @@ use Rattle.small_update.specs.Decision.{Decides}
 use Rattle.small_update.specs.declared.Decision.TheVariants as decision
 use Rattle.rbu_run.specs.Handover.{HandsOver, SeesPages}
 use Rattle.rbu_run.specs.Inspection.{IsSmallWith, HasOnly, HasOnlyRows}
+use Rattle.rbu_run.proofs.Others.{others-same}
 use Rattle.rbu_run.proofs.Finishes.{kept, before, only-outcome, finished, stopped}
 use Rattle.rbu_run.proofs.update.finish.Goals as goal
 
@@ -82,3 +83,15 @@ returns-clause-halted g c =
     Leads-weaken (SeesPages (new_pages c.args.target.items c.in-Merged.rows.items)) (λ f h. IsSmallWith c.args.target.items c.args.old.items c.args.prepared.items f → SeesOldOrNew f h)
     (g.D.Disk.shown c.args.disk.now) (g.D.Disk.shown c.install.new.disk) sees
     (stopped c.args.target.items c.args.old.items c.args.prepared.items c.in-Merged.rows decides)
+
+pub returns-in_err-decide-clause-others : goal.returns-in_err-decide-clause-others
+returns-in_err-decide-clause-others g c = others-same (g.D.Disk.shown c.args.disk.now) (g.D.Disk.shown c.args.disk.now) refl
+
+pub returns-in-SharedKey-clause-others : goal.returns-in-SharedKey-clause-others
+returns-in-SharedKey-clause-others g c = others-same (g.D.Disk.shown c.args.disk.now) (g.D.Disk.shown c.args.disk.now) refl
+
+pub returns-in-NoRoom-clause-others : goal.returns-in-NoRoom-clause-others
+returns-in-NoRoom-clause-others g c = others-same (g.D.Disk.shown c.args.disk.now) (g.D.Disk.shown c.args.disk.now) refl
+
+pub returns-in-KeyPresent-clause-others : goal.returns-in-KeyPresent-clause-others
+returns-in-KeyPresent-clause-others g c = others-same (g.D.Disk.shown c.args.disk.now) (g.D.Disk.shown c.args.disk.now) refl

@@ -5,6 +5,7 @@ use Rattle.update_spec.specs.Answer.{AfterOutcome}
 use Rattle.rbu_run.specs.Halt.{AfterHalt, HasCause}
 use Rattle.rbu_run.specs.Inspection.{IsSmallWith, HasOnly, HasOnlyRows}
 use Rattle.rbu_run.proofs.Inspections.{told, joined, both-told, after-halt, later-cause}
+use Rattle.rbu_run.proofs.Others.{others-same, others-then}
 use Rattle.rbu_run.proofs.Parts.{if-ok-map, if-err-map}
 use Rattle.rbu_run.proofs.update.update.Given as given
 use Rattle.rbu_run.proofs.update.update.Goals as goal
@@ -52,3 +53,15 @@ pub returns-in-Small-clause-cause : goal.returns-in-Small-clause-cause
 returns-in-Small-clause-cause g c =
     if-err-map {Q = HasCause (g.D.Disk.faults c.args.disk.now) (g.D.Disk.faults c.finish.new.disk)} c.finish.result c.finish.ensures.cause
     (later-cause (g.D.Disk.faults c.args.disk.now) (g.D.Disk.faults c.inspect.new.disk) (g.D.Disk.faults c.finish.new.disk) (c.in_ok-part.ensures.still ∙ c.in_ok-sync_folder.ensures.cause.still))
+
+pub returns-in_err-sync_folder-clause-others : goal.returns-in_err-sync_folder-clause-others
+returns-in_err-sync_folder-clause-others g c = others-same (g.D.Disk.shown c.args.disk.now) (g.D.Disk.shown c.sync_folder.new.self) c.sync_folder.ensures.same
+
+pub returns-in-Missing-clause-others : goal.returns-in-Missing-clause-others
+returns-in-Missing-clause-others g c =
+    others-same (g.D.Disk.shown c.args.disk.now) (g.D.Disk.shown c.inspect.new.disk) (c.inspect.ensures.same ∙ c.sync_folder.ensures.same)
+
+pub returns-in-Small-clause-others : goal.returns-in-Small-clause-others
+returns-in-Small-clause-others g c =
+    others-then (g.D.Disk.shown c.args.disk.now) (g.D.Disk.shown c.inspect.new.disk) (g.D.Disk.shown c.finish.new.disk)
+    (others-same (g.D.Disk.shown c.args.disk.now) (g.D.Disk.shown c.inspect.new.disk) (same g c)) c.finish.ensures.others

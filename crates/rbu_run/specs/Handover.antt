@@ -38,3 +38,8 @@ HandsOver pages before after = IsAlone before → HasPages pages before after
 -- from files that stand alone, what a reader sees is as before, or the pages
 abbrev pub SeesPages : List ℕ → Files → Files → Type 0
 SeesPages pages before after = IsAlone before → KeepsView before after ⊎ IsView after pages
+
+-- the write-ahead log that a call leaves is as before, or none, or the whole log of two pages with this salt
+abbrev pub LeavesLog : ℕ × ℕ → Files → Files → Type 0
+LeavesLog salt before after =
+    (after Wal ≡ before Wal) ⊎ ((after Wal ≡ None) ⊎ ((pages : List ℕ) × (length pages ≡ 8192) × (after Wal ≡ Some (log_of salt pages))))

@@ -1,11 +1,13 @@
 // The commands, from the words in to the line out.
 ghost use Rattle.std.specs.Prelude.{◌≡◌, ◌≤◌, ◌⊎◌, ◌↔◌, List, ℕ, map, string_bytes, IsTrue};
 ghost use Rattle.file_spec.specs.Faults.{Leads, Rises};
+ghost use Rattle.format_spec.specs.Numbers.{pair_of};
 ghost use Rattle.update_spec.specs.declared.Outcome.{Outcome};
 ghost use Rattle.update_spec.specs.declared.Command.TheVariants.{Apply};
 ghost use Rattle.update_spec.specs.Answer.{HasOutcome, IsAnswer, IsUpdateAnswer, IsFinished, SeesOldOrNew};
 ghost use Rattle.update_spec.specs.Words.{IsUsage, AsksUpdate, AsksMore};
 ghost use Rattle.update_spec.specs.Text.{answer_line};
+ghost use Rattle.rbu_run.specs.Handover.{LeavesLog};
 ghost use Rattle.rbu_run.specs.Status.{Tells, KeepsOnFault, KeepsOnRefusal, IsHalted, HasStatusOf, IsOutcome, OnFault};
 
 use crate::halt::Halt;
@@ -28,6 +30,7 @@ pub struct Ran<D> {
 fn update_answer<D: Disk>(alloc: Global, salt: [u32; 2], disk: &mut D) -> Answer
     ensures answer { IsUpdateAnswer (D.shown disk.old) (D.shown disk.new) result }
     ensures only { Leads (λ f _. (outcome : Outcome) → HasOutcome f outcome → IsOutcome outcome result) (D.shown disk.old) (D.shown disk.new) }
+    ensures log { Leads (LeavesLog (pair_of salt)) (D.shown disk.old) (D.shown disk.new) }
     ensures count { D.faults disk.old ≤ D.faults disk.new }
     ensures cause { OnFault result (Rises (D.faults disk.old) (D.faults disk.new)) }
 {
@@ -56,6 +59,7 @@ fn answer_of<D: Disk>(alloc: Global, words: &[String], salt: [u32; 2], disk: &mu
     ensures answer { IsAnswer (map string_bytes words.now) (D.shown disk.old) (D.shown disk.new) result }
     ensures only { AsksUpdate (map string_bytes words.now) →
         Leads (λ f _. (outcome : Outcome) → HasOutcome f outcome → IsOutcome outcome result) (D.shown disk.old) (D.shown disk.new) }
+    ensures log { Leads (LeavesLog (pair_of salt)) (D.shown disk.old) (D.shown disk.new) }
     ensures idle { (¬ AsksUpdate (map string_bytes words.now)) → disk.new ≡ disk.old }
     ensures count { D.faults disk.old ≤ D.faults disk.new }
     ensures cause { OnFault result (Rises (D.faults disk.old) (D.faults disk.new)) }
@@ -85,6 +89,9 @@ pub fn run_command<D: Disk, O: Sink>(
 ) -> Ran<D>
     // Whatever stopped the call, a reader of the files sees the old database, or all of the new one.
     ensures headline { Leads SeesOldOrNew (D.shown disk) (D.shown result.disk) }
+
+    // A write-ahead log that the call leaves behind is whole, and has the salt.
+    ensures log { Leads (LeavesLog (pair_of salt)) (D.shown disk) (D.shown result.disk) }
 
     // An update that ends has put every prepared row into the target, and neither log exists.
     ensures finished { result.status ≡ 0 → AsksUpdate (map string_bytes words.now) × Leads IsFinished (D.shown disk) (D.shown result.disk) }

@@ -1,7 +1,10 @@
+use Rattle.std.proofs.Common.{◌≡◌, ◌⊎◌, inr, option_map}
+use Rattle.file_spec.specs.declared.FileName.TheVariants.{Wal}
+use Rattle.file_spec.specs.Files.{after_remove}
 use Rattle.file_spec.specs.Faults.{Leads}
 use Rattle.format_spec.specs.Numbers.{pair_of}
-use Rattle.rbu_run.proofs.Parts.{on-err, on-ok-map, on-err-map}
-use Rattle.rbu_run.proofs.Handovers.{PagesCopied, log-moved, sees-log, sees-move, sees-copy, pages-copied, handed-over, sees-drop}
+use Rattle.rbu_run.proofs.Parts.{on-err, on-ok-map, on-err-map, on-either}
+use Rattle.rbu_run.proofs.Handovers.{PagesCopied, log-moved, sees-log, sees-move, sees-copy, pages-copied, handed-over, sees-drop, logs-log, logs-move, logs-copy, logs-drop}
 use Rattle.rbu_run.proofs.handover.hand_over.Given as given
 use Rattle.rbu_run.proofs.handover.hand_over.Goals as goal
 
@@ -40,3 +43,27 @@ pub returns-clause-failed : goal.returns-clause-failed
 returns-clause-failed g c =
     on-err-map c.drop_log.result c.drop_log.ensures.failed
     (sees-drop (pair_of c.args.salt) c.args.pages.now c.requires (g.D.Disk.shown c.args.disk.now) (g.D.Disk.shown c.copy_back.new.disk) (g.D.Disk.shown c.drop_log.new.disk) (copied g c))
+
+pub returns-in_err-write_log-clause-log : goal.returns-in_err-write_log-clause-log
+returns-in_err-write_log-clause-log g c =
+    logs-log (pair_of c.args.salt) c.args.pages.now c.requires (g.D.Disk.shown c.args.disk.now) (g.D.Disk.shown c.write_log.new.disk) c.write_log.ensures.only
+
+pub returns-in_err-move_log-clause-log : goal.returns-in_err-move_log-clause-log
+returns-in_err-move_log-clause-log g c =
+    logs-move (pair_of c.args.salt) c.args.pages.now c.requires
+    (g.D.Disk.shown c.args.disk.now) (g.D.Disk.shown c.write_log.new.disk) (g.D.Disk.shown c.move_log.new.disk)
+    c.in_ok-write_log.ensures.done c.in_err-move_log.ensures.failed
+
+pub returns-in_err-copy_back-clause-log : goal.returns-in_err-copy_back-clause-log
+returns-in_err-copy_back-clause-log g c =
+    logs-copy (pair_of c.args.salt) c.args.pages.now c.requires
+    (g.D.Disk.shown c.args.disk.now) (g.D.Disk.shown c.move_log.new.disk) (g.D.Disk.shown c.copy_back.new.disk)
+    (log-moved (pair_of c.args.salt) c.args.pages.now c.requires (g.D.Disk.shown c.args.disk.now) (g.D.Disk.shown c.write_log.new.disk) (g.D.Disk.shown c.move_log.new.disk)
+    c.in_ok-write_log.ensures.done c.in_ok-move_log.ensures.done)
+    c.copy_back.ensures.only
+
+pub returns-clause-log : goal.returns-clause-log
+returns-clause-log g c =
+    logs-drop (pair_of c.args.salt) c.args.pages.now c.requires (g.D.Disk.shown c.args.disk.now) (g.D.Disk.shown c.copy_back.new.disk) (g.D.Disk.shown c.drop_log.new.disk) (copied g c)
+    (on-either {T = (g.D.Disk.shown c.drop_log.new.disk ≡ g.D.Disk.shown c.copy_back.new.disk) ⊎ (g.D.Disk.shown c.drop_log.new.disk ≡ option_map (λ f. after_remove f Wal) (g.D.Disk.shown c.copy_back.new.disk))}
+    c.drop_log.result c.drop_log.ensures.done c.drop_log.ensures.failed (λ p. inr p) (λ q. q))

@@ -1,6 +1,8 @@
 use Rattle.std.proofs.Common.{◌≡◌, Some, refl, sym, ◌∙◌, inr, inl, true, map, string_bytes}
+use Rattle.format_spec.specs.Numbers.{pair_of}
 use Rattle.update_spec.specs.declared.Command.TheVariants.{Apply}
 use Rattle.update_spec.specs.Words.{AsksUpdate}
+use Rattle.rbu_run.proofs.Finishes.{log-same}
 use Rattle.rbu_run.proofs.run.answer_of.Given as given
 use Rattle.rbu_run.proofs.run.answer_of.Goals as goal
 
@@ -22,3 +24,9 @@ returns-then-not-is_whole_update-clause-answer g c =
 
 pub returns-then-not-is_whole_update-clause-only : goal.returns-then-not-is_whole_update-clause-only
 returns-then-not-is_whole_update-clause-only g c asks = absurd (not_update g c asks)
+
+pub returns-in_default-clause-log : goal.returns-in_default-clause-log
+returns-in_default-clause-log g c = log-same (pair_of c.args.salt) (g.D.Disk.shown c.args.disk.now) (g.D.Disk.shown c.args.disk.now) refl
+
+pub returns-then-not-is_whole_update-clause-log : goal.returns-then-not-is_whole_update-clause-log
+returns-then-not-is_whole_update-clause-log g c = log-same (pair_of c.args.salt) (g.D.Disk.shown c.args.disk.now) (g.D.Disk.shown c.args.disk.now) refl

@@ -4,7 +4,7 @@ use Rattle.file_spec.specs.declared.FileName.{FileName}
 use Rattle.file_spec.specs.declared.FileName.TheVariants.{Target, Oal, Wal, Journal, Rbu, State, StateTemp}
 use Rattle.file_spec.specs.Files.{Files, content, is_name, with_file}
 use Rattle.file_spec.specs.Faults.{Leads}
-use Rattle.file_spec.specs.FaultsLaws.{Leads-weaken}
+use Rattle.file_spec.specs.FaultsLaws.{Leads-weaken, Leads-same}
 use Rattle.update_spec.specs.declared.TargetRow.{TargetRow}
 use Rattle.update_spec.specs.declared.PreparedRow.{PreparedRow}
 use Rattle.update_spec.specs.SmallFile.{IsSmallTarget}
@@ -15,7 +15,7 @@ use Rattle.small_update.specs.SmallAgain.{UpdateLeavesSmallTarget}
 use Rattle.small_update.specs.Decision.{Decides}
 use Rattle.small_update.specs.declared.Decision.{Decision}
 use Rattle.small_update.specs.declared.Decision.TheVariants as decision
-use Rattle.rbu_run.specs.Handover.{IsAlone, HandsOver, SeesPages}
+use Rattle.rbu_run.specs.Handover.{IsAlone, HandsOver, SeesPages, LeavesLog}
 use Rattle.rbu_run.specs.Inspection.{HasOnly, HasOnlyRows, IsSmallWith}
 use Rattle.rbu_run.proofs.Outcomes.{outcome_of, only_decided}
 
@@ -28,6 +28,10 @@ kept P (Some f) p = p f
 pub before : (P : Files → Files → Type 0) (Q : Files → Type 0) (a b : Option Files) → Leads P a b → ((f : Files) → Q f) → Leads (λ f _. Q f) a b
 before P Q a b led q = Leads-weaken P (λ f _. Q f) a b led (λ f g _. q f)
 
+-- the write-ahead log stays where the files do
+pub log-same : (salt : ℕ × ℕ) (a b : Option Files) → b ≡ a → Leads (LeavesLog salt) a b
+log-same salt a b same = Leads-weaken (λ f g. g ≡ f) (LeavesLog salt) a b (Leads-same a b same) (λ f g e. inl (ap (λ (files : Files). files Wal) e))
+
 none : {X : Type 0} (o : Option X) → ¬ (Rattle.std.specs.Prelude.IsSome o) → o ≡ None
 none None h = refl
 none (Some x) h = absurd (h refl)
@@ -39,6 +43,14 @@ module _ (target : List ℕ) (old : List TargetRow) (prepared : List PreparedRow
     no_wal = none (f Wal) (λ there. small.1.alone (inr (inr (inl there))));
     two_pages_long = small.1.target.file.long;
   }
+
+  -- small files stand alone
+  pub log-small : (salt : ℕ × ℕ) (a b : Option Files) → Leads (λ f g. IsAlone f → LeavesLog salt f g) a b → Leads (λ f g. IsSmallWith target old prepared f → LeavesLog salt f g) a b
+  log-small salt a b led =
+      Leads-weaken (λ f g. IsAlone f → LeavesLog salt f g) (λ f g. IsSmallWith target old prepared f → LeavesLog salt f g) a b led (λ f g leaves small. leaves (alone f small))
+
+  pub log-kept : (salt : ℕ × ℕ) (o : Option Files) → Leads (λ f g. IsSmallWith target old prepared f → LeavesLog salt f g) o o
+  log-kept salt o = kept (λ f g. IsSmallWith target old prepared f → LeavesLog salt f g) o (λ f small. inl refl)
 
   pub only-outcome : (d : Decision) → Decides old prepared d → (f : Files) → IsSmallWith target old prepared f → HasOnlyRows f old prepared → HasOnly f (outcome_of d)
   only-outcome d decides f small rows = only_decided f old prepared small.1 rows d decides

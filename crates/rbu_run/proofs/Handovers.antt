@@ -10,7 +10,7 @@ use Rattle.file_spec.specs.FaultsLaws.{Leads-map, Leads-same, Leads-weaken, Lead
 use Rattle.format_spec.specs.Log.{IsOverlay, AreFrames}
 use Rattle.wal_codec.specs.LogLaws.{log-of_frames, overlay-of_two_pages}
 use Rattle.update_spec.specs.View.{IsView, KeepsView}
-use Rattle.rbu_run.specs.Handover.{log_of, page_frames, IsAlone, HasPages, HandsOver, SeesPages}
+use Rattle.rbu_run.specs.Handover.{log_of, page_frames, IsAlone, HasPages, HandsOver, SeesPages, LeavesLog}
 
 module _ (salt : ℕ × ℕ) (pages : List ℕ) (long : length pages ≡ 8192) where
   -- the hidden log was written
@@ -114,3 +114,37 @@ module _ (salt : ℕ × ℕ) (pages : List ℕ) (long : length pages ≡ 8192) w
   -- a fault while the log is written
   pub sees-log : (a b : Option Files) → Leads (OnlyChanges Oal) a b → Leads (SeesPages pages) a b
   sees-log a b only = Leads-weaken (OnlyChanges Oal) (SeesPages pages) a b only (λ f g changed alone. inl (view-hidden f g changed))
+
+  -- the write-ahead log that is left, from files that stand alone
+  abbrev pub Leaves : Files → Files → Type 0
+  Leaves f g = IsAlone f → LeavesLog salt f g
+
+  pub logs-log : (a b : Option Files) → Leads (OnlyChanges Oal) a b → Leads Leaves a b
+  logs-log a b only = Leads-weaken (OnlyChanges Oal) Leaves a b only (λ f g changed alone. inl (ap (λ (files : Files). files Wal) changed.1))
+
+  left-hidden : (f g h : Files) → LogWritten f g → h ≡ g → Leaves f h
+  left-hidden f g h wrote same alone = inl (ap (λ (files : Files). files Wal) (same ∙ wrote alone.no_oal))
+
+  left-moved : (f g : Files) → LogMoved f g → Leaves f g
+  left-moved f g is alone = inr (inr (pages, long, ap (λ (files : Files). files Wal) (is alone)))
+
+  pub logs-move : (a b c : Option Files) → Leads LogWritten a b → (c ≡ b) ⊎ (c ≡ option_map (λ f. after_rename f Oal Wal) b) → Leads Leaves a c
+  logs-move a b c wrote (inl same) = Leads-then LogWritten (λ f g. g ≡ f) Leaves a b c wrote (Leads-same b c same) left-hidden
+  logs-move a b c wrote (inr rename) = Leads-weaken LogMoved Leaves a c (log-moved a b c wrote rename) left-moved
+
+  left-half : (f g h : Files) → LogMoved f g → OnlyChanges Target g h → Leaves f h
+  left-half f g h is only alone =
+      inr (inr (pages, long, ap (λ (files : Files). files Wal) only.1 ∙ ap (λ (files : Files). files Wal) (is alone)))
+
+  pub logs-copy : (a b c : Option Files) → Leads LogMoved a b → Leads (OnlyChanges Target) b c → Leads Leaves a c
+  logs-copy a b c is only = Leads-then LogMoved (OnlyChanges Target) Leaves a b c is only left-half
+
+  left-copied : (f g h : Files) → PagesCopied f g → h ≡ g → Leaves f h
+  left-copied f g h is same alone = inr (inr (pages, long, ap (λ (files : Files). files Wal) (same ∙ is alone)))
+
+  left-done : (f g : Files) → HandsOver pages f g → Leaves f g
+  left-done f g is alone = inl (ap (λ (files : Files). files Wal) (is alone))
+
+  pub logs-drop : (a b c : Option Files) → Leads PagesCopied a b → (c ≡ b) ⊎ (c ≡ option_map (λ f. after_remove f Wal) b) → Leads Leaves a c
+  logs-drop a b c is (inl same) = Leads-then PagesCopied (λ f g. g ≡ f) Leaves a b c is (Leads-same b c same) left-copied
+  logs-drop a b c is (inr remove) = Leads-weaken (HandsOver pages) Leaves a c (handed-over a b c is remove) left-done

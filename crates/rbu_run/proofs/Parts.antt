@@ -46,3 +46,8 @@ if-ok-map (Err e) p f = tt
 pub if-err-map : {X E : Type 0} {P Q : E → Type 0} (r : Result X E) → IfErr r P → ((e : E) → P e → Q e) → IfErr r Q
 if-err-map (Ok x) p f = tt
 if-err-map (Err e) p f = f e p
+
+-- a fact that holds after either end holds
+pub on-either : {X E : Type 0} {P Q T : Type 0} (r : Result X E) → OnOk r P → OnErr r Q → (P → T) → (Q → T) → T
+on-either (Ok x) p q f g = f p
+on-either (Err e) p q f g = g q

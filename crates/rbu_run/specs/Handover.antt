@@ -43,3 +43,8 @@ SeesPages pages before after = IsAlone before → KeepsView before after ⊎ IsV
 abbrev pub KeepsOthers : Files → Files → Type 0
 KeepsOthers before after =
     (name : FileName) → is_name Target name ≡ false → is_name Oal name ≡ false → is_name Wal name ≡ false → after name ≡ before name
+
+-- the write-ahead log that a call leaves is as before, or none, or the whole log of two pages with this salt
+abbrev pub LeavesLog : ℕ × ℕ → Files → Files → Type 0
+LeavesLog salt before after =
+    (after Wal ≡ before Wal) ⊎ ((after Wal ≡ None) ⊎ ((pages : List ℕ) × (length pages ≡ 8192) × (after Wal ≡ Some (log_of salt pages))))

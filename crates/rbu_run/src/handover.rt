@@ -5,7 +5,7 @@ ghost use Rattle.file_spec.specs.declared.FileName.TheVariants.{Target, Oal, Wal
 ghost use Rattle.file_spec.specs.Files.{content, with_file, after_remove, after_rename, OnlyChanges};
 ghost use Rattle.file_spec.specs.Faults.{Leads, Rises};
 ghost use Rattle.format_spec.specs.Numbers.{pair_of};
-ghost use Rattle.rbu_run.specs.Handover.{log_of, IsAlone, IsLogged, HasPages, HandsOver, SeesPages, KeepsOthers};
+ghost use Rattle.rbu_run.specs.Handover.{log_of, IsAlone, IsLogged, HasPages, HandsOver, SeesPages, KeepsOthers, LeavesLog};
 
 use rbu_disk::{Disk, DiskFault, FileName};
 use wal_codec::{frame_bytes, header_bytes};
@@ -97,6 +97,7 @@ pub fn hand_over<D: Disk>(disk: &mut D, salt: [u32; 2], pages: &[u8]) -> Result<
     ensures done { OnOk result (Leads (HandsOver pages.now) (D.shown disk.old) (D.shown disk.new)) }
     ensures failed { OnErr result (Leads (SeesPages pages.now) (D.shown disk.old) (D.shown disk.new)) }
     ensures others { Leads KeepsOthers (D.shown disk.old) (D.shown disk.new) }
+    ensures log { Leads (λ f g. IsAlone f → LeavesLog (pair_of salt) f g) (D.shown disk.old) (D.shown disk.new) }
     ensures count { D.faults disk.old ≤ D.faults disk.new }
     ensures still { OnOk result (D.faults disk.new ≡ D.faults disk.old) }
     ensures cause { OnErr result (Rises (D.faults disk.old) (D.faults disk.new)) }

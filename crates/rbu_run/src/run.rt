@@ -1,12 +1,13 @@
 // The commands, from the words in to the line out.
 ghost use Rattle.std.specs.Prelude.{◌≡◌, ◌≢◌, ◌≤◌, ◌⊎◌, ◌↔◌, List, ℕ, map, string_bytes, IsTrue};
 ghost use Rattle.file_spec.specs.Faults.{Leads, Rises};
+ghost use Rattle.format_spec.specs.Numbers.{pair_of};
 ghost use Rattle.update_spec.specs.declared.Outcome.{Outcome};
 ghost use Rattle.update_spec.specs.declared.Command.TheVariants.{Apply};
 ghost use Rattle.update_spec.specs.Answer.{HasOutcome, IsAnswer, IsUpdateAnswer, IsFinished, SeesOldOrNew};
 ghost use Rattle.update_spec.specs.Words.{IsUsage, AsksUpdate, AsksMore};
 ghost use Rattle.update_spec.specs.Text.{answer_line};
-ghost use Rattle.rbu_run.specs.Handover.{KeepsOthers};
+ghost use Rattle.rbu_run.specs.Handover.{KeepsOthers, LeavesLog};
 ghost use Rattle.rbu_run.specs.Status.{Tells, KeepsOnFault, KeepsOnRefusal, IsHalted, HasStatusOf, IsOutcome, CountsFault};
 
 use crate::halt::Halt;
@@ -30,6 +31,7 @@ fn update_answer<D: Disk>(alloc: Global, salt: [u32; 2], disk: &mut D) -> Answer
     ensures answer { IsUpdateAnswer (D.shown disk.old) (D.shown disk.new) result }
     ensures others { Leads KeepsOthers (D.shown disk.old) (D.shown disk.new) }
     ensures only { Leads (λ f _. (outcome : Outcome) → HasOutcome f outcome → IsOutcome outcome result) (D.shown disk.old) (D.shown disk.new) }
+    ensures log { Leads (LeavesLog (pair_of salt)) (D.shown disk.old) (D.shown disk.new) }
     ensures count { D.faults disk.old ≤ D.faults disk.new }
     ensures cause { CountsFault (D.faults disk.old) (D.faults disk.new) result }
 {
@@ -59,6 +61,7 @@ fn answer_of<D: Disk>(alloc: Global, words: &[String], salt: [u32; 2], disk: &mu
     ensures only { AsksUpdate (map string_bytes words.now) →
         Leads (λ f _. (outcome : Outcome) → HasOutcome f outcome → IsOutcome outcome result) (D.shown disk.old) (D.shown disk.new) }
     ensures others { Leads KeepsOthers (D.shown disk.old) (D.shown disk.new) }
+    ensures log { Leads (LeavesLog (pair_of salt)) (D.shown disk.old) (D.shown disk.new) }
     ensures idle { (¬ AsksUpdate (map string_bytes words.now)) → disk.new ≡ disk.old }
     ensures count { D.faults disk.old ≤ D.faults disk.new }
     ensures cause { CountsFault (D.faults disk.old) (D.faults disk.new) result }
@@ -91,6 +94,9 @@ pub fn run_command<D: Disk, O: Sink>(
 
     // Nor is any other file than the target and its two logs changed.
     ensures others { Leads KeepsOthers (D.shown disk) (D.shown result.disk) }
+
+    // A write-ahead log that the call makes and leaves is whole, and has the salt.
+    ensures log { Leads (LeavesLog (pair_of salt)) (D.shown disk) (D.shown result.disk) }
 
     // An update that ends has put every prepared row into the target, and neither log exists.
     ensures finished { result.status ≡ 0 → AsksUpdate (map string_bytes words.now) × Leads IsFinished (D.shown disk) (D.shown result.disk) }

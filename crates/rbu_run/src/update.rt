@@ -2,13 +2,14 @@
 ghost use Rattle.std.specs.Prelude.{◌≡◌, ◌≤◌, ℕ, List, length, map, IfOk, IfErr, OnOk, OnErr};
 ghost use Rattle.std.specs.List.{All};
 ghost use Rattle.file_spec.specs.Faults.{Leads, Rises};
+ghost use Rattle.format_spec.specs.Numbers.{pair_of};
 ghost use Rattle.refusal.specs.declared.Refusal.TheVariants.{NotYet};
 ghost use Rattle.update_spec.specs.declared.Outcome.TheVariants.{Refused};
 ghost use Rattle.update_spec.specs.SmallFile.{IsSmallTarget, IsSmallRbu};
 ghost use Rattle.update_spec.specs.Outcome.{new_pages, page_room};
 ghost use Rattle.update_spec.specs.Answer.{AfterOutcome};
 ghost use Rattle.rbu_run.specs.Halt.{HasCause, AfterHalt};
-ghost use Rattle.rbu_run.specs.Handover.{HandsOver, SeesPages, KeepsOthers};
+ghost use Rattle.rbu_run.specs.Handover.{HandsOver, SeesPages, KeepsOthers, IsAlone, LeavesLog};
 ghost use Rattle.rbu_run.specs.Inspection.{IsSmallWith, HasOnly, HasOnlyRows};
 
 use crate::halt::Halt;
@@ -40,6 +41,7 @@ fn install<D: Disk>(
     ensures done { OnOk result (Leads (HandsOver (new_pages target.old rows.now)) (D.shown disk.old) (D.shown disk.new)) }
     ensures failed { OnErr result (Leads (SeesPages (new_pages target.old rows.now)) (D.shown disk.old) (D.shown disk.new)) }
     ensures others { Leads KeepsOthers (D.shown disk.old) (D.shown disk.new) }
+    ensures log { Leads (λ f g. IsAlone f → LeavesLog (pair_of salt) f g) (D.shown disk.old) (D.shown disk.new) }
     ensures count { D.faults disk.old ≤ D.faults disk.new }
     ensures still { OnOk result (D.faults disk.new ≡ D.faults disk.old) }
     ensures cause { OnErr result (Rises (D.faults disk.old) (D.faults disk.new)) }
@@ -64,6 +66,7 @@ fn finish<D: Disk>(
         (D.shown disk.old) (D.shown disk.new)) }
     ensures halted { IfErr result (λ halt. AfterHalt (IsSmallWith target.items old.items prepared.items) (D.shown disk.old) (D.shown disk.new) halt) }
     ensures others { Leads KeepsOthers (D.shown disk.old) (D.shown disk.new) }
+    ensures log { Leads (λ f g. IsSmallWith target.items old.items prepared.items f → LeavesLog (pair_of salt) f g) (D.shown disk.old) (D.shown disk.new) }
     ensures count { D.faults disk.old ≤ D.faults disk.new }
     ensures still { OnOk result (D.faults disk.new ≡ D.faults disk.old) }
     ensures cause { IfErr result (HasCause (D.faults disk.old) (D.faults disk.new)) }
@@ -89,6 +92,7 @@ pub fn update<D: Disk>(alloc: Global, salt: [u32; 2], disk: &mut D) -> Result<Ou
     ensures only { IfOk result (λ outcome. Leads (λ f _. HasOnly f outcome) (D.shown disk.old) (D.shown disk.new)) }
     ensures halted { IfErr result (λ halt. AfterHalt (λ _. Unit {0}) (D.shown disk.old) (D.shown disk.new) halt) }
     ensures others { Leads KeepsOthers (D.shown disk.old) (D.shown disk.new) }
+    ensures log { Leads (LeavesLog (pair_of salt)) (D.shown disk.old) (D.shown disk.new) }
     ensures count { D.faults disk.old ≤ D.faults disk.new }
     ensures still { OnOk result (D.faults disk.new ≡ D.faults disk.old) }
     ensures cause { IfErr result (HasCause (D.faults disk.old) (D.faults disk.new)) }

@@ -1,7 +1,10 @@
+use Rattle.std.proofs.Common.{◌≡◌, ◌⊎◌, inr, option_map}
+use Rattle.file_spec.specs.declared.FileName.TheVariants.{Wal}
+use Rattle.file_spec.specs.Files.{after_remove}
 use Rattle.file_spec.specs.Faults.{Leads}
 use Rattle.format_spec.specs.Numbers.{pair_of}
-use Rattle.rbu_run.proofs.Parts.{on-err, on-ok-map, on-err-map}
-use Rattle.rbu_run.proofs.Handovers.{PagesCopied, log-moved, sees-log, sees-move, sees-copy, pages-copied, handed-over, sees-drop}
+use Rattle.rbu_run.proofs.Parts.{on-err, on-ok-map, on-err-map, on-either}
+use Rattle.rbu_run.proofs.Handovers.{PagesCopied, log-moved, sees-log, sees-move, sees-copy, pages-copied, handed-over, sees-drop, logs-log, logs-move, logs-copy, logs-drop}
 use Rattle.rbu_run.proofs.Others.{others-oal, others-target, others-rename, others-maybe_rename, others-dropped, others-then}
 use Rattle.rbu_run.proofs.handover.hand_over.Given as given
 use Rattle.rbu_run.proofs.handover.hand_over.Goals as goal
@@ -71,3 +74,27 @@ returns-clause-others g c =
     (others-rename (shown c.write_log.new.disk) (shown c.move_log.new.disk) c.in_ok-move_log.ensures.done)
     (others-target (shown c.move_log.new.disk) (shown c.copy_back.new.disk) c.copy_back.ensures.only)))
     (others-dropped c.drop_log.result (shown c.copy_back.new.disk) (shown c.drop_log.new.disk) c.drop_log.ensures.done c.drop_log.ensures.failed)
+
+pub returns-in_err-write_log-clause-log : goal.returns-in_err-write_log-clause-log
+returns-in_err-write_log-clause-log g c =
+    logs-log (pair_of c.args.salt) c.args.pages.now c.requires (g.D.Disk.shown c.args.disk.now) (g.D.Disk.shown c.write_log.new.disk) c.write_log.ensures.only
+
+pub returns-in_err-move_log-clause-log : goal.returns-in_err-move_log-clause-log
+returns-in_err-move_log-clause-log g c =
+    logs-move (pair_of c.args.salt) c.args.pages.now c.requires
+    (g.D.Disk.shown c.args.disk.now) (g.D.Disk.shown c.write_log.new.disk) (g.D.Disk.shown c.move_log.new.disk)
+    c.in_ok-write_log.ensures.done c.in_err-move_log.ensures.failed
+
+pub returns-in_err-copy_back-clause-log : goal.returns-in_err-copy_back-clause-log
+returns-in_err-copy_back-clause-log g c =
+    logs-copy (pair_of c.args.salt) c.args.pages.now c.requires
+    (g.D.Disk.shown c.args.disk.now) (g.D.Disk.shown c.move_log.new.disk) (g.D.Disk.shown c.copy_back.new.disk)
+    (log-moved (pair_of c.args.salt) c.args.pages.now c.requires (g.D.Disk.shown c.args.disk.now) (g.D.Disk.shown c.write_log.new.disk) (g.D.Disk.shown c.move_log.new.disk)
+    c.in_ok-write_log.ensures.done c.in_ok-move_log.ensures.done)
+    c.copy_back.ensures.only
+
+pub returns-clause-log : goal.returns-clause-log
+returns-clause-log g c =
+    logs-drop (pair_of c.args.salt) c.args.pages.now c.requires (g.D.Disk.shown c.args.disk.now) (g.D.Disk.shown c.copy_back.new.disk) (g.D.Disk.shown c.drop_log.new.disk) (copied g c)
+    (on-either {T = (g.D.Disk.shown c.drop_log.new.disk ≡ g.D.Disk.shown c.copy_back.new.disk) ⊎ (g.D.Disk.shown c.drop_log.new.disk ≡ option_map (λ f. after_remove f Wal) (g.D.Disk.shown c.copy_back.new.disk))}
+    c.drop_log.result c.drop_log.ensures.done c.drop_log.ensures.failed (λ p. inr p) (λ q. q))

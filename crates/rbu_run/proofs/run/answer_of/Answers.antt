@@ -1,7 +1,9 @@
 use Rattle.std.proofs.Common.{◌≡◌, Some, refl, sym, ◌∙◌, inr, inl, true, map, string_bytes}
+use Rattle.format_spec.specs.Numbers.{pair_of}
 use Rattle.update_spec.specs.declared.Command.TheVariants.{Apply}
 use Rattle.update_spec.specs.Words.{AsksUpdate}
 use Rattle.rbu_run.proofs.Others.{others-same}
+use Rattle.rbu_run.proofs.Finishes.{log-same}
 use Rattle.rbu_run.proofs.run.answer_of.Given as given
 use Rattle.rbu_run.proofs.run.answer_of.Goals as goal
 
@@ -29,3 +31,9 @@ returns-in_default-clause-others g c = others-same (g.D.Disk.shown c.args.disk.n
 
 pub returns-then-not-is_whole_update-clause-others : goal.returns-then-not-is_whole_update-clause-others
 returns-then-not-is_whole_update-clause-others g c = others-same (g.D.Disk.shown c.args.disk.now) (g.D.Disk.shown c.args.disk.now) refl
+
+pub returns-in_default-clause-log : goal.returns-in_default-clause-log
+returns-in_default-clause-log g c = log-same (pair_of c.args.salt) (g.D.Disk.shown c.args.disk.now) (g.D.Disk.shown c.args.disk.now) refl
+
+pub returns-then-not-is_whole_update-clause-log : goal.returns-then-not-is_whole_update-clause-log
+returns-then-not-is_whole_update-clause-log g c = log-same (pair_of c.args.salt) (g.D.Disk.shown c.args.disk.now) (g.D.Disk.shown c.args.disk.now) refl

@@ -4,6 +4,7 @@ use mir.Val.{SFits}
 use Rattle.std.proofs.lemmas.Int.{to_z-of_z}
 use Rattle.file_spec.specs.Faults.{Leads}
 use Rattle.file_spec.specs.FaultsLaws.{Leads-weaken}
+use Rattle.format_spec.specs.Numbers.{pair_of}
 use Rattle.refusal.specs.declared.Part.TheVariants as part
 use Rattle.refusal.specs.declared.Refusal.TheVariants.{NotYet}
 use Rattle.update_spec.specs.declared.Outcome.TheVariants.{Done, KeyPresent, Refused}
@@ -14,7 +15,7 @@ use Rattle.small_update.specs.declared.Decision.TheVariants as decision
 use Rattle.rbu_run.specs.Handover.{HandsOver, SeesPages}
 use Rattle.rbu_run.specs.Inspection.{IsSmallWith, HasOnly, HasOnlyRows}
 use Rattle.rbu_run.proofs.Others.{others-same}
-use Rattle.rbu_run.proofs.Finishes.{kept, before, only-outcome, finished, stopped}
+use Rattle.rbu_run.proofs.Finishes.{kept, before, only-outcome, finished, stopped, log-small, log-kept}
 use Rattle.rbu_run.proofs.update.finish.Goals as goal
 
 pub decide-requires-clause-values : goal.decide-requires-clause-values
@@ -95,3 +96,23 @@ returns-in-NoRoom-clause-others g c = others-same (g.D.Disk.shown c.args.disk.no
 
 pub returns-in-KeyPresent-clause-others : goal.returns-in-KeyPresent-clause-others
 returns-in-KeyPresent-clause-others g c = others-same (g.D.Disk.shown c.args.disk.now) (g.D.Disk.shown c.args.disk.now) refl
+
+pub returns-in_err-decide-clause-log : goal.returns-in_err-decide-clause-log
+returns-in_err-decide-clause-log g c = log-kept c.args.target.items c.args.old.items c.args.prepared.items (pair_of c.args.salt) (g.D.Disk.shown c.args.disk.now)
+
+pub returns-in-SharedKey-clause-log : goal.returns-in-SharedKey-clause-log
+returns-in-SharedKey-clause-log g c = log-kept c.args.target.items c.args.old.items c.args.prepared.items (pair_of c.args.salt) (g.D.Disk.shown c.args.disk.now)
+
+pub returns-in-NoRoom-clause-log : goal.returns-in-NoRoom-clause-log
+returns-in-NoRoom-clause-log g c = log-kept c.args.target.items c.args.old.items c.args.prepared.items (pair_of c.args.salt) (g.D.Disk.shown c.args.disk.now)
+
+pub returns-in-KeyPresent-clause-log : goal.returns-in-KeyPresent-clause-log
+returns-in-KeyPresent-clause-log g c = log-kept c.args.target.items c.args.old.items c.args.prepared.items (pair_of c.args.salt) (g.D.Disk.shown c.args.disk.now)
+
+pub returns-in-Ok-clause-log : goal.returns-in-Ok-clause-log
+returns-in-Ok-clause-log g c =
+    log-small c.args.target.items c.args.old.items c.args.prepared.items (pair_of c.args.salt) (g.D.Disk.shown c.args.disk.now) (g.D.Disk.shown c.install.new.disk) c.install.ensures.log
+
+pub returns-clause-log : goal.returns-clause-log
+returns-clause-log g c =
+    log-small c.args.target.items c.args.old.items c.args.prepared.items (pair_of c.args.salt) (g.D.Disk.shown c.args.disk.now) (g.D.Disk.shown c.install.new.disk) c.install.ensures.log

@@ -1,9 +1,12 @@
 use Rattle.std.proofs.Common.{◌≡◌, ◌∙◌, IfSome}
 use Rattle.file_spec.specs.Faults.{Leads}
 use Rattle.file_spec.specs.FaultsLaws.{Leads-weaken}
+use Rattle.format_spec.specs.Numbers.{pair_of}
 use Rattle.update_spec.specs.Answer.{AfterOutcome}
 use Rattle.rbu_run.specs.Halt.{AfterHalt, HasCause}
 use Rattle.rbu_run.specs.Inspection.{IsSmallWith, HasOnly, HasOnlyRows}
+use Rattle.rbu_run.specs.Handover.{LeavesLog}
+use Rattle.rbu_run.proofs.Finishes.{log-same}
 use Rattle.rbu_run.proofs.Inspections.{told, joined, both-told, after-halt, later-cause}
 use Rattle.rbu_run.proofs.Others.{others-same, others-then}
 use Rattle.rbu_run.proofs.Parts.{if-ok-map, if-err-map}
@@ -65,3 +68,19 @@ pub returns-in-Small-clause-others : goal.returns-in-Small-clause-others
 returns-in-Small-clause-others g c =
     others-then (g.D.Disk.shown c.args.disk.now) (g.D.Disk.shown c.inspect.new.disk) (g.D.Disk.shown c.finish.new.disk)
     (others-same (g.D.Disk.shown c.args.disk.now) (g.D.Disk.shown c.inspect.new.disk) (same g c)) c.finish.ensures.others
+
+pub returns-in_err-sync_folder-clause-log : goal.returns-in_err-sync_folder-clause-log
+returns-in_err-sync_folder-clause-log g c = log-same (pair_of c.args.salt) (g.D.Disk.shown c.args.disk.now) (g.D.Disk.shown c.sync_folder.new.self) c.sync_folder.ensures.same
+
+pub returns-in_err-part-clause-log : goal.returns-in_err-part-clause-log
+returns-in_err-part-clause-log g c =
+    log-same (pair_of c.args.salt) (g.D.Disk.shown c.args.disk.now) (g.D.Disk.shown c.inspect.new.disk) (c.inspect.ensures.same ∙ c.sync_folder.ensures.same)
+
+pub returns-in-Missing-clause-log : goal.returns-in-Missing-clause-log
+returns-in-Missing-clause-log g c =
+    log-same (pair_of c.args.salt) (g.D.Disk.shown c.args.disk.now) (g.D.Disk.shown c.inspect.new.disk) (c.inspect.ensures.same ∙ c.sync_folder.ensures.same)
+
+pub returns-in-Small-clause-log : goal.returns-in-Small-clause-log
+returns-in-Small-clause-log g c =
+    joined (IsSmallWith c.in-Small.target.items c.in-Small.old.items c.in-Small.prepared.items) (LeavesLog (pair_of c.args.salt))
+    (g.D.Disk.shown c.args.disk.now) (g.D.Disk.shown c.inspect.new.disk) (g.D.Disk.shown c.finish.new.disk) (same g c) (small g c) c.finish.ensures.log

@@ -1,10 +1,10 @@
 // A disk in memory.
-ghost use Rattle.std.specs.Prelude.{◌≡◌, ◌≤◌, ◌<◌, ◌+◌, ◌^◌, ◌++◌, ◌||◌, ◌↔◌, IsTrue, IsSome, IsErr, IfOk, OnOk, OnErr, Some, is_err, length, drop, map, option_map};
+ghost use Rattle.std.specs.Prelude.{◌≡◌, ◌≤◌, ◌<◌, ◌+◌, ◌^◌, ◌++◌, ◌||◌, ◌↔◌, IsTrue, IsSome, IsErr, IfOk, OnOk, OnErr, Some, None, is_err, length, drop, map, option_map};
 ghost use Rattle.file_spec.specs.declared.FileName.TheVariants.{Target};
 ghost use Rattle.file_spec.specs.Files.{after_create, after_remove, after_rename, after_set_len, after_write, content, name_index, part_of, with_file};
 ghost use Rattle.rbu_disk.specs.Call.{HasCause};
 ghost use Rattle.disk_memory.specs.Calls.{CountsRefusal, after_call, is_listed, one_more};
-ghost use Rattle.disk_memory.specs.Disk.{files_at, files_of, first_entries, is_over_limit};
+ghost use Rattle.disk_memory.specs.Disk.{failures_of, files_at, files_of, first_entries, is_over_limit};
 
 use crate::calls::Calls;
 use crate::file::{File, copy_part, create_slot, resize_slot, write_slot};
@@ -23,6 +23,7 @@ pub struct MemoryDisk {
     alloc: Global,
     places: [Option<File>; 7],
     calls: Calls,
+    last_fault: Option<DiskFault>,
 }
 
 impl Model for MemoryDisk {
@@ -30,7 +31,7 @@ impl Model for MemoryDisk {
 
     ghost Value = { DiskState };
 
-    ghost view = { λ disk. record { places = disk.places; counts = disk.calls } };
+    ghost view = { λ disk. record { places = disk.places; counts = disk.calls; last_fault = disk.last_fault } };
 }
 
 /// The place of a name among the names.
@@ -73,11 +74,13 @@ impl MemoryDisk {
     pub fn new(alloc: Global, files: Vec<(FileName, Vec<u8>)>, fail_list: Vec<u64>) -> MemoryDisk
         ensures files { files_of result ≡ first_entries (map (λ entry. (entry.0, entry.1.items)) files.items) }
         ensures counts { result.counts ≡ record { fail_list = fail_list.items; calls = 0; faults = 0; refused = 0 } }
+        ensures none { result.last_fault ≡ None }
     {
         MemoryDisk {
             alloc,
             places: places_of(files),
             calls: Calls::new(fail_list),
+            last_fault: None,
         }
     }
 
@@ -108,15 +111,25 @@ impl MemoryDisk {
         }
     }
 
+    /// Keeps the fault of a call that failed, and gives it.
+    fn keep_fault(&mut self, file: FileName, call: DiskCall) -> DiskFault
+        ensures value { result ≡ record { file = file; call = call } }
+        ensures kept { self.new ≡ record self.old { last_fault = Some result } }
+    {
+        let fault = DiskFault { file, call };
+        self.last_fault = Some(fault);
+        fault
+    }
+
     /// Counts a call, which fails where its number stands in the list.
     fn count_call(&mut self, file: FileName, call: DiskCall) -> Result<(), DiskFault>
         ensures fails { is_err result ≡ is_listed self.old.counts }
         ensures same { self.new.places ≡ self.old.places }
         ensures counts { self.new.counts ≡ after_call (is_err result) self.old.counts }
-        ensures cause { HasCause self.old.counts.faults self.new.counts.faults file call result }
+        ensures cause { HasCause (failures_of self.old) (failures_of self.new) file call result }
     {
         if self.calls.is_to_fail() {
-            Err(DiskFault { file, call })
+            Err(self.keep_fault(file, call))
         } else {
             Ok(())
         }
@@ -132,12 +145,12 @@ impl MemoryDisk {
         ensures fails { is_err result ≡ (is_listed self.old.counts || over_limit) }
         ensures same { self.new.places ≡ self.old.places }
         ensures counts { self.new.counts ≡ after_call (is_err result) self.old.counts }
-        ensures cause { HasCause self.old.counts.faults self.new.counts.faults file call result }
+        ensures cause { HasCause (failures_of self.old) (failures_of self.new) file call result }
     {
         self.count_call(file, call)?;
         if over_limit {
             self.calls.count_fault();
-            return Err(DiskFault { file, call });
+            return Err(self.keep_fault(file, call));
         }
         Ok(())
     }
@@ -148,23 +161,24 @@ impl MemoryDisk {
         ensures same { self.new.places ≡ self.old.places }
         ensures counts { self.new.counts ≡ record self.old.counts { faults = one_more self.old.counts.faults; refused = one_more self.old.counts.refused } }
         ensures later { self.old.counts.faults ≤ self.new.counts.faults }
+        ensures kept { self.new.last_fault ≡ Some result }
     {
         self.calls.count_refusal();
-        DiskFault { file, call }
+        self.keep_fault(file, call)
     }
 }
 
 impl Disk for MemoryDisk {
     ghost shown = { λ disk. Some (files_of disk) };
 
-    ghost faults = { λ disk. disk.counts.faults };
+    ghost failures = { failures_of };
 
     fn exists(&mut self, name: FileName) -> Result<bool, DiskFault>
         ensures answer { IfOk result (λ there. IsTrue there ↔ IsSome (files_of self.old name)) }
         ensures same { files_of self.new ≡ files_of self.old }
         ensures fails { is_err result ≡ is_listed self.old.counts }
         ensures counts { self.new.counts ≡ after_call (is_err result) self.old.counts }
-        ensures cause { HasCause self.old.counts.faults self.new.counts.faults name DiskCall.Exists result }
+        ensures cause { HasCause (failures_of self.old) (failures_of self.new) name DiskCall.Exists result }
     {
         self.count_call(name, DiskCall::Exists)?;
         Ok(self.places[place(name)].is_some())
@@ -175,7 +189,7 @@ impl Disk for MemoryDisk {
         ensures same { files_of self.new ≡ files_of self.old }
         ensures fails { is_err result ≡ is_listed self.old.counts }
         ensures counts { self.new.counts ≡ after_call (is_err result) self.old.counts }
-        ensures cause { HasCause self.old.counts.faults self.new.counts.faults name DiskCall.Len result }
+        ensures cause { HasCause (failures_of self.old) (failures_of self.new) name DiskCall.Len result }
     {
         self.count_call(name, DiskCall::Len)?;
         Ok(self.bytes_of(name).len() as u64)
@@ -190,7 +204,7 @@ impl Disk for MemoryDisk {
         ensures same { files_of self.new ≡ files_of self.old }
         ensures fails { is_err result ≡ is_listed self.old.counts }
         ensures counts { self.new.counts ≡ after_call (is_err result) self.old.counts }
-        ensures cause { HasCause self.old.counts.faults self.new.counts.faults name DiskCall.Read result }
+        ensures cause { HasCause (failures_of self.old) (failures_of self.new) name DiskCall.Read result }
     {
         self.count_call(name, DiskCall::Read)?;
         Ok(copy_part(self.bytes_of(name), at, into))
@@ -203,7 +217,7 @@ impl Disk for MemoryDisk {
         ensures limit { 2 ^ 62 < at + length bytes.now → IsErr result }
         ensures counts { CountsRefusal (is_listed self.old.counts || is_over_limit (at + length bytes.now)) (is_err result) self.old.counts self.new.counts }
         ensures within { at + length bytes.now ≤ length (content (files_of self.old) name) → is_err result ≡ (is_listed self.old.counts || is_over_limit (at + length bytes.now)) }
-        ensures cause { HasCause self.old.counts.faults self.new.counts.faults name DiskCall.Write result }
+        ensures cause { HasCause (failures_of self.old) (failures_of self.new) name DiskCall.Write result }
     {
         self.count_growth(name, DiskCall::Write, exceeds_limit(at, bytes.len() as u64))?;
         match write_slot(
@@ -224,7 +238,7 @@ impl Disk for MemoryDisk {
         ensures limit { 2 ^ 62 < n → IsErr result }
         ensures counts { CountsRefusal (is_listed self.old.counts || is_over_limit n) (is_err result) self.old.counts self.new.counts }
         ensures within { n ≤ length (content (files_of self.old) name) → is_err result ≡ (is_listed self.old.counts || is_over_limit n) }
-        ensures cause { HasCause self.old.counts.faults self.new.counts.faults name DiskCall.SetLen result }
+        ensures cause { HasCause (failures_of self.old) (failures_of self.new) name DiskCall.SetLen result }
     {
         self.count_growth(name, DiskCall::SetLen, exceeds_limit(n, 0))?;
         match resize_slot(&mut self.places[place(name)], self.alloc, n as usize) {
@@ -237,7 +251,7 @@ impl Disk for MemoryDisk {
         ensures same { files_of self.new ≡ files_of self.old }
         ensures fails { is_err result ≡ is_listed self.old.counts }
         ensures counts { self.new.counts ≡ after_call (is_err result) self.old.counts }
-        ensures cause { HasCause self.old.counts.faults self.new.counts.faults name DiskCall.Sync result }
+        ensures cause { HasCause (failures_of self.old) (failures_of self.new) name DiskCall.Sync result }
     {
         self.count_call(name, DiskCall::Sync)
     }
@@ -247,7 +261,7 @@ impl Disk for MemoryDisk {
         ensures failed { OnErr result (files_of self.new ≡ files_of self.old) }
         ensures fails { is_err result ≡ is_listed self.old.counts }
         ensures counts { self.new.counts ≡ after_call (is_err result) self.old.counts }
-        ensures cause { HasCause self.old.counts.faults self.new.counts.faults name DiskCall.Create result }
+        ensures cause { HasCause (failures_of self.old) (failures_of self.new) name DiskCall.Create result }
     {
         self.count_call(name, DiskCall::Create)?;
         create_slot(&mut self.places[place(name)], self.alloc);
@@ -259,7 +273,7 @@ impl Disk for MemoryDisk {
         ensures failed { OnErr result (files_of self.new ≡ files_of self.old) }
         ensures fails { is_err result ≡ is_listed self.old.counts }
         ensures counts { self.new.counts ≡ after_call (is_err result) self.old.counts }
-        ensures cause { HasCause self.old.counts.faults self.new.counts.faults name DiskCall.Remove result }
+        ensures cause { HasCause (failures_of self.old) (failures_of self.new) name DiskCall.Remove result }
     {
         self.count_call(name, DiskCall::Remove)?;
         let _ = replace_file(&mut self.places, name, None);
@@ -271,7 +285,7 @@ impl Disk for MemoryDisk {
         ensures failed { OnErr result (files_of self.new ≡ files_of self.old) }
         ensures fails { is_err result ≡ is_listed self.old.counts }
         ensures counts { self.new.counts ≡ after_call (is_err result) self.old.counts }
-        ensures cause { HasCause self.old.counts.faults self.new.counts.faults from DiskCall.Rename result }
+        ensures cause { HasCause (failures_of self.old) (failures_of self.new) from DiskCall.Rename result }
     {
         self.count_call(from, DiskCall::Rename)?;
         let Some(file) = replace_file(&mut self.places, from, None) else {
@@ -285,7 +299,7 @@ impl Disk for MemoryDisk {
         ensures same { files_of self.new ≡ files_of self.old }
         ensures fails { is_err result ≡ is_listed self.old.counts }
         ensures counts { self.new.counts ≡ after_call (is_err result) self.old.counts }
-        ensures cause { HasCause self.old.counts.faults self.new.counts.faults Target DiskCall.SyncFolder result }
+        ensures cause { HasCause (failures_of self.old) (failures_of self.new) Target DiskCall.SyncFolder result }
     {
         self.count_call(FileName::Target, DiskCall::SyncFolder)
     }

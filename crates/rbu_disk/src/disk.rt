@@ -15,27 +15,28 @@ pub struct DiskFault {
     pub call: DiskCall,
 }
 
-/// The files of an update. Where the disk tells its files, `shown` is the map that its calls read and change.
+/// The files of an update. Where the disk tells its files, `shown` is the map that its calls read and change. `failures`
+/// has the count of the calls that failed, and the fault of the last.
 ///
 /// No call fails because of the state of a name. Lengths and places are bytes.
 pub trait Disk {
-    ghost use Rattle.rbu_disk.specs.Call.{HasCause};
+    ghost use Rattle.rbu_disk.specs.Call.{Failures, HasCause};
 
     ghost shown: { Self → Option Files };
 
-    ghost faults: { Self → ℕ };
+    ghost failures: { Self → Failures };
 
     /// Whether there is a file under the name.
     fn exists(&mut self, name: FileName) -> Result<bool, DiskFault>
         ensures answer { IfOk result (λ there. Leads (λ files _. IsTrue there ↔ IsSome (files name)) (shown self.old) (shown self.new)) }
         ensures same { shown self.new ≡ shown self.old }
-        ensures cause { HasCause (faults self.old) (faults self.new) name DiskCall.Exists result };
+        ensures cause { HasCause (failures self.old) (failures self.new) name DiskCall.Exists result };
 
     /// The length of the file; 0 for a missing one.
     fn len(&mut self, name: FileName) -> Result<u64, DiskFault>
         ensures answer { IfOk result (λ n. Leads (λ files _. n ≡ length (content files name)) (shown self.old) (shown self.new)) }
         ensures same { shown self.new ≡ shown self.old }
-        ensures cause { HasCause (faults self.old) (faults self.new) name DiskCall.Len result };
+        ensures cause { HasCause (failures self.old) (failures self.new) name DiskCall.Len result };
 
     /// Reads from a place, fewer bytes than asked only at the file's end, and answers how many. After a fault the
     /// buffer holds any bytes.
@@ -45,7 +46,7 @@ pub trait Disk {
             (n ≡ length (part_of (content files name) at (length into.old)))
             × (into.new ≡ part_of (content files name) at (length into.old) ++ drop n into.old)) (shown self.old) (shown self.new)) }
         ensures same { shown self.new ≡ shown self.old }
-        ensures cause { HasCause (faults self.old) (faults self.new) name DiskCall.Read result };
+        ensures cause { HasCause (failures self.old) (failures self.new) name DiskCall.Read result };
 
     /// Writes at a place; a missing file is made first, and zeros lie between an earlier end and the place. Fails and
     /// changes nothing where the new end would be over 2^62.
@@ -53,7 +54,7 @@ pub trait Disk {
         ensures done { OnOk result (shown self.new ≡ option_map (λ files. after_write files name at bytes.now) (shown self.old)) }
         ensures failed { OnErr result (Leads (AfterTornWrite name at (length bytes.now)) (shown self.old) (shown self.new)) }
         ensures limit { 2 ^ 62 < at + length bytes.now → IsErr result × (shown self.new ≡ shown self.old) }
-        ensures cause { HasCause (faults self.old) (faults self.new) name DiskCall.Write result };
+        ensures cause { HasCause (failures self.old) (failures self.new) name DiskCall.Write result };
 
     /// Sets the length; a missing file is made first, and new bytes are zeros. Fails and changes nothing where the
     /// length is over 2^62.
@@ -61,33 +62,33 @@ pub trait Disk {
         ensures done { OnOk result (shown self.new ≡ option_map (λ files. after_set_len files name n) (shown self.old)) }
         ensures failed { OnErr result (Leads (AfterFailedSetLen name n) (shown self.old) (shown self.new)) }
         ensures limit { 2 ^ 62 < n → IsErr result × (shown self.new ≡ shown self.old) }
-        ensures cause { HasCause (faults self.old) (faults self.new) name DiskCall.SetLen result };
+        ensures cause { HasCause (failures self.old) (failures self.new) name DiskCall.SetLen result };
 
     /// Makes the file's bytes and length stable.
     fn sync(&mut self, name: FileName) -> Result<(), DiskFault>
         ensures same { shown self.new ≡ shown self.old }
-        ensures cause { HasCause (faults self.old) (faults self.new) name DiskCall.Sync result };
+        ensures cause { HasCause (failures self.old) (failures self.new) name DiskCall.Sync result };
 
     /// Makes an empty file where there is none.
     fn create(&mut self, name: FileName) -> Result<(), DiskFault>
         ensures done { OnOk result (shown self.new ≡ option_map (λ files. after_create files name) (shown self.old)) }
         ensures failed { OnErr result (shown self.new ≡ shown self.old) }
-        ensures cause { HasCause (faults self.old) (faults self.new) name DiskCall.Create result };
+        ensures cause { HasCause (failures self.old) (failures self.new) name DiskCall.Create result };
 
     /// Removes the file where there is one.
     fn remove(&mut self, name: FileName) -> Result<(), DiskFault>
         ensures done { OnOk result (shown self.new ≡ option_map (λ files. after_remove files name) (shown self.old)) }
         ensures failed { OnErr result (shown self.new ≡ shown self.old) }
-        ensures cause { HasCause (faults self.old) (faults self.new) name DiskCall.Remove result };
+        ensures cause { HasCause (failures self.old) (failures self.new) name DiskCall.Remove result };
 
     /// Gives the file another name, in place of what that had. A missing file changes nothing.
     fn rename(&mut self, from: FileName, to: FileName) -> Result<(), DiskFault>
         ensures done { OnOk result (shown self.new ≡ option_map (λ files. after_rename files from to) (shown self.old)) }
         ensures failed { OnErr result (shown self.new ≡ shown self.old) }
-        ensures cause { HasCause (faults self.old) (faults self.new) from DiskCall.Rename result };
+        ensures cause { HasCause (failures self.old) (failures self.new) from DiskCall.Rename result };
 
     /// Makes the names of the files stable.
     fn sync_folder(&mut self) -> Result<(), DiskFault>
         ensures same { shown self.new ≡ shown self.old }
-        ensures cause { HasCause (faults self.old) (faults self.new) Target DiskCall.SyncFolder result };
+        ensures cause { HasCause (failures self.old) (failures self.new) Target DiskCall.SyncFolder result };
 }

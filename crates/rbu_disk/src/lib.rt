@@ -2,7 +2,8 @@
 //!
 //! The layer above may use `Disk`, `Sink`, the names of files and calls, and the faults. What the calls do to the
 //! files is said by `Files` and `Faults` of `file_spec`, and what every call owes by `Call` in `specs/`. Each device
-//! has a count of faults that never falls: it rises in a call that fails, and stands in one that ends well.
+//! has a count of faults that never falls: it rises in a call that fails, and stands in one that ends well. A disk also
+//! has the fault of its last call that failed.
 #![tactic(auto)]
 
 mod disk;

@@ -1,5 +1,5 @@
 -- What an answer says of the files, and what its status says.
-use Rattle.std.proofs.Common.{◌≡◌, ◌⊎◌, ℕ, ℤ, List, Option, Some, None, unwrap_or, refl, sym, ap, ◌∙◌, subst, inl, inr, arith, []}
+use Rattle.std.proofs.Common.{◌≡◌, ◌⊎◌, ◌++◌, ℕ, ℤ, List, Option, Some, None, option_map, unwrap_or, refl, sym, ap, ◌∙◌, subst, inl, inr, arith, []}
 use Rattle.file_spec.specs.declared.FileName.TheVariants.{Target}
 use Rattle.file_spec.specs.Files.{Files, content}
 use Rattle.file_spec.specs.Faults.{Leads}
@@ -13,9 +13,10 @@ use Rattle.update_spec.specs.View.{IsView}
 use Rattle.update_spec.specs.Outcome.{new_pages}
 use Rattle.update_spec.specs.Words.{IsUsage, AsksUpdate}
 use Rattle.update_spec.specs.Answer.{AfterOutcome, SeesOldOrNew, IsUpdateAnswer, IsAnswer}
-use Rattle.update_spec.specs.Text.{answer_status, outcome_status}
+use Rattle.rbu_disk.specs.Call.{Failures}
+use Rattle.update_spec.specs.Text.{answer_line, answer_status, outcome_status}
 use Rattle.rbu_run.specs.Told.{IsTold}
-use Rattle.rbu_run.specs.Status.{KeepsOnFault, IsHalted, IsOutcome}
+use Rattle.rbu_run.specs.Status.{KeepsOnFault, IsHalted, IsOutcome, CountsFault, TellsFault}
 
 -- a step that keeps the files
 kept_back : (P : Files → Files → Type 0) (a b : Option Files) → Leads P a b → ((f g : Files) → P f g → g ≡ f) → b ≡ a
@@ -100,3 +101,21 @@ usage_only words a b answer told status x y (inl asks) tellable ends usage = abs
 usage_only words a b answer told status x y (inr (inl more)) tellable ends usage = absurd (usage more.0.1.0 more.0.1.1)
 usage_only words a b answer told status x y (inr (inr plain)) (inl same) (inl ends) usage = inl (ends.0 ∙ ap answer_status (same ∙ plain.1))
 usage_only words a b answer told status x y (inr (inr plain)) (inr short) ends usage = absurd (let e : Usage ≡ Ended (KeyPresent short.1.0) = sym plain.1 ∙ short.1.1 in cc)
+
+named_fault : (answer : Answer) (before now : Failures) (x y : Option (List ℕ)) → CountsFault before now answer → answer_status answer ≡ 6 →
+    y ≡ option_map (λ text. text ++ answer_line answer) x → TellsFault before now x y
+named_fault Usage before now x y counts six line = absurd (omega (arith, six))
+named_fault (Ended Done) before now x y counts six line = absurd (omega (arith, six))
+named_fault (Ended (KeyPresent id)) before now x y counts six line = absurd (omega (arith, six))
+named_fault (Ended (Refused refusal)) before now x y counts six line = absurd (omega (arith, six))
+named_fault (Fault file call) before now x y counts six line = (file, call, counts, line)
+named_fault NoMemory before now x y counts six line = absurd (omega (arith, six))
+
+-- status 6 names the last call on the disk that failed
+pub fault_told : (answer told : Answer) (status : ℕ) (before now : Failures) (x y : Option (List ℕ)) → CountsFault before now answer →
+    IsTellable answer told → IsTold told status x y → status ≡ 6 → TellsFault before now x y
+fault_told answer told status before now x y counts tellable (inr failed) six = absurd (omega (arith, failed.0, six))
+fault_told answer told status before now x y counts (inl same) (inl ends) six =
+    named_fault answer before now x y counts (sym (ap answer_status same) ∙ (sym ends.0 ∙ six)) (subst (λ (a : Answer). y ≡ option_map (λ text. text ++ answer_line a) x) same ends.1)
+fault_told answer told status before now x y counts (inr short) (inl ends) six =
+    let seven : status ≡ 7 = ends.0 ∙ ap answer_status short.0 in absurd (omega (arith, seven, six))

@@ -5,6 +5,7 @@ use Rattle.file_spec.specs.declared.FileName.TheVariants.{Target, Rbu}
 use Rattle.file_spec.specs.Files.{Files, content}
 use Rattle.file_spec.specs.Faults.{Leads}
 use Rattle.file_spec.specs.FaultsLaws.{Leads-weaken}
+use Rattle.rbu_disk.specs.Call.{Failures}
 use Rattle.refusal.specs.declared.Part.TheVariants as part
 use Rattle.refusal.specs.declared.Refusal.TheVariants.{NotYet}
 use Rattle.update_spec.specs.declared.TargetRow.{TargetRow}
@@ -103,5 +104,5 @@ after-halt K a b c same known (Fault fault) step =
 after-halt K a b c same known Memory step = step ∙ same
 
 -- a cause counts from a count that stood until then
-pub later-cause : (a b c : ℕ) → b ≡ a → (halt : Halt) → HasCause b c halt → HasCause a c halt
-later-cause a b c same halt cause = subst (λ (n : ℕ). HasCause n c halt) same cause
+pub later-cause : (a b c : Failures) → b ≡ a → (halt : Halt) → HasCause b c halt → HasCause a c halt
+later-cause a b c same halt cause = subst (λ (before : Failures). HasCause before c halt) same cause

@@ -21,12 +21,6 @@ pub record IsAlone (files : Files) : Type 0 where
   pub no_wal : files Wal ≡ None
   pub two_pages_long : length (content files Target) ≡ 8192
 
--- the write-ahead log has both pages, and the target has two pages, whatever they hold
-pub record IsLogged (salt : ℕ × ℕ) (pages : List ℕ) (before after : Files) : Type 0 where
-  pub wal : after Wal ≡ Some (log_of salt pages)
-  pub no_oal : after Oal ≡ None
-  pub others : (name : FileName) → is_name Target name ≡ false → is_name Wal name ≡ false → after name ≡ before name
-
 -- the target has the pages, and every other file is as before
 abbrev pub HasPages : List ℕ → Files → Files → Type 0
 HasPages pages before after = after ≡ with_file before Target (Some pages)

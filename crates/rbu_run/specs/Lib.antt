@@ -3,6 +3,7 @@ pub mod Inspection
 pub mod Handover
 pub mod Status
 pub mod Told
+pub use Rattle.rbu_disk.specs.Call
 pub use Rattle.rbu_disk.specs.Sink
 pub use Rattle.file_spec.specs.Files
 pub use Rattle.file_spec.specs.Faults

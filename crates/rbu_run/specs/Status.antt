@@ -1,14 +1,16 @@
 -- What each status of a command says.
-use Rattle.std.specs.Prelude.{◌≡◌, ◌≤◌, ◌⊎◌, ℕ, ℤ, List, Option}
+use Rattle.std.specs.Prelude.{◌≡◌, ◌≤◌, ◌⊎◌, ◌++◌, ℕ, ℤ, List, Option, option_map}
 use Rattle.file_spec.specs.Files.{Files}
-use Rattle.file_spec.specs.Faults.{Rises}
+use Rattle.file_spec.specs.declared.FileName.{FileName}
+use Rattle.file_spec.specs.declared.DiskCall.{DiskCall}
+use Rattle.rbu_disk.specs.Call.{Failures, Fails}
 use Rattle.refusal.specs.declared.Refusal.{Refusal}
 use Rattle.update_spec.specs.declared.Outcome.{Outcome}
 use Rattle.update_spec.specs.declared.Outcome.TheVariants.{KeyPresent, Refused}
 use Rattle.update_spec.specs.declared.Answer.{Answer}
 use Rattle.update_spec.specs.declared.Answer.TheVariants.{Usage, Ended, Fault, NoMemory}
 use Rattle.update_spec.specs.Answer.{HasOutcome, IsAnswer}
-use Rattle.update_spec.specs.Text.{outcome_status}
+use Rattle.update_spec.specs.Text.{outcome_status, answer_line}
 use Rattle.rbu_run.specs.Told.{IsTold}
 
 -- the words and files have an answer, and it is told by the status and the output
@@ -39,7 +41,13 @@ IsOutcome outcome (Ended other) = outcome ≡ other
 IsOutcome outcome (Fault file call) = Unit {0}
 IsOutcome outcome NoMemory = Unit {0}
 
--- a fault is answered where the disk's count of faults rose, and any other answer where it stands
-abbrev pub CountsFault : ℕ → ℕ → Answer → Type 0
-CountsFault before now (Fault file call) = Rises before now
+-- a fault is answered where a call on the disk failed, and names the last that did; any other answer where none failed
+abbrev pub CountsFault : Failures → Failures → Answer → Type 0
+CountsFault before now (Fault file call) = Fails before now (record { file = file; call = call })
 CountsFault before now other = now ≡ before
+
+-- a call on the disk failed, and the output has the line that names the last that did
+abbrev pub TellsFault : Failures → Failures → Option (List ℕ) → Option (List ℕ) → Type 0
+TellsFault before now text_before text_after =
+    (file : FileName) × (call : DiskCall) × Fails before now (record { file = file; call = call })
+    × (text_after ≡ option_map (λ text. text ++ answer_line (Fault file call)) text_before)

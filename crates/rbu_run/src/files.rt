@@ -1,7 +1,8 @@
 // What is read of the files before anything is changed.
 ghost use Rattle.std.specs.Prelude.{◌≡◌, ◌≢◌, ◌≤◌, ◌↔◌, length, IsTrue, IfOk, IfErr, OnOk, OnErr, MatchOption};
 ghost use Rattle.file_spec.specs.Files.{content};
-ghost use Rattle.file_spec.specs.Faults.{Leads, Rises};
+ghost use Rattle.file_spec.specs.Faults.{Leads};
+ghost use Rattle.rbu_disk.specs.Call.{Fails};
 ghost use Rattle.update_spec.specs.Answer.{HasOtherFile};
 ghost use Rattle.rbu_run.specs.Halt.{HasCause};
 
@@ -16,9 +17,9 @@ pub const SMALL: usize = 8192;
 pub fn has_other_file<D: Disk>(disk: &mut D) -> Result<bool, DiskFault>
     ensures answer { IfOk result (λ there. Leads (λ f _. IsTrue there ↔ HasOtherFile f) (D.shown disk.old) (D.shown disk.new)) }
     ensures same { D.shown disk.new ≡ D.shown disk.old }
-    ensures count { D.faults disk.old ≤ D.faults disk.new }
-    ensures still { OnOk result (D.faults disk.new ≡ D.faults disk.old) }
-    ensures cause { OnErr result (Rises (D.faults disk.old) (D.faults disk.new)) }
+    ensures count { (D.failures disk.old).count ≤ (D.failures disk.new).count }
+    ensures still { OnOk result (D.failures disk.new ≡ D.failures disk.old) }
+    ensures cause { IfErr result (Fails (D.failures disk.old) (D.failures disk.new)) }
 {
     Ok(
         disk.exists(FileName::State)?
@@ -40,9 +41,9 @@ fn zeros(alloc: Global, n: usize) -> Result<Vec<u8>, AllocError>
 fn read_whole<D: Disk>(disk: &mut D, name: FileName, into: &mut [u8]) -> Result<(), DiskFault>
     ensures answer { OnOk result (Leads (λ f _. length (content f name) ≡ length into.old → into.new ≡ content f name) (D.shown disk.old) (D.shown disk.new)) }
     ensures same { D.shown disk.new ≡ D.shown disk.old }
-    ensures count { D.faults disk.old ≤ D.faults disk.new }
-    ensures still { OnOk result (D.faults disk.new ≡ D.faults disk.old) }
-    ensures cause { OnErr result (Rises (D.faults disk.old) (D.faults disk.new)) }
+    ensures count { (D.failures disk.old).count ≤ (D.failures disk.new).count }
+    ensures still { OnOk result (D.failures disk.new ≡ D.failures disk.old) }
+    ensures cause { IfErr result (Fails (D.failures disk.old) (D.failures disk.new)) }
 {
     let _read = disk.read_at(name, 0, into)?;
     Ok(())
@@ -58,9 +59,9 @@ pub fn small_bytes<D: Disk>(
     ensures answer { IfOk result (λ bytes. Leads (λ f _. MatchOption bytes (length (content f name) ≢ 8192) (λ v. v.items ≡ content f name))
         (D.shown disk.old) (D.shown disk.new)) }
     ensures same { D.shown disk.new ≡ D.shown disk.old }
-    ensures count { D.faults disk.old ≤ D.faults disk.new }
-    ensures still { OnOk result (D.faults disk.new ≡ D.faults disk.old) }
-    ensures cause { IfErr result (HasCause (D.faults disk.old) (D.faults disk.new)) }
+    ensures count { (D.failures disk.old).count ≤ (D.failures disk.new).count }
+    ensures still { OnOk result (D.failures disk.new ≡ D.failures disk.old) }
+    ensures cause { IfErr result (HasCause (D.failures disk.old) (D.failures disk.new)) }
 {
     if disk.len(name)? != SMALL as u64 {
         return Ok(None);

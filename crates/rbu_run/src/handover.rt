@@ -1,11 +1,12 @@
 // How the new pages reach the target: a whole log, its rename, and the copying of its pages.
-ghost use Rattle.std.specs.Prelude.{◌≡◌, ◌≤◌, ◌<◌, ◌^◌, ◌⊎◌, [], length, Some, None, OnOk, OnErr, option_map};
+ghost use Rattle.std.specs.Prelude.{◌≡◌, ◌≤◌, ◌<◌, ◌^◌, ◌⊎◌, [], length, Some, None, OnOk, OnErr, IfErr, option_map};
 ghost use Rattle.std.specs.List.{flat_map};
 ghost use Rattle.file_spec.specs.declared.FileName.TheVariants.{Target, Oal, Wal};
 ghost use Rattle.file_spec.specs.Files.{content, with_file, after_remove, after_rename, OnlyChanges};
-ghost use Rattle.file_spec.specs.Faults.{Leads, Rises};
+ghost use Rattle.file_spec.specs.Faults.{Leads};
+ghost use Rattle.rbu_disk.specs.Call.{Fails};
 ghost use Rattle.format_spec.specs.Numbers.{pair_of};
-ghost use Rattle.rbu_run.specs.Handover.{log_of, IsAlone, IsLogged, HasPages, HandsOver, SeesPages, KeepsOthers, LeavesLog};
+ghost use Rattle.rbu_run.specs.Handover.{log_of, IsAlone, HasPages, HandsOver, SeesPages, KeepsOthers, LeavesLog};
 
 use rbu_disk::{Disk, DiskFault, FileName};
 use wal_codec::{frame_bytes, header_bytes};
@@ -18,9 +19,9 @@ fn write_parts<D: Disk>(disk: &mut D, parts: &[&[u8]]) -> Result<(), DiskFault>
     ensures done { OnOk result (Leads (λ f g. f Oal ≡ Some [] → g ≡ with_file f Oal (Some (flat_map (λ part. part.now) parts.now)))
         (D.shown disk.old) (D.shown disk.new)) }
     ensures only { Leads (OnlyChanges Oal) (D.shown disk.old) (D.shown disk.new) }
-    ensures count { D.faults disk.old ≤ D.faults disk.new }
-    ensures still { OnOk result (D.faults disk.new ≡ D.faults disk.old) }
-    ensures cause { OnErr result (Rises (D.faults disk.old) (D.faults disk.new)) }
+    ensures count { (D.failures disk.old).count ≤ (D.failures disk.new).count }
+    ensures still { OnOk result (D.failures disk.new ≡ D.failures disk.old) }
+    ensures cause { IfErr result (Fails (D.failures disk.old) (D.failures disk.new)) }
 {
     let mut at: u64 = 0;
     for part in parts {
@@ -36,9 +37,9 @@ fn write_log<D: Disk>(disk: &mut D, salt: [u32; 2], pages: &[u8]) -> Result<(), 
     ensures done { OnOk result (Leads (λ f g. f Oal ≡ None → g ≡ with_file f Oal (Some (log_of (pair_of salt) pages.now)))
         (D.shown disk.old) (D.shown disk.new)) }
     ensures only { Leads (OnlyChanges Oal) (D.shown disk.old) (D.shown disk.new) }
-    ensures count { D.faults disk.old ≤ D.faults disk.new }
-    ensures still { OnOk result (D.faults disk.new ≡ D.faults disk.old) }
-    ensures cause { OnErr result (Rises (D.faults disk.old) (D.faults disk.new)) }
+    ensures count { (D.failures disk.old).count ≤ (D.failures disk.new).count }
+    ensures still { OnOk result (D.failures disk.new ≡ D.failures disk.old) }
+    ensures cause { IfErr result (Fails (D.failures disk.old) (D.failures disk.new)) }
 {
     let (first_page, second_page) = pages.split_at(PAGE_SIZE);
     let mut header = [0; 32];
@@ -57,9 +58,9 @@ fn copy_back<D: Disk>(disk: &mut D, pages: &[u8]) -> Result<(), DiskFault>
     requires { length pages.now ≡ 8192 }
     ensures done { OnOk result (Leads (λ f g. length (content f Target) ≡ 8192 → HasPages pages.now f g) (D.shown disk.old) (D.shown disk.new)) }
     ensures only { Leads (OnlyChanges Target) (D.shown disk.old) (D.shown disk.new) }
-    ensures count { D.faults disk.old ≤ D.faults disk.new }
-    ensures still { OnOk result (D.faults disk.new ≡ D.faults disk.old) }
-    ensures cause { OnErr result (Rises (D.faults disk.old) (D.faults disk.new)) }
+    ensures count { (D.failures disk.old).count ≤ (D.failures disk.new).count }
+    ensures still { OnOk result (D.failures disk.new ≡ D.failures disk.old) }
+    ensures cause { IfErr result (Fails (D.failures disk.old) (D.failures disk.new)) }
 {
     let (first_page, second_page) = pages.split_at(PAGE_SIZE);
     disk.write_at(FileName::Target, 0, first_page)?;
@@ -71,9 +72,9 @@ fn copy_back<D: Disk>(disk: &mut D, pages: &[u8]) -> Result<(), DiskFault>
 fn move_log<D: Disk>(disk: &mut D) -> Result<(), DiskFault>
     ensures done { OnOk result (D.shown disk.new ≡ option_map (λ f. after_rename f Oal Wal) (D.shown disk.old)) }
     ensures failed { OnErr result ((D.shown disk.new ≡ D.shown disk.old) ⊎ (D.shown disk.new ≡ option_map (λ f. after_rename f Oal Wal) (D.shown disk.old))) }
-    ensures count { D.faults disk.old ≤ D.faults disk.new }
-    ensures still { OnOk result (D.faults disk.new ≡ D.faults disk.old) }
-    ensures cause { OnErr result (Rises (D.faults disk.old) (D.faults disk.new)) }
+    ensures count { (D.failures disk.old).count ≤ (D.failures disk.new).count }
+    ensures still { OnOk result (D.failures disk.new ≡ D.failures disk.old) }
+    ensures cause { IfErr result (Fails (D.failures disk.old) (D.failures disk.new)) }
 {
     disk.rename(FileName::Oal, FileName::Wal)?;
     disk.sync_folder()
@@ -83,9 +84,9 @@ fn move_log<D: Disk>(disk: &mut D) -> Result<(), DiskFault>
 fn drop_log<D: Disk>(disk: &mut D) -> Result<(), DiskFault>
     ensures done { OnOk result (D.shown disk.new ≡ option_map (λ f. after_remove f Wal) (D.shown disk.old)) }
     ensures failed { OnErr result ((D.shown disk.new ≡ D.shown disk.old) ⊎ (D.shown disk.new ≡ option_map (λ f. after_remove f Wal) (D.shown disk.old))) }
-    ensures count { D.faults disk.old ≤ D.faults disk.new }
-    ensures still { OnOk result (D.faults disk.new ≡ D.faults disk.old) }
-    ensures cause { OnErr result (Rises (D.faults disk.old) (D.faults disk.new)) }
+    ensures count { (D.failures disk.old).count ≤ (D.failures disk.new).count }
+    ensures still { OnOk result (D.failures disk.new ≡ D.failures disk.old) }
+    ensures cause { IfErr result (Fails (D.failures disk.old) (D.failures disk.new)) }
 {
     disk.remove(FileName::Wal)?;
     disk.sync_folder()
@@ -98,9 +99,9 @@ pub fn hand_over<D: Disk>(disk: &mut D, salt: [u32; 2], pages: &[u8]) -> Result<
     ensures failed { OnErr result (Leads (SeesPages pages.now) (D.shown disk.old) (D.shown disk.new)) }
     ensures others { Leads KeepsOthers (D.shown disk.old) (D.shown disk.new) }
     ensures log { Leads (λ f g. IsAlone f → LeavesLog (pair_of salt) f g) (D.shown disk.old) (D.shown disk.new) }
-    ensures count { D.faults disk.old ≤ D.faults disk.new }
-    ensures still { OnOk result (D.faults disk.new ≡ D.faults disk.old) }
-    ensures cause { OnErr result (Rises (D.faults disk.old) (D.faults disk.new)) }
+    ensures count { (D.failures disk.old).count ≤ (D.failures disk.new).count }
+    ensures still { OnOk result (D.failures disk.new ≡ D.failures disk.old) }
+    ensures cause { IfErr result (Fails (D.failures disk.old) (D.failures disk.new)) }
 {
     write_log(disk, salt, pages)?;
     move_log(disk)?;

@@ -53,9 +53,9 @@ fn target_rows<D: Disk>(
         (λ pair. (pair.0.items ≡ content f Target) × IsOnlyTarget (content f Target) pair.1.items)) (D.shown disk.old) (D.shown disk.new)) }
     ensures rows { IfOk result (λ found. IfSome found (λ pair. IsSmallTarget pair.0.items pair.1.items)) }
     ensures same { D.shown disk.new ≡ D.shown disk.old }
-    ensures count { D.faults disk.old ≤ D.faults disk.new }
-    ensures still { OnOk result (D.faults disk.new ≡ D.faults disk.old) }
-    ensures cause { IfErr result (HasCause (D.faults disk.old) (D.faults disk.new)) }
+    ensures count { (D.failures disk.old).count ≤ (D.failures disk.new).count }
+    ensures still { OnOk result (D.failures disk.new ≡ D.failures disk.old) }
+    ensures cause { IfErr result (HasCause (D.failures disk.old) (D.failures disk.new)) }
 {
     let Some(bytes) = small_bytes(alloc, disk, FileName::Target)? else {
         return Ok(None);
@@ -72,9 +72,9 @@ fn prepared_rows<D: Disk>(alloc: Global, disk: &mut D) -> Result<Option<Vec<Prep
         (λ v. IsOnlyRbu (content f Rbu) v.items)) (D.shown disk.old) (D.shown disk.new)) }
     ensures rows { IfOk result (λ found. IfSome found (λ v. (bytes : List ℕ) × IsSmallRbu bytes v.items)) }
     ensures same { D.shown disk.new ≡ D.shown disk.old }
-    ensures count { D.faults disk.old ≤ D.faults disk.new }
-    ensures still { OnOk result (D.faults disk.new ≡ D.faults disk.old) }
-    ensures cause { IfErr result (HasCause (D.faults disk.old) (D.faults disk.new)) }
+    ensures count { (D.failures disk.old).count ≤ (D.failures disk.new).count }
+    ensures still { OnOk result (D.failures disk.new ≡ D.failures disk.old) }
+    ensures cause { IfErr result (HasCause (D.failures disk.old) (D.failures disk.new)) }
 {
     let Some(bytes) = small_bytes(alloc, disk, FileName::Rbu)? else {
         return Ok(None);
@@ -90,9 +90,9 @@ pub fn inspect<D: Disk>(alloc: Global, disk: &mut D) -> Result<Inspected, Halt>
     ensures files { IfOk result (λ inspected. Leads (λ f _. IsInspected inspected f) (D.shown disk.old) (D.shown disk.new)) }
     ensures rows { IfOk result HasSmallRows }
     ensures same { D.shown disk.new ≡ D.shown disk.old }
-    ensures count { D.faults disk.old ≤ D.faults disk.new }
-    ensures still { OnOk result (D.faults disk.new ≡ D.faults disk.old) }
-    ensures cause { IfErr result (HasCause (D.faults disk.old) (D.faults disk.new)) }
+    ensures count { (D.failures disk.old).count ≤ (D.failures disk.new).count }
+    ensures still { OnOk result (D.failures disk.new ≡ D.failures disk.old) }
+    ensures cause { IfErr result (HasCause (D.failures disk.old) (D.failures disk.new)) }
 {
     if has_other_file(disk)? {
         return Ok(Inspected::Missing { part: Part::Files });

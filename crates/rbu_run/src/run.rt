@@ -8,7 +8,7 @@ ghost use Rattle.update_spec.specs.Answer.{HasOutcome, IsAnswer, IsUpdateAnswer,
 ghost use Rattle.update_spec.specs.Words.{IsUsage, AsksUpdate, AsksMore};
 ghost use Rattle.update_spec.specs.Text.{answer_line};
 ghost use Rattle.rbu_run.specs.Handover.{KeepsOthers, LeavesLog};
-ghost use Rattle.rbu_run.specs.Status.{Tells, KeepsOnFault, KeepsOnRefusal, IsHalted, HasStatusOf, IsOutcome, CountsFault};
+ghost use Rattle.rbu_run.specs.Status.{Tells, KeepsOnFault, KeepsOnRefusal, IsHalted, HasStatusOf, IsOutcome, CountsFault, TellsFault};
 
 use crate::halt::Halt;
 use crate::text::{tellable, write_line};
@@ -32,8 +32,8 @@ fn update_answer<D: Disk>(alloc: Global, salt: [u32; 2], disk: &mut D) -> Answer
     ensures others { Leads KeepsOthers (D.shown disk.old) (D.shown disk.new) }
     ensures only { Leads (λ f _. (outcome : Outcome) → HasOutcome f outcome → IsOutcome outcome result) (D.shown disk.old) (D.shown disk.new) }
     ensures log { Leads (LeavesLog (pair_of salt)) (D.shown disk.old) (D.shown disk.new) }
-    ensures count { D.faults disk.old ≤ D.faults disk.new }
-    ensures cause { CountsFault (D.faults disk.old) (D.faults disk.new) result }
+    ensures count { (D.failures disk.old).count ≤ (D.failures disk.new).count }
+    ensures cause { CountsFault (D.failures disk.old) (D.failures disk.new) result }
 {
     match update(alloc, salt, disk) {
         Ok(outcome) => Answer::Ended { outcome },
@@ -63,8 +63,8 @@ fn answer_of<D: Disk>(alloc: Global, words: &[String], salt: [u32; 2], disk: &mu
     ensures others { Leads KeepsOthers (D.shown disk.old) (D.shown disk.new) }
     ensures log { Leads (LeavesLog (pair_of salt)) (D.shown disk.old) (D.shown disk.new) }
     ensures idle { (¬ AsksUpdate (map string_bytes words.now)) → disk.new ≡ disk.old }
-    ensures count { D.faults disk.old ≤ D.faults disk.new }
-    ensures cause { CountsFault (D.faults disk.old) (D.faults disk.new) result }
+    ensures count { (D.failures disk.old).count ≤ (D.failures disk.new).count }
+    ensures cause { CountsFault (D.failures disk.old) (D.failures disk.new) result }
 {
     let Some(command) = command_of(words) else {
         return Answer::Usage;
@@ -114,12 +114,12 @@ pub fn run_command<D: Disk, O: Sink>(
     // The output has the one line of the answer, or a prefix of it where the output failed.
     ensures told { Tells (map string_bytes words.now) (D.shown disk) (D.shown result.disk) result.status (O.written out.old) (O.written out.new) }
 
-    // A fault has its cause, and none is passed over.
-    ensures disk_fault { result.status ≡ 6 → Rises (D.faults disk) (D.faults result.disk) }
+    // A fault has its cause, and none is passed over. Status 6 names the last call on the disk that failed.
+    ensures disk_fault { result.status ≡ 6 → TellsFault (D.failures disk) (D.failures result.disk) (O.written out.old) (O.written out.new) }
     ensures output_fault { result.status ≡ 8 → Rises (O.faults out.old) (O.faults out.new) }
-    ensures no_disk_fault { result.status ≢ 6 → result.status ≢ 8 → D.faults result.disk ≡ D.faults disk }
+    ensures no_disk_fault { result.status ≢ 6 → result.status ≢ 8 → D.failures result.disk ≡ D.failures disk }
     ensures no_output_fault { result.status ≢ 8 → O.faults out.new ≡ O.faults out.old }
-    ensures counts { (D.faults disk ≤ D.faults result.disk) × (O.faults out.old ≤ O.faults out.new) }
+    ensures counts { ((D.failures disk).count ≤ (D.failures result.disk).count) × (O.faults out.old ≤ O.faults out.new) }
 {
     let answer = answer_of(alloc, words, salt, &mut disk);
     let (answer, line) = tellable(alloc, answer);

@@ -1,7 +1,8 @@
 // The update of a small target, from the files in to the files out.
 ghost use Rattle.std.specs.Prelude.{◌≡◌, ◌≤◌, ℕ, List, length, map, IfOk, IfErr, OnOk, OnErr};
 ghost use Rattle.std.specs.List.{All};
-ghost use Rattle.file_spec.specs.Faults.{Leads, Rises};
+ghost use Rattle.file_spec.specs.Faults.{Leads};
+ghost use Rattle.rbu_disk.specs.Call.{Fails};
 ghost use Rattle.format_spec.specs.Numbers.{pair_of};
 ghost use Rattle.refusal.specs.declared.Refusal.TheVariants.{NotYet};
 ghost use Rattle.update_spec.specs.declared.Outcome.TheVariants.{Refused};
@@ -42,9 +43,9 @@ fn install<D: Disk>(
     ensures failed { OnErr result (Leads (SeesPages (new_pages target.old rows.now)) (D.shown disk.old) (D.shown disk.new)) }
     ensures others { Leads KeepsOthers (D.shown disk.old) (D.shown disk.new) }
     ensures log { Leads (λ f g. IsAlone f → LeavesLog (pair_of salt) f g) (D.shown disk.old) (D.shown disk.new) }
-    ensures count { D.faults disk.old ≤ D.faults disk.new }
-    ensures still { OnOk result (D.faults disk.new ≡ D.faults disk.old) }
-    ensures cause { OnErr result (Rises (D.faults disk.old) (D.faults disk.new)) }
+    ensures count { (D.failures disk.old).count ≤ (D.failures disk.new).count }
+    ensures still { OnOk result (D.failures disk.new ≡ D.failures disk.old) }
+    ensures cause { IfErr result (Fails (D.failures disk.old) (D.failures disk.new)) }
 {
     write_pages(target, rows);
     hand_over(disk, salt, target)
@@ -67,9 +68,9 @@ fn finish<D: Disk>(
     ensures halted { IfErr result (λ halt. AfterHalt (IsSmallWith target.items old.items prepared.items) (D.shown disk.old) (D.shown disk.new) halt) }
     ensures others { Leads KeepsOthers (D.shown disk.old) (D.shown disk.new) }
     ensures log { Leads (λ f g. IsSmallWith target.items old.items prepared.items f → LeavesLog (pair_of salt) f g) (D.shown disk.old) (D.shown disk.new) }
-    ensures count { D.faults disk.old ≤ D.faults disk.new }
-    ensures still { OnOk result (D.faults disk.new ≡ D.faults disk.old) }
-    ensures cause { IfErr result (HasCause (D.faults disk.old) (D.faults disk.new)) }
+    ensures count { (D.failures disk.old).count ≤ (D.failures disk.new).count }
+    ensures still { OnOk result (D.failures disk.new ≡ D.failures disk.old) }
+    ensures cause { IfErr result (HasCause (D.failures disk.old) (D.failures disk.new)) }
 {
     match decide(alloc, old, prepared)? {
         Decision::SharedKey => Ok(not_yet(Part::Rows)),
@@ -93,9 +94,9 @@ pub fn update<D: Disk>(alloc: Global, salt: [u32; 2], disk: &mut D) -> Result<Ou
     ensures halted { IfErr result (λ halt. AfterHalt (λ _. Unit {0}) (D.shown disk.old) (D.shown disk.new) halt) }
     ensures others { Leads KeepsOthers (D.shown disk.old) (D.shown disk.new) }
     ensures log { Leads (LeavesLog (pair_of salt)) (D.shown disk.old) (D.shown disk.new) }
-    ensures count { D.faults disk.old ≤ D.faults disk.new }
-    ensures still { OnOk result (D.faults disk.new ≡ D.faults disk.old) }
-    ensures cause { IfErr result (HasCause (D.faults disk.old) (D.faults disk.new)) }
+    ensures count { (D.failures disk.old).count ≤ (D.failures disk.new).count }
+    ensures still { OnOk result (D.failures disk.new ≡ D.failures disk.old) }
+    ensures cause { IfErr result (HasCause (D.failures disk.old) (D.failures disk.new)) }
 {
     disk.sync_folder()?;
     match inspect(alloc, disk)? {

@@ -12,5 +12,5 @@ invariant-loop-part g l =
       place : l.at ≡ length written;
       wrote : Leads (λ f h. f Oal ≡ Some [] → h ≡ with_file f Oal (Some written)) (g.D.Disk.shown l.fn.disk) (g.D.Disk.shown l.disk);
       only : Leads (OnlyChanges Oal) (g.D.Disk.shown l.fn.disk) (g.D.Disk.shown l.disk);
-      still : g.D.Disk.faults l.disk ≡ g.D.Disk.faults l.fn.disk;
+      still : g.D.Disk.failures l.disk ≡ g.D.Disk.failures l.fn.disk;
     }

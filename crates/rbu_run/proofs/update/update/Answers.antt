@@ -54,8 +54,8 @@ returns-in-Small-clause-halted g c =
 
 pub returns-in-Small-clause-cause : goal.returns-in-Small-clause-cause
 returns-in-Small-clause-cause g c =
-    if-err-map {Q = HasCause (g.D.Disk.faults c.args.disk.now) (g.D.Disk.faults c.finish.new.disk)} c.finish.result c.finish.ensures.cause
-    (later-cause (g.D.Disk.faults c.args.disk.now) (g.D.Disk.faults c.inspect.new.disk) (g.D.Disk.faults c.finish.new.disk) (c.in_ok-part.ensures.still ∙ c.in_ok-sync_folder.ensures.cause.still))
+    if-err-map {Q = HasCause (g.D.Disk.failures c.args.disk.now) (g.D.Disk.failures c.finish.new.disk)} c.finish.result c.finish.ensures.cause
+    (later-cause (g.D.Disk.failures c.args.disk.now) (g.D.Disk.failures c.inspect.new.disk) (g.D.Disk.failures c.finish.new.disk) (c.in_ok-part.ensures.still ∙ c.in_ok-sync_folder.ensures.cause.still))
 
 pub returns-in_err-sync_folder-clause-others : goal.returns-in_err-sync_folder-clause-others
 returns-in_err-sync_folder-clause-others g c = others-same (g.D.Disk.shown c.args.disk.now) (g.D.Disk.shown c.sync_folder.new.self) c.sync_folder.ensures.same

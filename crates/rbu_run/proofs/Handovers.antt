@@ -10,6 +10,7 @@ use Rattle.file_spec.specs.FaultsLaws.{Leads-map, Leads-same, Leads-weaken, Lead
 use Rattle.format_spec.specs.Log.{IsFrame, IsOverlay}
 use Rattle.wal_codec.specs.LogLaws.{log-of_frames, overlay-of_two_pages}
 use Rattle.update_spec.specs.View.{IsView, KeepsView}
+use Rattle.update_spec.specs.ViewLaws.{KeepsView-same}
 use Rattle.rbu_run.specs.Handover.{log_of, page_frames, IsAlone, HasPages, HandsOver, SeesPages, LeavesLog}
 
 module _ (salt : ℕ × ℕ) (pages : List ℕ) (long : length pages ≡ 8192) where
@@ -37,7 +38,7 @@ module _ (salt : ℕ × ℕ) (pages : List ℕ) (long : length pages ≡ 8192) w
       rw wal (4096, page_frames pages, log-of_frames true 4096 0 salt (page_frames pages) (lit< tt) (front, (back, tt)), seen)
 
   pub view-hidden : (f g : Files) → OnlyChanges Oal f g → KeepsView f g
-  view-hidden f g only = subst (KeepsView f) (sym only.1) (λ bytes seen. seen)
+  view-hidden f g only = subst (KeepsView f) (sym only.1) (KeepsView-same f f refl)
 
   moved : (f g h : Files) → LogWritten f g → h ≡ after_rename g Oal Wal → LogMoved f h
   moved f g h wrote rename alone =

@@ -1,5 +1,5 @@
 -- What follows from the definition of cells alone: crates above cite these facts in their proofs.
-use Rattle.std.proofs.Common.{◌≡◌, ℕ, ℤ, pos, ◌+◌, ◌-◌, ◌^◌, ◌<◌, ◌≤◌, cond, ltb, leb, List, [], ◌∷◌, ◌++◌, length, take, drop, refl, sym, ◌∙◌, ap, subst, append_assoc, length-append, arith, rules}
+use Rattle.std.proofs.Common.{◌≡◌, ℕ, ℤ, pos, ◌+◌, ◌-◌, ◌^◌, ◌<◌, ◌≤◌, cond, ltb, leb, List, [], ◌++◌, length, take, drop, refl, sym, ◌∙◌, ap, subst, append_assoc, length-append, arith, rules}
 use Rattle.std.proofs.lemmas.List.{append_cancel_left, append-nil, take_at, take_all, drop_at, take-append-drop}
 use Rattle.std.proofs.lemmas.Int.{ints, to_z-of_z}
 use Rattle.std.proofs.lemmas.Bool.{cond_both, cond-true, ltb-false, le-leb, le-ltb}
@@ -12,21 +12,10 @@ use Rattle.format_spec.specs.declared.PageKind.{PageKind}
 use Rattle.format_spec.specs.declared.PageKind.TheVariants.{IndexInterior, TableInterior, IndexLeaf, TableLeaf}
 use Rattle.format_spec.specs.declared.CellView.{CellView}
 use Rattle.format_spec.specs.Varint.{varint}
+use Rattle.format_spec.specs.Parts.{same_parts}
 use Rattle.format_spec.specs.Cell.{IsCell, IsTableLeafCell, IsTableInteriorCell, IsIndexCell, payload_limit, max_local, min_local, fitted_local, local_size, child_size, overflow_size, cell_bytes, index_cell_bytes, table_leaf_cell}
 use Rattle.cell_codec.specs.VarintLaws.{spelling_one_to_nine, same_varint, varint_spells}
 use Rattle.cell_codec.specs.Cells.{BeginsWithCell, IsWritable, whole_cell, interior_cell, whole_index_cell}
-
--- lists that are equal have equal fronts of one length
-pub same_parts : (a b x y : List ℕ) → length a ≡ length b → a ++ x ≡ b ++ y → (a ≡ b) × (x ≡ y)
-same_parts [] [] x y l e = (refl, e)
-same_parts [] (b ∷ bs) x y l e = absurd (omega arith)
-same_parts (a ∷ us) [] x y l e = absurd (omega arith)
-same_parts (a ∷ us) (b ∷ bs) x y l e =
-    let head : a ≡ b = cc in
-    let tail : us ++ x ≡ bs ++ y = cc in
-    let r = same_parts us bs x y (omega arith) tail in
-    let r₀ : us ≡ bs = r.0 in
-    (cc, r.1)
 
 regroup : (a b c d x : List ℕ) → (a ++ (b ++ (c ++ d))) ++ x ≡ a ++ (b ++ (c ++ (d ++ x)))
 regroup a b c d x = simp append_assoc

@@ -5,3 +5,5 @@ pub mod Cell
 pub mod Page
 pub mod Header
 pub mod Log
+pub mod Parts
+pub mod LogReading

@@ -77,10 +77,14 @@ abbrev pub sums_behind : Bool → ℕ × ℕ → List Frame → ℕ × ℕ
 sums_behind big sums [] = sums
 sums_behind big sums (frame ∷ frames) = sums_behind big (frame_sums big sums frame.number frame.commit frame.page) frames
 
--- a frame counts where it is of a page, and whole
-abbrev pub IsFrame : ℕ → Frame → Type 0
-IsFrame page_size frame = (0 < frame.number) × (length frame.page ≡ page_size)
+-- a frame counts where it is of a page, and whole; its number and commit are what four bytes can say
+pub record IsFrame (page_size : ℕ) (frame : Frame) : Type 0 where
+  pub of_page : 0 < frame.number
+  pub number_fits : frame.number < 2 ^ 32
+  pub commit_fits : frame.commit < 2 ^ 32
+  pub whole : length frame.page ≡ page_size
 
+-- each of them counts
 abbrev pub AreFrames : ℕ → List Frame → Type 0
 AreFrames page_size [] = Unit {0}
 AreFrames page_size (frame ∷ frames) = IsFrame page_size frame × AreFrames page_size frames
@@ -91,6 +95,7 @@ pub record IsLog (bytes : List ℕ) (page_size : ℕ) (frames : List Frame) : Ty
   pub sequence : ℕ
   pub salt : ℕ × ℕ
   pub rest : List ℕ
+  pub page_size_fits : page_size < 2 ^ 32
   pub whole : bytes ≡ log_header big page_size sequence salt ++ (frames_bytes big salt (log_sums big page_size sequence salt) frames ++ rest)
   pub valid : AreFrames page_size frames
   pub longest : (frame : Frame) (more : List ℕ) → IsFrame page_size frame →

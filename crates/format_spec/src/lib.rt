@@ -8,7 +8,11 @@
 //! - `Cell`: the cells of b-tree pages, and how much of a payload they keep (section 1.6);
 //! - `Page`: a b-tree page as a list of cells (section 1.6), and the page that is packed from its end;
 //! - `Header`: the fields of the database header (section 1.3);
-//! - `Log`: the write-ahead log, its frames and checksums, and the overlay of a file by a log (section 4).
+//! - `Log`: the write-ahead log, its frames and checksums, and the overlay of a file by a log (section 4);
+//! - `Parts`: what equal bytes say of the parts, numbers and pages that they are made of;
+//! - `LogReading`: bytes are a log in one way, and the overlay of a file by its frames is one.
+//!
+//! The functions without parameters promise the main laws, and that the definitions compute on worked rows.
 #![tactic(auto)]
 
 /// The kinds of b-tree page (Database File Format, section 1.6).
@@ -43,8 +47,10 @@ pub struct CellView {
     pub overflow: u32,
 }
 
+mod laws;
 mod worked;
 
+pub use laws::{log_has_one_reading, overlay_has_one_result};
 pub use worked::{
     worked_cell, worked_log_header, worked_other_cells, worked_page, worked_record, worked_sizes,
     worked_varints,

@@ -10,6 +10,7 @@ use Rattle.update_spec.specs.declared.Answer.{Answer}
 use Rattle.update_spec.specs.declared.Answer.TheVariants.{Usage, Ended, Fault, NoMemory}
 use Rattle.update_spec.specs.declared.Command.TheVariants.{Apply}
 use Rattle.update_spec.specs.View.{IsView}
+use Rattle.update_spec.specs.ViewLaws.{KeepsView-same}
 use Rattle.update_spec.specs.Outcome.{new_pages}
 use Rattle.update_spec.specs.Words.{IsUsage, AsksUpdate}
 use Rattle.update_spec.specs.Answer.{AfterOutcome, SeesOldOrNew, IsUpdateAnswer, IsAnswer}
@@ -26,15 +27,15 @@ kept_back P (Some f) None h w = absurd h
 kept_back P (Some f) (Some g) h w = ap Some (w f g h)
 
 sees_same : (a b : Option Files) → b ≡ a → Leads SeesOldOrNew a b
-sees_same a b same = Leads-weaken (λ f g. g ≡ f) SeesOldOrNew a b (Leads-same a b same) (λ f g e. inl (λ bytes view. subst (λ (files : Files). IsView files bytes) (sym e) view))
+sees_same a b same = Leads-weaken (λ f g. g ≡ f) SeesOldOrNew a b (Leads-same a b same) (λ f g e. inl (KeepsView-same f g e))
 
 after_sees : (outcome : Outcome) (f g : Files) → AfterOutcome outcome f g → SeesOldOrNew f g
 after_sees Done f g h =
     let held : content g Target ≡ new_pages (content f Target) h.rows = ap (λ (bytes : Option (List ℕ)). unwrap_or bytes []) h.target in
     let view : IsView g (new_pages (content f Target) h.rows) = rw h.no_wal (sym held) in
     inr (h.old, h.prepared, h.rows, h.can_insert, h.none_present, h.merged, view)
-after_sees (KeyPresent id) f g h = inl (λ bytes view. subst (λ (files : Files). IsView files bytes) (sym h.1) view)
-after_sees (Refused refusal) f g h = inl (λ bytes view. subst (λ (files : Files). IsView files bytes) (sym h.1) view)
+after_sees (KeyPresent id) f g h = inl (KeepsView-same f g h.1)
+after_sees (Refused refusal) f g h = inl (KeepsView-same f g h.1)
 
 update_sees : (answer : Answer) (a b : Option Files) → IsUpdateAnswer a b answer → Leads SeesOldOrNew a b
 update_sees Usage a b h = absurd h

@@ -7,9 +7,10 @@ use Rattle.file_spec.specs.declared.FileName.TheVariants.{Target, Oal, Wal, Jour
 use Rattle.file_spec.specs.Files.{Files, content, with_file, after_rename, after_remove, OnlyChanges}
 use Rattle.file_spec.specs.Faults.{Leads}
 use Rattle.file_spec.specs.FaultsLaws.{Leads-map, Leads-same, Leads-weaken, Leads-then}
-use Rattle.format_spec.specs.Log.{IsOverlay, AreFrames}
+use Rattle.format_spec.specs.Log.{IsFrame, IsOverlay}
 use Rattle.wal_codec.specs.LogLaws.{log-of_frames, overlay-of_two_pages}
 use Rattle.update_spec.specs.View.{IsView, KeepsView}
+use Rattle.update_spec.specs.ViewLaws.{KeepsView-same}
 use Rattle.rbu_run.specs.Handover.{log_of, page_frames, IsAlone, HasPages, HandsOver, SeesPages, LeavesLog}
 
 module _ (salt : ℕ × ℕ) (pages : List ℕ) (long : length pages ≡ 8192) where
@@ -32,11 +33,12 @@ module _ (salt : ℕ × ℕ) (pages : List ℕ) (long : length pages ≡ 8192) w
       let second : length (drop 4096 pages) ≡ 4096 = omega (arith, length-drop 4096 pages) in
       let over : IsOverlay (content g Target) 4096 (page_frames pages) (take 4096 pages ++ drop 4096 pages) = overlay-of_two_pages (content g Target) (take 4096 pages) (drop 4096 pages) 4096 first second (lit< tt) in
       let seen : IsOverlay (content g Target) 4096 (page_frames pages) pages = subst (IsOverlay (content g Target) 4096 (page_frames pages)) (take-append-drop 4096 pages) over in
-      let valid : AreFrames 4096 (page_frames pages) = ((lit< tt, first), ((lit< tt, second), tt)) in
-      rw wal (4096, page_frames pages, log-of_frames true 4096 0 salt (page_frames pages) valid, seen)
+      let front : IsFrame 4096 (record { number = 1; commit = 0; page = take 4096 pages }) = record { of_page = lit< tt; number_fits = lit< tt; commit_fits = lit< tt; whole = first } in
+      let back : IsFrame 4096 (record { number = 2; commit = 2; page = drop 4096 pages }) = record { of_page = lit< tt; number_fits = lit< tt; commit_fits = lit< tt; whole = second } in
+      rw wal (4096, page_frames pages, log-of_frames true 4096 0 salt (page_frames pages) (lit< tt) (front, (back, tt)), seen)
 
   pub view-hidden : (f g : Files) → OnlyChanges Oal f g → KeepsView f g
-  view-hidden f g only = subst (KeepsView f) (sym only.1) (λ bytes seen. seen)
+  view-hidden f g only = subst (KeepsView f) (sym only.1) (KeepsView-same f f refl)
 
   moved : (f g h : Files) → LogWritten f g → h ≡ after_rename g Oal Wal → LogMoved f h
   moved f g h wrote rename alone =

@@ -12,7 +12,7 @@ use Rattle.rbu_value.specs.declared.value.Value.TheVariants.{Null, Int, Text, Bl
 use Rattle.format_spec.specs.Varint.{IsVarint, varint, varint_front}
 use Rattle.format_spec.specs.Record.{int_type, int_size, int_body, serial_type, body, header_size_bytes, serial_types, record_header, canonical_record, IsField, AreFields, IsRecord}
 use Rattle.cell_codec.specs.VarintLaws.{same_varint, spelling_one_to_nine, varint_size, varint_spells}
-use Rattle.cell_codec.specs.CellLaws.{same_parts}
+use Rattle.format_spec.specs.Parts.{same_parts}
 use Rattle.record_codec.specs.Faults.{body_size}
 use Rattle.record_codec.specs.Integers.{IsFormOf, shortest_form, int_body_is, int_body_none}
 

@@ -1,6 +1,7 @@
 pub mod SmallFile
 pub mod Outcome
 pub mod View
+pub mod ViewLaws
 pub mod Answer
 pub mod Words
 pub mod Text

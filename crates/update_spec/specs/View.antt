@@ -1,5 +1,5 @@
 -- What a reader of the files sees.
-use Rattle.std.specs.Prelude.{◌≡◌, ℕ, List, Option, Some, None}
+use Rattle.std.specs.Prelude.{◌≡◌, ◌↔◌, ℕ, List, Option, Some, None}
 use Rattle.file_spec.specs.declared.FileName.TheVariants.{Target, Wal}
 use Rattle.file_spec.specs.Files.{Files, content}
 use Rattle.format_spec.specs.Log.{Frame, IsLog, IsOverlay}
@@ -13,6 +13,6 @@ IsOverlaidBy (Some log) file bytes = (page_size : ℕ) × (frames : List Frame) 
 abbrev pub IsView : Files → List ℕ → Type 0
 IsView files = IsOverlaidBy (files Wal) (content files Target)
 
--- each view before is one after
+-- what a reader sees is the same before and after, also where that is nothing
 abbrev pub KeepsView : Files → Files → Type 0
-KeepsView before after = (bytes : List ℕ) → IsView before bytes → IsView after bytes
+KeepsView before after = (bytes : List ℕ) → IsView before bytes ↔ IsView after bytes

@@ -5,6 +5,7 @@
 //! - `SmallFile`: the databases that can be updated today, and the rows that they hold;
 //! - `Outcome`: what the prepared rows make of the target, or their constraint fault;
 //! - `View`: what a reader of the files sees, the target overlaid by its log;
+//! - `ViewLaws`: that is one list of bytes, as `view_is_one` promises;
 //! - `Answer`: which answer the files and words have, in the order of the refusals;
 //! - `Words` and `Text`: the words of each command, and the line of each answer.
 #![tactic(auto)]
@@ -71,6 +72,8 @@ pub enum Answer {
     NoMemory,
 }
 
+mod laws;
 mod worked;
 
+pub use laws::view_is_one;
 pub use worked::worked_lines;

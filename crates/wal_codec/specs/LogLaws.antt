@@ -1,9 +1,10 @@
 -- Laws about the definitions of the write-ahead log.
-use Rattle.std.proofs.Common.{◌≡◌, ℕ, ◌-◌, ◌*◌, ◌%◌, ◌<◌, ◌≤◌, Bool, List, [], ◌∷◌, ◌++◌, length, take, drop, replicate, unwrap_or, zero, suc, refl, sym, ap, ap₂, ◌∙◌, arith}
+use Rattle.std.proofs.Common.{◌≡◌, ℕ, ◌-◌, ◌*◌, ◌%◌, ◌^◌, ◌<◌, ◌≤◌, Bool, List, [], ◌∷◌, ◌++◌, length, take, drop, replicate, unwrap_or, zero, suc, refl, sym, ap, ap₂, ◌∙◌, arith}
 use Rattle.std.proofs.lemmas.List.{append-nil, append_assoc, drop_at, length-append, take_at}
 use Rattle.file_spec.specs.Files.{resized}
 use Rattle.format_spec.specs.Numbers.{page_at}
 use Rattle.format_spec.specs.Log.{checksum, word, sums_after, log_header, log_sums, Frame, frame_header, frames_bytes, sums_behind, AreFrames, IsLog, last_frame_of, IsOverlay}
+use Rattle.format_spec.specs.LogReading.{length-frame_header}
 
 -- the checksum of whole pairs of words goes on over what follows them
 pub checksum-append : (big : Bool) (sums : ℕ × ℕ) (a b : List ℕ) → length a % 8 ≡ 0
@@ -19,30 +20,20 @@ checksum-append big sums (a ∷ b ∷ c ∷ d ∷ e ∷ f ∷ g ∷ []) rest who
 checksum-append big sums (a ∷ b ∷ c ∷ d ∷ e ∷ f ∷ g ∷ h ∷ more) rest whole =
     checksum-append big (sums_after sums (word big (a ∷ b ∷ c ∷ d ∷ [])) (word big (e ∷ f ∷ g ∷ h ∷ []))) more rest (omega arith)
 
--- a log's header has 32 bytes
-pub length-log_header : (big : Bool) (page_size sequence : ℕ) (salt : ℕ × ℕ) → length (log_header big page_size sequence salt) ≡ 32
-unfolding log_header
-length-log_header big page_size sequence salt = refl
-
--- a frame's header has 24 bytes
-pub length-frame_header : (big : Bool) (salt sums : ℕ × ℕ) (number commit : ℕ) (page : List ℕ)
-    → length (frame_header big salt sums number commit page) ≡ 24
-unfolding frame_header
-length-frame_header big salt sums number commit page = refl
-
 -- an empty list does not begin with a part that is not empty
 empty-append : (a b : List ℕ) → 0 < length a → [] ≡ a ++ b → ⊥
 empty-append [] b some e = omega arith
 empty-append (x ∷ a) b some e = cc
 
 -- a header and frames are a log of these frames
-pub log-of_frames : (big : Bool) (page_size sequence : ℕ) (salt : ℕ × ℕ) (frames : List Frame) → AreFrames page_size frames
+pub log-of_frames : (big : Bool) (page_size sequence : ℕ) (salt : ℕ × ℕ) (frames : List Frame) → page_size < 2 ^ 32 → AreFrames page_size frames
     → IsLog (log_header big page_size sequence salt ++ frames_bytes big salt (log_sums big page_size sequence salt) frames) page_size frames
-log-of_frames big page_size sequence salt frames valid = record {
+log-of_frames big page_size sequence salt frames fits valid = record {
   big = big;
   sequence = sequence;
   salt = salt;
   rest = [];
+  page_size_fits = fits;
   whole = ap (λ (b : List ℕ). log_header big page_size sequence salt ++ b) (sym (append-nil (frames_bytes big salt (log_sums big page_size sequence salt) frames)));
   valid = valid;
   longest = λ frame more is_frame e.

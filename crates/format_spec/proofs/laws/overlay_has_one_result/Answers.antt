@@ -1,0 +1,5 @@
+use Rattle.format_spec.specs.LogReading.{same_overlay}
+use Rattle.format_spec.proofs.laws.overlay_has_one_result.Goals as goal
+
+pub returns : goal.returns
+returns c = same_overlay

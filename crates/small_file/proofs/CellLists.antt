@@ -14,7 +14,8 @@ use Rattle.small_file.specs.declared.file.Database.TheVariants.{Target, Rbu}
 use Rattle.small_file.specs.declared.page.PlacedCell.{PlacedCell}
 use Rattle.small_file.specs.Pages.{cell_of, IsPlaced}
 use Rattle.small_file.specs.Files.{table_name, table_text, payload_of, HoldsTable}
-use Rattle.small_file.specs.Records.{prepared_record}
+use Rattle.format_spec.specs.Record.{canonical_record}
+use Rattle.small_file.specs.Records.{prepared_values}
 use Rattle.small_file.specs.CellRows.{rowids, target_row, IsTargetCell, IsPreparedCell, ArePreparedCells}
 use Rattle.small_file.proofs.PageCells.{no_cell, push_all}
 use Rattle.small_file.proofs.Rows.{row_from, row_parts, small_has_table}
@@ -181,8 +182,8 @@ one_more_prepared page cells rows i row h f p =
 
 -- the prepared row that a cell's record holds
 pub prepared_cell : (page payload : List ℕ) (cell : PlacedCell) (key : ℤ) (v : Value) → length page ≡ 4096 → IsPlaced page cell → cell.view.local ≡ cell.view.payload → payload ≡ payload_of page cell
-    → IsNullOrText v → FitsSigned w64 key → payload ≡ prepared_record key v
-    → ((k : ℤ) (w : Value) → FitsSigned w64 k → IsNullOrText w → payload ≡ prepared_record k w → (key ≡ k) × (v ≡ w))
+    → IsNullOrText v → FitsSigned w64 key → payload ≡ canonical_record 4 (prepared_values key v)
+    → ((k : ℤ) (w : Value) → FitsSigned w64 k → IsNullOrText w → payload ≡ canonical_record 4 (prepared_values k w) → (key ≡ k) × (v ≡ w))
     → IsPreparedCell page cell (record { data_rowid = cell.view.rowid; key = key; value = v })
 prepared_cell page payload cell key v long placed whole e p f is only = record {
   is_row = (p, row_from page cell _ placed whole (sym e ∙ is), f);

@@ -1,9 +1,8 @@
 pub mod CellLists
 pub mod Found
 pub mod HeaderParts
-pub mod Integers
 pub mod Marks
 pub mod PageCells
 pub mod Pages
-pub mod RecordParts
+pub mod Records
 pub mod Rows

@@ -1,27 +1,21 @@
--- The canonical records of rows, part by part.
-use Rattle.std.specs.Prelude.{◌≡◌, ℕ, ℤ, pos, ◌+◌, List, [], ◌∷◌, ◌++◌, length}
+-- The records of rows.
+use Rattle.std.specs.Prelude.{◌≡◌, ℕ, ℤ, pos, List, [], ◌∷◌}
 use Rattle.rbu_value.specs.declared.value.Value.{Value}
-use Rattle.rbu_value.specs.declared.value.Value.TheVariants as value
-use Rattle.format_spec.specs.Varint.{varint}
+use Rattle.rbu_value.specs.declared.value.Value.TheVariants.{Null, Int}
 use Rattle.format_spec.specs.Record.{canonical_record}
 use Rattle.update_spec.specs.SmallFile.{IsNullOrText}
-use Rattle.small_file.specs.declared.record.NullOrText.{NullOrText}
-use Rattle.small_file.specs.declared.record.NullOrText.TheVariants.{Null, Text}
 
--- a record's header of a serial type of one byte, another one, and some of one byte each
-abbrev pub header_of : ℕ → ℕ → List ℕ → List ℕ
-header_of first_type value_type last_types =
-    (2 + length (varint value_type) + length last_types) ∷ first_type ∷ (varint value_type ++ last_types)
+-- the values of a target's row: NULL in the key's place, and a value
+abbrev pub target_values : Value → List Value
+target_values value = Null ∷ value ∷ []
 
--- the value that a row has beside its key
-abbrev pub value_of : NullOrText → Value
-value_of Null = value.Null
-value_of (Text text) = value.Text text.now
+-- the values of a prepared row: the key, a value and the control 0
+abbrev pub prepared_values : ℤ → Value → List Value
+prepared_values key value = Int key ∷ value ∷ Int (pos 0) ∷ []
 
--- the payload is the record of a target's row: NULL in the key's place, and the value
+abbrev pub AreTargetValues : List Value → Type 0
+AreTargetValues values = (value : Value) × IsNullOrText value × (values ≡ target_values value)
+
+-- the payload is the record of a target's row
 abbrev pub IsTargetRecord : List ℕ → Type 0
-IsTargetRecord payload = (v : Value) × IsNullOrText v × (payload ≡ canonical_record 4 (value.Null ∷ v ∷ []))
-
--- the record of a prepared row: the key, the value and the control 0
-abbrev pub prepared_record : ℤ → Value → List ℕ
-prepared_record key v = canonical_record 4 (value.Int key ∷ v ∷ value.Int (pos 0) ∷ [])
+IsTargetRecord payload = (value : Value) × IsNullOrText value × (payload ≡ canonical_record 4 (target_values value))

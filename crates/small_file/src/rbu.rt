@@ -5,26 +5,14 @@ ghost use Rattle.update_spec.specs.declared.PreparedRow.{PreparedRow};
 ghost use Rattle.update_spec.specs.SmallFile.{IsSmallRbu, IsPreparedRow};
 ghost use Rattle.small_file.specs.declared.page.PlacedCell.{PlacedCell};
 ghost use Rattle.small_file.specs.Pages.{IsPlaced, cell_of};
-ghost use Rattle.small_file.specs.Records.{value_of};
 ghost use Rattle.small_file.specs.CellRows.{IsPreparedCell, ArePreparedCells};
 
 use crate::file::{Database, payload, read_table};
 use crate::page::{PAGE_SIZE, PlacedCell};
-use crate::record::{NullOrText, read_prepared};
+use crate::record::read_prepared;
 use crate::target::is_rising;
-use rbu_value::{Bytes, Value};
 use std::alloc::{AllocError, Global};
 use update_spec::PreparedRow;
-
-// The value, with a copy of its text.
-fn copy_value(alloc: Global, value: NullOrText<'_>) -> Result<Value, AllocError>
-    ensures { IfOk result (λ copy. copy ≡ value_of value.entry) }
-{
-    match value {
-        NullOrText::Null => Ok(Value::Null),
-        NullOrText::Text(text) => Ok(Value::Text(Bytes::of(alloc, text)?)),
-    }
-}
 
 // The prepared row of a cell. `None` where it is not one.
 fn prepared_row(
@@ -40,13 +28,13 @@ fn prepared_row(
     let Some(bytes) = payload(page, cell) else {
         return Ok(None);
     };
-    let Some((key, value)) = read_prepared(bytes) else {
+    let Some((key, value)) = read_prepared(alloc, bytes)? else {
         return Ok(None);
     };
     Ok(Some(PreparedRow {
         data_rowid: cell.view.rowid,
         key,
-        value: copy_value(alloc, value)?,
+        value,
     }))
 }
 

@@ -34,14 +34,14 @@ pub fn is_rising(cells: &[PlacedCell]) -> bool
     true
 }
 
-fn is_target_cell(page: &[u8], cell: &PlacedCell) -> bool
+fn is_target_cell(alloc: Global, page: &[u8], cell: &PlacedCell) -> Result<bool, AllocError>
     requires long { length page.now ≡ 4096 }
     requires placed { IsPlaced page.now cell.now }
-    ensures { IsTrue result ↔ IsTargetCell page.now cell.now }
+    ensures { IfOk result (λ is. IsTrue is ↔ IsTargetCell page.now cell.now) }
 {
     match payload(page, cell) {
-        Some(bytes) => is_target_record(bytes),
-        None => false,
+        Some(bytes) => is_target_record(alloc, bytes),
+        None => Ok(false),
     }
 }
 
@@ -72,7 +72,7 @@ fn target_rows(
 {
     let mut rows = Vec::new(alloc);
     for cell in cells {
-        if !is_target_cell(page, cell) {
+        if !is_target_cell(alloc, page, cell)? {
             return Ok(None);
         }
         rows.push(copy_row(alloc, page, cell)?)?;

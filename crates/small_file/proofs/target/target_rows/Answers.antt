@@ -17,7 +17,7 @@ loop-cell-preserved c =
           ∙ ap (λ s. s ++ c.in_ok-copy_row.field-0 ∷ []) c.loop-cell.invariant.rows
           ∙ ap (λ r. map (target_row page) (take i cells) ++ r ∷ []) c.in_ok-copy_row.ensures
           ∙ sym (map_more (target_row page) cells i no_cell here);
-      each = All-more (IsTargetCell page) cells i no_cell here c.loop-cell.invariant.each (c.is_target_cell.ensures.0 c.if-not-is_target_cell.false);
+      each = All-more (IsTargetCell page) cells i no_cell here c.loop-cell.invariant.each (c.in_ok-is_target_cell.ensures.0 c.if-not-branch.false);
     }
 
 pub returns-clause-each : goal.returns-clause-each

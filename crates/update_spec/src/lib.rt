@@ -73,4 +73,4 @@ pub enum Answer {
 
 mod worked;
 
-pub use worked::worked_lines;
+pub use worked::{worked_lines, worked_rows, worked_statuses};

@@ -6,7 +6,7 @@ use Rattle.db_header.specs.declared.fields.Header.{Header}
 use Rattle.db_header.specs.declared.fields.HeaderFault.{HeaderFault}
 use Rattle.db_header.specs.declared.fields.HeaderFault.TheVariants.{NotADatabase, PageSize, WalMode, Encoding, AutoVacuum, SizeMismatch, ReservedSpace, SchemaFormat}
 
--- the bytes begin as each database does
+-- the bytes begin as each database does (sections 1.3.1 and 1.3.5)
 pub record IsDatabase (bytes : List ℕ) : Type 0 where
   pub long : 100 ≤ length bytes
   pub magic : HasMagic bytes
@@ -14,18 +14,18 @@ pub record IsDatabase (bytes : List ℕ) : Type 0 where
   pub min_fraction_is : min_fraction bytes ≡ 32
   pub leaf_fraction_is : leaf_fraction bytes ≡ 32
 
--- the sizes that pages may have here; 65536, which the value 1 stands for, is not among them
+-- the sizes that pages may have here (section 1.3.2); 65536, which the value 1 stands for, is not among them
 pub record IsPageSize (size : ℕ) : Type 0 where
   pub power : IsPowerOfTwo size
   pub least : 512 ≤ size
   pub most : size ≤ 32768
 
--- the file is written and read with a rollback journal
+-- the file is written and read with a rollback journal (section 1.3.3)
 pub record HasRollbackVersions (bytes : List ℕ) : Type 0 where
   pub write : write_version bytes ≡ 1
   pub read : read_version bytes ≡ 1
 
--- how many pages the file of this length has: the size in the header where it is valid, else the whole pages of the file
+-- how many pages the file of this length has: the size in the header where it is valid, else the whole pages of the file (section 1.3.7)
 abbrev pub counted_pages : List ℕ → ℕ → ℕ
 counted_pages bytes file_len =
     if nat_lt 0 (pages bytes) && (version_valid_for bytes == change_counter bytes) then pages bytes else file_len / page_size bytes

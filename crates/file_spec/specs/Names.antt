@@ -5,6 +5,7 @@ use Rattle.file_spec.specs.declared.FileName.TheVariants as file
 use Rattle.file_spec.specs.declared.DiskCall.{DiskCall}
 use Rattle.file_spec.specs.declared.DiskCall.TheVariants as call
 
+-- the word of a file
 abbrev pub file_word : FileName → List ℕ
 file_word file.Target = codes "Target"
 file_word file.Oal = codes "Oal"
@@ -14,6 +15,7 @@ file_word file.Rbu = codes "Rbu"
 file_word file.State = codes "State"
 file_word file.StateTemp = codes "StateTemp"
 
+-- the word of a call
 abbrev pub call_word : DiskCall → List ℕ
 call_word call.Exists = codes "Exists"
 call_word call.Len = codes "Len"

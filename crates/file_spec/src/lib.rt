@@ -102,3 +102,7 @@ pub fn steps_join()
     ensures { (h k : Files → Files) (a b c : Option Files) → b ≡ option_map h a → c ≡ option_map k b →
         Leads (λ f g. g ≡ k (h f)) a c }
 {}
+
+mod worked;
+
+pub use worked::{worked_bytes, worked_faults, worked_names};

@@ -111,7 +111,7 @@ unfoldable pub index_cell_bytes : PageKind → CellView → List ℕ → List �
 index_cell_bytes kind cell local =
     big_bytes (child_size kind) cell.child ++ (varint cell.payload ++ (local ++ big_bytes (overflow_size cell.local cell.payload) cell.overflow))
 
--- the shortest spelling of a cell with the given local payload
+-- the shortest spelling of a cell with the given local payload, where its rowid has 64 bits and its page numbers 32
 unfoldable pub cell_bytes : PageKind → CellView → List ℕ → List ℕ
 cell_bytes TableLeaf cell local =
     varint cell.payload ++ (varint (cast_unsigned w64 cell.rowid) ++ (local ++ big_bytes (overflow_size cell.local cell.payload) cell.overflow))

@@ -1,4 +1,4 @@
--- Numbers at a place in bytes, the most significant byte first, and the pages of a file.
+-- Numbers at a place in bytes, the most significant byte first, and the pages of a file (Database File Format, sections 1.2 and 1.3).
 use Rattle.std.specs.Prelude.{ℕ, ◌+◌, ◌-◌, ◌*◌, List, ◌++◌, take, drop, slice_index}
 use Rattle.byteorder.specs.Endian.{big_number, big_bytes}
 use Rattle.file_spec.specs.Files.{resized}

@@ -12,7 +12,7 @@ abbrev pub magnitude : ℤ → ℕ
 magnitude (pos n) = n
 magnitude (negsuc n) = n
 
--- the serial type of the shortest two's complement form
+-- the serial type of the shortest two's complement form of an integer of 64 bits
 abbrev pub int_type : ℤ → ℕ
 int_type z =
     let m = magnitude z in
@@ -62,7 +62,7 @@ record_header format values =
     let types = serial_types format values in
     varint (length types + header_size_bytes (length types)) ++ types
 
--- the canonical record of values under a schema format: the shortest integers and varints
+-- The canonical record of values under a schema format: the shortest integers and varints. Its integers have 64 bits; of another it would keep the low ones.
 unfoldable pub canonical_record : ℕ → List Value → List ℕ
 canonical_record format values = record_header format values ++ flat_map (body format) values
 

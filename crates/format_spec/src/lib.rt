@@ -2,7 +2,7 @@
 //!
 //! A crate of definitions. Crates above cite, from `specs/`:
 //!
-//! - `Numbers`: numbers at a place in bytes, and pages of a file (Database File Format, section 1.3);
+//! - `Numbers`: numbers at a place in bytes, and pages of a file (Database File Format, sections 1.2 and 1.3);
 //! - `Varint`: variable-length integers (section 1.6);
 //! - `Record`: records and the canonical record of a list of values (section 2.1);
 //! - `Cell`: the cells of b-tree pages, and how much of a payload they keep (section 1.6);
@@ -48,9 +48,14 @@ pub struct CellView {
 }
 
 mod laws;
+mod sqlite_rows;
 mod worked;
 
 pub use laws::{log_has_one_reading, overlay_has_one_result};
+pub use sqlite_rows::{
+    worked_frame_header, worked_header, worked_index_interior, worked_little_log_header,
+    worked_numbers, worked_overlay, worked_spellings, worked_table_leaf,
+};
 pub use worked::{
     worked_cell, worked_log_header, worked_other_cells, worked_page, worked_record, worked_sizes,
     worked_varints,

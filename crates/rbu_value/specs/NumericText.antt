@@ -1,4 +1,4 @@
--- Texts that are numbers (Datatypes In SQLite, section 3; SQL As Understood By SQLite, "Literal Values").
+-- Texts that are numbers (Datatypes In SQLite, section 3; SQL Language Expressions, section 3, "Literal Values").
 use Rattle.std.specs.Prelude.{◌≡◌, ℕ, ◌==◌, ◌<◌, Bool, ◌||◌, IsTrue, List, [], ◌∷◌, ◌++◌, ◌⊎◌, length}
 use Rattle.std.specs.Int.{is_in_range}
 use Rattle.std.specs.Char.{is_ascii_digit}
@@ -43,7 +43,7 @@ pub record IsExponent (text : List ℕ) : Type 0 where
 abbrev pub IsOptionalExponent : List ℕ → Type 0
 IsOptionalExponent text = (text ≡ []) ⊎ IsExponent text
 
--- A text is a number: white space, a sign or none, a decimal, an exponent or none, and white space (Datatypes In SQLite, section 3).
+-- A text is a number: white space, a sign or none, a decimal, an exponent or none, and white space (Datatypes In SQLite, section 3). The documents name neither the sign nor the white space, which SQLite takes.
 pub record IsNumericText (text : List ℕ) : Type 0 where
   pub before : List ℕ
   pub sign : List ℕ

@@ -1,4 +1,4 @@
--- The order of values (Datatypes In SQLite, sections 4.1 and 7.1).
+-- The order of values (Datatypes In SQLite, sections 4.1 and 7; Database File Format, section 2.2).
 use Rattle.std.specs.Prelude.{ℕ, ◌-◌, ◌==◌, ℤ, pos, List, [], map, take, length}
 use Rattle.std.specs.List.{suffix_len}
 use Rattle.std.specs.Char.{to_ascii_lowercase}
@@ -21,7 +21,7 @@ class_place (Blob blob) = 3
 abbrev pub without_end_spaces : List ℕ → List ℕ
 without_end_spaces text = take (length text - suffix_len (λ b. b == 32) text) text
 
--- the bytes by which a text compares: BINARY takes them as they are, NOCASE with the 26 ASCII letters in lower case, RTRIM without the spaces at the end (section 7.1)
+-- the bytes by which a text compares: BINARY takes them as they are, NOCASE with the 26 ASCII letters in lower case, RTRIM without the spaces at the end (section 7). Bytes behind a byte 0 count too, where SQLite's NOCASE passes over them.
 abbrev pub collated : Collation → List ℕ → List ℕ
 collated Binary text = text
 collated NoCase text = map to_ascii_lowercase text

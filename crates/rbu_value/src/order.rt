@@ -10,12 +10,12 @@ ghost use Rattle.rbu_value.specs.Order.{class_place, without_end_spaces, collate
 use crate::Value;
 use std::cmp::Ordering;
 
-/// How texts compare (Datatypes In SQLite, section 7.1).
+/// How texts compare (Datatypes In SQLite, section 7).
 #[derive(Clone, Copy, Debug, PartialEq, Eq)]
 pub enum Collation {
     /// By their bytes.
     Binary,
-    /// By their bytes, with the 26 ASCII letters in lower case.
+    /// By their bytes, with the 26 ASCII letters in lower case. Bytes behind a byte 0 count too, where SQLite passes over them.
     NoCase,
     /// By their bytes, without the spaces at the end.
     RTrim,

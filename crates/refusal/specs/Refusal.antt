@@ -5,6 +5,7 @@ use Rattle.refusal.specs.declared.Part.TheVariants as part
 use Rattle.refusal.specs.declared.Refusal.{Refusal}
 use Rattle.refusal.specs.declared.Refusal.TheVariants.{NotYet}
 
+-- the word of a part that is not built
 abbrev pub part_word : Part → List ℕ
 part_word part.Words = codes "words"
 part_word part.Files = codes "files"
@@ -13,5 +14,6 @@ part_word part.Rbu = codes "rbu"
 part_word part.Rows = codes "rows"
 part_word part.Room = codes "room"
 
+-- what is printed of a refusal
 abbrev pub refusal_text : Refusal → List ℕ
 refusal_text (NotYet part) = codes "1 NotYet " ++ part_word part

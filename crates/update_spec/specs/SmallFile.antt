@@ -40,7 +40,7 @@ pub record IsRowCell (cell : List ℕ) (rowid : ℤ) (values : List Value) : Typ
   pub whole : view.local ≡ view.payload
   pub record_is : part_of cell view.local_at view.local ≡ canonical_record 4 values
 
--- the one row of the schema: a table with root page 2
+-- the one row of the schema: a table with root page 2 (Database File Format, section 2.6)
 abbrev pub schema_values : List ℕ → List ℕ → List Value
 schema_values name text = Text (codes "table") ∷ Text name ∷ Text name ∷ Int (pos 2) ∷ Text text ∷ []
 
@@ -64,11 +64,11 @@ IsNullOrText (Int z) = ⊥
 IsNullOrText (Text bytes) = Unit {0}
 IsNullOrText (Blob bytes) = ⊥
 
--- a row of the target: its key is the rowid, which the record has as NULL
+-- a row of the target: its key is the rowid, which the record has as NULL (Database File Format, section 2.3)
 abbrev pub IsTargetRow : TargetRow → Type 0
 IsTargetRow row = (value : Value) × IsNullOrText value × IsRowCell row.cell row.rowid (Null ∷ value ∷ [])
 
--- a row of the `data_` table: the key, which is of 64 bits, the value and the control 0, which inserts
+-- a row of the `data_` table: the key, which is of 64 bits, the value and the control 0, which inserts (The RBU Extension, sections 2.2.1 and 2.2.2)
 abbrev pub IsPreparedRow : List ℕ → PreparedRow → Type 0
 IsPreparedRow cell row =
     IsNullOrText row.value × IsRowCell cell row.data_rowid (Int row.key ∷ row.value ∷ Int (pos 0) ∷ []) × FitsSigned w64 row.key

@@ -25,6 +25,7 @@ answer_text NoMemory = codes "no memory"
 abbrev pub answer_line : Answer → List ℕ
 answer_line answer = answer_text answer ++ 10 ∷ []
 
+-- the status of an outcome
 abbrev pub outcome_status : Outcome → ℕ
 outcome_status Done = 0
 outcome_status (KeyPresent data_rowid) = 3

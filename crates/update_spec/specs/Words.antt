@@ -10,6 +10,7 @@ pub record IsNumber (word : List ℕ) (least most n : ℕ) : Type 0 where
   pub least_is : least ≤ n
   pub most_is : n ≤ most
 
+-- the numbers that each word of a command may be: units of work, rows, the generator's start, readers, and reads of each
 abbrev pub IsSteps : List ℕ → ℕ → Type 0
 IsSteps word = IsNumber word 1 4294967295
 

@@ -1,0 +1,34 @@
+// The definitions, computed on small files.
+ghost use Rattle.std.specs.Prelude.{◌≡◌, [], ◌∷◌, Some, None};
+ghost use Rattle.file_spec.specs.declared.FileName.{FileName};
+ghost use Rattle.file_spec.specs.declared.FileName.TheVariants.{Target, Oal, Wal, State};
+ghost use Rattle.file_spec.specs.Files.{Files, resized, overwritten, part_of, with_file, after_create, after_rename};
+ghost use Rattle.file_spec.specs.Faults.{IsTorn, IsCut};
+
+/// Writes inside a file, over its end and past it, changes of length, and a read over the end.
+pub fn worked_bytes()
+    ensures inside { overwritten (1 ∷ 2 ∷ 3 ∷ []) 1 (9 ∷ []) ≡ 1 ∷ 9 ∷ 3 ∷ [] }
+    ensures over_the_end { overwritten (1 ∷ 2 ∷ []) 1 (8 ∷ 9 ∷ []) ≡ 1 ∷ 8 ∷ 9 ∷ [] }
+    ensures past_the_end { overwritten (1 ∷ []) 3 (9 ∷ []) ≡ 1 ∷ 0 ∷ 0 ∷ 9 ∷ [] }
+    ensures nothing_past_the_end { overwritten (1 ∷ []) 3 [] ≡ 1 ∷ 0 ∷ 0 ∷ [] }
+    ensures shorter { resized (1 ∷ 2 ∷ 3 ∷ []) 2 ≡ 1 ∷ 2 ∷ [] }
+    ensures longer { resized (1 ∷ []) 3 ≡ 1 ∷ 0 ∷ 0 ∷ [] }
+    ensures part { part_of (1 ∷ 2 ∷ 3 ∷ []) 1 5 ≡ 2 ∷ 3 ∷ [] }
+{}
+
+/// A file that takes the place of another, a missing one that is renamed, and names that are made.
+pub fn worked_names()
+    ensures { let two : Files = with_file (with_file (λ (name : FileName). None) Oal (Some (1 ∷ []))) Wal (Some (2 ∷ [])) in
+        (after_rename two Oal Wal Wal ≡ Some (1 ∷ [])) × (after_rename two Oal Wal Oal ≡ None) × (after_rename two State Wal Wal ≡ Some (2 ∷ []))
+        × (after_create two Wal Wal ≡ Some (2 ∷ [])) × (after_create two Target Target ≡ Some []) × (after_create two Target Wal ≡ Some (2 ∷ [])) }
+{}
+
+/// What a write of two bytes at place 1 may leave of four when it fails, and what it may not; the same of a change to length 2.
+pub fn worked_faults()
+    ensures torn { IsTorn 1 2 (1 ∷ 2 ∷ 3 ∷ 4 ∷ []) (1 ∷ 7 ∷ 8 ∷ 4 ∷ []) }
+    ensures before { ¬ (IsTorn 1 2 (1 ∷ 2 ∷ 3 ∷ 4 ∷ []) (9 ∷ 2 ∷ 3 ∷ 4 ∷ [])) }
+    ensures behind { ¬ (IsTorn 1 2 (1 ∷ 2 ∷ 3 ∷ 4 ∷ []) (1 ∷ 2 ∷ 3 ∷ 9 ∷ [])) }
+    ensures shrunk { ¬ (IsTorn 1 2 (1 ∷ 2 ∷ 3 ∷ 4 ∷ []) (1 ∷ 2 ∷ 3 ∷ [])) }
+    ensures cut { IsCut 2 (1 ∷ 2 ∷ 3 ∷ 4 ∷ []) (1 ∷ 2 ∷ 9 ∷ []) }
+    ensures kept { ¬ (IsCut 2 (1 ∷ 2 ∷ 3 ∷ 4 ∷ []) (1 ∷ 9 ∷ 3 ∷ [])) }
+{}

@@ -1,0 +1,76 @@
+// The definitions, computed on bytes that SQLite 3.40.1 wrote, and on small rows that were worked out by hand.
+ghost use Rattle.std.specs.Prelude.{◌≡◌, pos, [], ◌∷◌, ◌++◌, false, replicate, codes};
+ghost use Rattle.format_spec.specs.declared.PageKind.TheVariants.{IndexInterior, TableLeaf};
+ghost use Rattle.format_spec.specs.Numbers.{number_at, with_number_at, page_at};
+ghost use Rattle.format_spec.specs.Varint.{IsVarint};
+ghost use Rattle.format_spec.specs.Page.{IsPage};
+ghost use Rattle.format_spec.specs.Header.{HasMagic, page_size, write_version, read_version, reserved, max_fraction, min_fraction, leaf_fraction, change_counter, pages, freelist_trunk, freelist_pages, schema_cookie, schema_format, largest_root, text_encoding, version_valid_for};
+ghost use Rattle.format_spec.specs.Log.{Frame, log_header, frame_header, IsOverlay};
+
+/// Numbers in the bytes at a place, and pages of a file, also of one that ends inside its last page.
+pub fn worked_numbers()
+    ensures read { number_at 1 2 (9 ∷ 0x12 ∷ 0x34 ∷ 9 ∷ []) ≡ 0x1234 }
+    ensures written { with_number_at 1 2 0x1234 (9 ∷ 9 ∷ 9 ∷ 9 ∷ []) ≡ 9 ∷ 0x12 ∷ 0x34 ∷ 9 ∷ [] }
+    ensures second { page_at 2 2 (1 ∷ 2 ∷ 3 ∷ 4 ∷ []) ≡ 3 ∷ 4 ∷ [] }
+    ensures cut { page_at 2 2 (1 ∷ 2 ∷ 3 ∷ []) ≡ 3 ∷ 0 ∷ [] }
+    ensures missing { page_at 2 3 (1 ∷ 2 ∷ 3 ∷ []) ≡ 0 ∷ 0 ∷ [] }
+{}
+
+/// Spellings of 300, of 1 in two bytes, and of the greatest number in nine.
+pub fn worked_spellings()
+    ensures shortest { IsVarint (0x82 ∷ 0x2c ∷ []) 300 }
+    ensures longer { IsVarint (0x80 ∷ 0x01 ∷ []) 1 }
+    ensures nine { IsVarint (0xff ∷ 0xff ∷ 0xff ∷ 0xff ∷ 0xff ∷ 0xff ∷ 0xff ∷ 0xff ∷ 0xff ∷ []) 18446744073709551615 }
+{}
+
+/// A database header whose fields differ, spelled field by field after the table of section 1.3.
+pub fn worked_header()
+    ensures { let bytes = codes "SQLite format 3" ++ 0 ∷ 0x04 ∷ 0x00 ∷ 0x02 ∷ 0x01 ∷ 0x08 ∷ 0x40 ∷ 0x21 ∷ 0x20 ∷
+        0x01 ∷ 0x02 ∷ 0x03 ∷ 0x04 ∷ 0x00 ∷ 0x00 ∷ 0x00 ∷ 0x05 ∷ 0x00 ∷ 0x00 ∷ 0x00 ∷ 0x02 ∷ 0x00 ∷ 0x00 ∷ 0x00 ∷ 0x03 ∷
+        0x0b ∷ 0x0c ∷ 0x0d ∷ 0x0e ∷ 0x00 ∷ 0x00 ∷ 0x00 ∷ 0x04 ∷ 0xff ∷ 0xff ∷ 0xf8 ∷ 0x30 ∷ 0x00 ∷ 0x00 ∷ 0x00 ∷ 0x07 ∷
+        0x00 ∷ 0x00 ∷ 0x00 ∷ 0x01 ∷ 0x00 ∷ 0x00 ∷ 0x00 ∷ 0x09 ∷ 0x00 ∷ 0x00 ∷ 0x00 ∷ 0x00 ∷ 0x0f ∷ 0x10 ∷ 0x11 ∷ 0x12 ∷
+        replicate 20 0 ++ 0x01 ∷ 0x02 ∷ 0x03 ∷ 0x05 ∷ 0x00 ∷ 0x2e ∷ 0x63 ∷ 0x01 ∷ [] in
+        HasMagic bytes × (page_size bytes ≡ 1024) × (write_version bytes ≡ 2) × (read_version bytes ≡ 1) × (reserved bytes ≡ 8)
+        × (max_fraction bytes ≡ 64) × (min_fraction bytes ≡ 33) × (leaf_fraction bytes ≡ 32) × (change_counter bytes ≡ 0x01020304)
+        × (pages bytes ≡ 5) × (freelist_trunk bytes ≡ 2) × (freelist_pages bytes ≡ 3) × (schema_cookie bytes ≡ 0x0b0c0d0e)
+        × (schema_format bytes ≡ 4) × (largest_root bytes ≡ 7) × (text_encoding bytes ≡ 1) × (version_valid_for bytes ≡ 0x01020305) }
+{}
+
+/// The header of a log that SQLite wrote on a machine with the least significant byte first, for pages of 512 bytes.
+#[tactic(auto, unfolding(crate::specs::Log::log_header))]
+pub fn worked_little_log_header()
+    ensures { log_header false 512 0 (0xf1243c8e, 0xe38fc12b) ≡
+        0x37 ∷ 0x7f ∷ 0x06 ∷ 0x82 ∷ 0x00 ∷ 0x2d ∷ 0xe2 ∷ 0x18 ∷ 0x00 ∷ 0x00 ∷ 0x02 ∷ 0x00 ∷ 0x00 ∷ 0x00 ∷ 0x00 ∷ 0x00 ∷
+        0xf1 ∷ 0x24 ∷ 0x3c ∷ 0x8e ∷ 0xe3 ∷ 0x8f ∷ 0xc1 ∷ 0x2b ∷ 0x63 ∷ 0x07 ∷ 0x28 ∷ 0x04 ∷ 0x46 ∷ 0xa2 ∷ 0x8f ∷ 0x8c ∷ [] }
+{}
+
+/// The frame behind it: page 2 with the row (1, 'one'), a commit of two pages.
+#[tactic(auto, unfolding(crate::specs::Log::frame_header))]
+pub fn worked_frame_header()
+    ensures { let page = 13 ∷ 0 ∷ 0 ∷ 0 ∷ 1 ∷ 0x01 ∷ 0xf8 ∷ 0 ∷ 0x01 ∷ 0xf8 ∷ replicate 494 0 ++ 6 ∷ 1 ∷ 3 ∷ 0 ∷ 0x13 ∷ 0x6f ∷ 0x6e ∷ 0x65 ∷ [] in
+        frame_header false (0xf1243c8e, 0xe38fc12b) (0x63072804, 0x46a28f8c) 2 2 page ≡
+        0x00 ∷ 0x00 ∷ 0x00 ∷ 0x02 ∷ 0x00 ∷ 0x00 ∷ 0x00 ∷ 0x02 ∷ 0xf1 ∷ 0x24 ∷ 0x3c ∷ 0x8e ∷ 0xe3 ∷ 0x8f ∷ 0xc1 ∷ 0x2b ∷
+        0xa6 ∷ 0xbc ∷ 0xde ∷ 0x78 ∷ 0xff ∷ 0xff ∷ 0x64 ∷ 0x67 ∷ [] }
+{}
+
+/// A file of five bytes, in pages of two, under three frames, of which the last stands behind the last commit.
+pub fn worked_overlay()
+    ensures { let one : Frame = record { number = 2; commit = 0; page = 9 ∷ 9 ∷ [] } in
+        let two : Frame = record { number = 1; commit = 3; page = 7 ∷ 8 ∷ [] } in
+        let three : Frame = record { number = 1; commit = 0; page = 5 ∷ 5 ∷ [] } in
+        IsOverlay (1 ∷ 2 ∷ 3 ∷ 4 ∷ 5 ∷ []) 2 (one ∷ two ∷ three ∷ []) (7 ∷ 8 ∷ 9 ∷ 9 ∷ 5 ∷ 0 ∷ []) }
+{}
+
+/// A table leaf with the rows (1, 'one') and (2, 'two'), and a freeblock where SQLite deleted a row between them.
+pub fn worked_table_leaf()
+    ensures { let one = 6 ∷ 1 ∷ 3 ∷ 0 ∷ 0x13 ∷ 0x6f ∷ 0x6e ∷ 0x65 ∷ [] in
+        let two = 6 ∷ 2 ∷ 3 ∷ 0 ∷ 0x13 ∷ 0x74 ∷ 0x77 ∷ 0x6f ∷ [] in
+        IsPage (13 ∷ 0x01 ∷ 0xee ∷ 0 ∷ 2 ∷ 0x01 ∷ 0xe6 ∷ 0 ∷ 0x01 ∷ 0xe6 ∷ 0x01 ∷ 0xf8 ∷ replicate 474 0
+        ++ one ++ 0 ∷ 0 ∷ 0 ∷ 0x0a ∷ 0 ∷ 0 ∷ 0 ∷ 0 ∷ 0 ∷ 0 ∷ two) 2 512 TableLeaf (one ∷ two ∷ []) 0 }
+{}
+
+/// An interior page of an index with one entry between its children 4 and 5.
+pub fn worked_index_interior()
+    ensures { let entry = 0 ∷ 0 ∷ 0 ∷ 4 ∷ 7 ∷ 3 ∷ 0x13 ∷ 1 ∷ 0x6b ∷ 0x32 ∷ 0x36 ∷ 0x1a ∷ [] in
+        IsPage (2 ∷ 0 ∷ 0 ∷ 0 ∷ 1 ∷ 0x01 ∷ 0xf4 ∷ 0 ∷ 0 ∷ 0 ∷ 0 ∷ 5 ∷ 0x01 ∷ 0xf4 ∷ replicate 486 0 ++ entry) 3 512 IndexInterior (entry ∷ []) 5 }
+{}

@@ -120,3 +120,19 @@ fault_told answer told status before now x y counts (inl same) (inl ends) six =
     named_fault answer before now x y counts (sym (ap answer_status same) ∙ (sym ends.0 ∙ six)) (subst (λ (a : Answer). y ≡ option_map (λ text. text ++ answer_line a) x) same ends.1)
 fault_told answer told status before now x y counts (inr short) (inl ends) six =
     let seven : status ≡ 7 = ends.0 ∙ ap answer_status short.0 in absurd (omega (arith, seven, six))
+
+short_kept : (words : List (List ℕ)) (a b : Option Files) (answer : Answer) → IsAnswer words a b answer → answer_status answer ≡ 7 → b ≡ a
+short_kept words a b Usage is seven = absurd (omega (arith, seven))
+short_kept words a b (Ended Done) is seven = absurd (omega (arith, seven))
+short_kept words a b (Ended (KeyPresent id)) is seven = absurd (omega (arith, seven))
+short_kept words a b (Ended (Refused refusal)) is seven = absurd (omega (arith, seven))
+short_kept words a b (Fault file call) is seven = absurd (omega (arith, seven))
+short_kept words a b NoMemory (inl h) seven = h.1
+short_kept words a b NoMemory (inr (inl h)) seven = h.2
+short_kept words a b NoMemory (inr (inr h)) seven = h.2
+
+-- want of memory changes nothing
+pub memory_kept : (words : List (List ℕ)) (a b : Option Files) (answer : Answer) (status : ℕ) (x y : Option (List ℕ)) → IsAnswer words a b answer →
+    IsTold answer status x y → status ≡ 7 → b ≡ a
+memory_kept words a b answer status x y is (inl told) seven = short_kept words a b answer is (sym told.0 ∙ seven)
+memory_kept words a b answer status x y is (inr told) seven = absurd (omega (arith, told.0, seven))

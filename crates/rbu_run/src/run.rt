@@ -103,6 +103,7 @@ pub fn run_command<D: Disk, O: Sink>(
     ensures constraint { result.status ≡ 3 → AsksUpdate (map string_bytes words.now) × Leads KeepsOnFault (D.shown disk) (D.shown result.disk) }
     ensures refused { result.status ≡ 4 → AsksMore (map string_bytes words.now)
         ⊎ (AsksUpdate (map string_bytes words.now) × Leads KeepsOnRefusal (D.shown disk) (D.shown result.disk)) }
+    ensures memory { result.status ≡ 7 → D.shown result.disk ≡ D.shown disk }
 
     // The outcome of the files is the answer, exactly, unless a device failed or memory ran out.
     ensures complete { AsksUpdate (map string_bytes words.now) → Leads (λ f _. HasStatusOf result.status f) (D.shown disk) (D.shown result.disk) }

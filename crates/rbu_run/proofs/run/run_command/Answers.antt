@@ -3,7 +3,7 @@ use Rattle.file_spec.specs.FaultsLaws.{Leads-weaken}
 use Rattle.update_spec.specs.declared.Outcome.{Outcome}
 use Rattle.update_spec.specs.Answer.{HasOutcome, IsAnswer}
 use Rattle.rbu_run.specs.Status.{HasStatusOf, IsOutcome}
-use Rattle.rbu_run.proofs.Answering.{answer_sees, told_answer, constraint_kept, status_complete, usage_only, fault_told}
+use Rattle.rbu_run.proofs.Answering.{answer_sees, told_answer, constraint_kept, status_complete, usage_only, fault_told, memory_kept}
 use Rattle.rbu_run.proofs.run.run_command.Given as given
 use Rattle.rbu_run.proofs.run.run_command.Goals as goal
 
@@ -42,3 +42,8 @@ pub returns-clause-disk_fault : goal.returns-clause-disk_fault
 returns-clause-disk_fault g c =
     fault_told c.answer_of-answer.result c.tellable-answer.result.0 c.write_line-status.result (g.D.Disk.failures c.args.disk) (g.D.Disk.failures c.answer_of-answer.new.disk)
     (g.O.Sink.written c.args.out.now) (g.O.Sink.written c.write_line-status.new.out) c.answer_of-answer.ensures.cause c.tellable-answer.ensures.answer c.write_line-status.ensures.told
+
+pub returns-clause-memory : goal.returns-clause-memory
+returns-clause-memory g c =
+    memory_kept (map string_bytes c.args.words.now) (g.D.Disk.shown c.args.disk) (g.D.Disk.shown c.answer_of-answer.new.disk) c.tellable-answer.result.0 c.write_line-status.result
+    (g.O.Sink.written c.args.out.now) (g.O.Sink.written c.write_line-status.new.out) (told g c) c.write_line-status.ensures.told

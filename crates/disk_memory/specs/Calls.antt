@@ -1,6 +1,7 @@
 -- What a device in memory counts: its calls, its faults, and the calls that found no memory.
-use Rattle.std.specs.Prelude.{◌≡◌, ◌==◌, ℕ, ◌+◌, ◌-◌, ◌^◌, Bool, true, false, IsTrue, if◌then◌else◌, min, List}
+use Rattle.std.specs.Prelude.{◌≡◌, ◌==◌, ℕ, Bool, true, false, IsTrue, if◌then◌else◌, List}
 use Rattle.std.specs.List.{list_any}
+use Rattle.file_spec.specs.Faults.{one_more}
 
 -- the numbers of the calls that are to fail, and the counts so far, each of them in 64 bits
 pub record CallCounts : Type 0 where
@@ -8,10 +9,6 @@ pub record CallCounts : Type 0 where
   pub calls : ℕ
   pub faults : ℕ
   pub refused : ℕ
-
--- one more, where the count is kept in 64 bits; at its last value it stands still
-abbrev pub one_more : ℕ → ℕ
-one_more n = min (n + 1) (2 ^ 64 - 1)
 
 -- whether the number of the next call stands in the list; calls are numbered from 0
 abbrev pub is_listed : CallCounts → Bool

@@ -3,9 +3,13 @@ use Rattle.std.specs.Prelude.{◌≡◌, ℕ, ◌+◌, ◌-◌, ◌^◌, ◌<◌
 use Rattle.file_spec.specs.declared.FileName.{FileName}
 use Rattle.file_spec.specs.Files.{Files, content, with_file}
 
--- A count that is kept in 64 bits rose; at its last value it stands still and counts as risen.
+-- one more, where the count is kept in 64 bits; at its last value it stands still
+abbrev pub one_more : ℕ → ℕ
+one_more n = min (n + 1) (2 ^ 64 - 1)
+
+-- A count that is kept in 64 bits rose; at its last value it counts as risen.
 abbrev pub Rises : ℕ → ℕ → Type 0
-Rises before now = min (before + 1) (2 ^ 64 - 1) ≤ now
+Rises before now = one_more before ≤ now
 
 -- A device that tells its state goes on telling it, and the call leads from one to the other by R. Of a device that tells nothing nothing is said.
 abbrev pub Leads : {S : Type 0} → (S → S → Type 0) → Option S → Option S → Type 0

@@ -118,7 +118,7 @@ last_frame_of number [] = None
 last_frame_of number (frame ∷ frames) =
     if is_some (last_frame_of number frames) || not (frame.number == number) then last_frame_of number frames else Some frame.page
 
--- The bytes are those of a file that the log's frames lie over: each page from its last frame up to the last commit, else from the file, and as many pages as that commit says. Without a commit they are the file's.
+-- The bytes are those of a file that the log's frames lie over: each page from its last frame up to the last commit, else from the file, and as many pages as that commit says. Without a commit they are the file's (section 4.5).
 pub record IsOverlay (file : List ℕ) (page_size : ℕ) (frames : List Frame) (bytes : List ℕ) : Type 0 where
   pub without : committed frames ≡ [] → bytes ≡ file
   pub size : 0 < length (committed frames) → length bytes ≡ last_commit (committed frames) * page_size

@@ -181,7 +181,9 @@ fn other_targets_are_not_small(rt: HostRuntime) -> Result<(), Fail> {
 
 #[test]
 fn other_rows_are_not_prepared_inserts(rt: HostRuntime) -> Result<(), Fail> {
-    let cells: [&[u8]; 4] = [
+    let cells: [&[u8]; 5] = [
+        // no record: a serial type is reserved
+        b"\x09\x01\x04\x01\x15\x0a\x03drei",
         // the control 1
         b"\x09\x01\x04\x01\x15\x09\x03drei",
         // an integer in more bytes than it needs

@@ -105,4 +105,4 @@ pub fn steps_join()
 
 mod worked;
 
-pub use worked::{worked_bytes, worked_faults, worked_names};
+pub use worked::{worked_bytes, worked_faults, worked_names, worked_steps};

@@ -1,9 +1,9 @@
 // The definitions, computed on small files.
-ghost use Rattle.std.specs.Prelude.{◌≡◌, [], ◌∷◌, Some, None};
+ghost use Rattle.std.specs.Prelude.{◌≡◌, ◌+◌, ℕ, [], ◌∷◌, Some, None};
 ghost use Rattle.file_spec.specs.declared.FileName.{FileName};
 ghost use Rattle.file_spec.specs.declared.FileName.TheVariants.{Target, Oal, Wal, State};
 ghost use Rattle.file_spec.specs.Files.{Files, resized, overwritten, part_of, with_file, after_create, after_rename};
-ghost use Rattle.file_spec.specs.Faults.{IsTorn, IsCut};
+ghost use Rattle.file_spec.specs.Faults.{IsTorn, IsCut, AfterTornWrite, AfterFailedSetLen, Leads};
 
 /// Writes inside a file, over its end and past it, changes of length, and a read over the end.
 pub fn worked_bytes()
@@ -32,3 +32,18 @@ pub fn worked_faults()
     ensures cut { IsCut 2 (1 ∷ 2 ∷ 3 ∷ 4 ∷ []) (1 ∷ 2 ∷ 9 ∷ []) }
     ensures kept { ¬ (IsCut 2 (1 ∷ 2 ∷ 3 ∷ 4 ∷ []) (1 ∷ 9 ∷ 3 ∷ [])) }
 {}
+
+/// What a failed write and a failed change of length may leave of a log of four bytes and of one that is missing, and what a call
+/// leads to on a disk that tells its files and on one that does not.
+pub fn worked_steps()
+    ensures torn { let files : Files = with_file (λ (name : FileName). None) Oal (Some (1 ∷ 2 ∷ 3 ∷ 4 ∷ [])) in
+        AfterTornWrite Oal 1 2 files (with_file files Oal (Some (1 ∷ 7 ∷ 8 ∷ 4 ∷ []))) }
+    ensures not_made { AfterTornWrite Oal 0 2 (λ (name : FileName). None) (λ (name : FileName). None) }
+    ensures cut { let files : Files = with_file (λ (name : FileName). None) Oal (Some (1 ∷ 2 ∷ 3 ∷ 4 ∷ [])) in
+        AfterFailedSetLen Oal 2 files (with_file files Oal (Some (1 ∷ 2 ∷ 9 ∷ []))) }
+    ensures told { Leads (λ (before after : ℕ). after ≡ before + 1) (Some 1) (Some 2) }
+    ensures silent { Leads (λ (before after : ℕ). after ≡ before + 1) None None }
+    ensures goes_on { ¬ (Leads (λ (before after : ℕ). after ≡ before + 1) (Some 1) None) }
+{
+    worked_faults();
+}

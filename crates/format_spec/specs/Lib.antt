@@ -7,3 +7,4 @@ pub mod Header
 pub mod Log
 pub mod Parts
 pub mod LogReading
+pub mod LittleLog

@@ -1,7 +1,7 @@
--- Bytes are a log in one way, and the overlay of a file by its frames is one: crates above cite these facts in their proofs.
+-- A header with frames is a log, bytes are a log in one way, and the overlay of a file by its frames is one: crates above cite these facts in their proofs.
 use Rattle.std.proofs.Common.{◌≡◌, ℕ, ◌+◌, ◌^◌, ◌<◌, Bool, true, false, List, [], ◌∷◌, ◌++◌, length, refl, sym, ap, ap₂, ◌∙◌, subst, append_assoc, length-append, arith, lit<, inl, inr}
 use Rattle.std.proofs.lemmas.Bool.{cases_lt}
-use Rattle.std.proofs.lemmas.List.{nil_from_length}
+use Rattle.std.proofs.lemmas.List.{append-nil, nil_from_length}
 use Rattle.byteorder.specs.Endian.{big_bytes}
 use Rattle.format_spec.specs.Parts.{same_parts, same_number, same_pages}
 use Rattle.format_spec.specs.Log.{checksum, magic, pair_bytes, log_front, log_sums, log_header, Frame, frame_front, frame_sums, frame_header, frame_bytes, frames_bytes, sums_behind, IsFrame, AreFrames, IsLog, committed, last_commit, IsOverlay}
@@ -147,6 +147,29 @@ same_log bytes p q frames others v w =
     let by_order : HaveFrames v.big w.salt sums q left others = subst (λ (b : Bool). HaveFrames b w.salt sums q left others) (sym header.order) by_sums in
     let by_size : HaveFrames v.big w.salt sums p left others = subst (λ (n : ℕ). HaveFrames v.big w.salt sums n left others) (sym header.sizes) by_order in
     (header.sizes, same_frames v.big v.salt w.salt sums p left frames others header.salt_bytes ours by_size)
+
+-- an empty list does not begin with a part that is not empty
+empty-append : (a b : List ℕ) → 0 < length a → [] ≡ a ++ b → ⊥
+empty-append [] b some e = omega arith
+empty-append (x ∷ a) b some e = cc
+
+-- a header and frames are a log of these frames
+pub log-of_frames : (big : Bool) (page_size sequence : ℕ) (salt : ℕ × ℕ) (frames : List Frame) → page_size < 2 ^ 32 → AreFrames page_size frames
+    → IsLog (log_header big page_size sequence salt ++ frames_bytes big salt (log_sums big page_size sequence salt) frames) page_size frames
+log-of_frames big page_size sequence salt frames fits valid = record {
+  big = big;
+  sequence = sequence;
+  salt = salt;
+  rest = [];
+  page_size_fits = fits;
+  whole = ap (λ (b : List ℕ). log_header big page_size sequence salt ++ b) (sym (append-nil (frames_bytes big salt (log_sums big page_size sequence salt) frames)));
+  valid = valid;
+  longest = λ frame more is_frame e.
+      let sums = sums_behind big (log_sums big page_size sequence salt) frames in
+      let long = length-frame_header big salt sums frame.number frame.commit frame.page in
+      let header = frame_header big salt sums frame.number frame.commit frame.page in
+      empty-append header (frame.page ++ more) (omega (arith, long)) (e ∙ append_assoc header frame.page more);
+}
 
 -- a file overlaid by frames is one list of bytes
 pub same_overlay : (file : List ℕ) (page_size : ℕ) (frames : List Frame) (a b : List ℕ) → IsOverlay file page_size frames a → IsOverlay file page_size frames b → a ≡ b

@@ -10,7 +10,8 @@
 //! - `Header`: the fields of the database header (section 1.3);
 //! - `Log`: the write-ahead log, its frames and checksums, and the overlay of a file by a log (section 4);
 //! - `Parts`: what equal bytes say of the parts, numbers and pages that they are made of;
-//! - `LogReading`: bytes are a log in one way, and the overlay of a file by its frames is one.
+//! - `LogReading`: a header with frames is a log, bytes are a log in one way, and the overlay of a file by its frames is one;
+//! - `LittleLog`: a log that SQLite wrote.
 //!
 //! The functions without parameters promise the main laws, and that the definitions compute on worked rows.
 #![tactic(auto)]
@@ -54,7 +55,7 @@ mod worked;
 pub use laws::{log_has_one_reading, overlay_has_one_result};
 pub use sqlite_rows::{
     worked_frame_header, worked_header, worked_index_interior, worked_little_log_header,
-    worked_numbers, worked_overlay, worked_spellings, worked_table_leaf,
+    worked_log, worked_numbers, worked_overlay, worked_spellings, worked_table_leaf,
 };
 pub use worked::{
     worked_cell, worked_log_header, worked_other_cells, worked_page, worked_record, worked_sizes,

@@ -5,7 +5,8 @@ ghost use Rattle.format_spec.specs.Numbers.{number_at, with_number_at, page_at};
 ghost use Rattle.format_spec.specs.Varint.{IsVarint};
 ghost use Rattle.format_spec.specs.Page.{IsPage};
 ghost use Rattle.format_spec.specs.Header.{HasMagic, page_size, write_version, read_version, reserved, max_fraction, min_fraction, leaf_fraction, change_counter, pages, freelist_trunk, freelist_pages, schema_cookie, schema_format, largest_root, text_encoding, version_valid_for};
-ghost use Rattle.format_spec.specs.Log.{Frame, log_header, frame_header, IsOverlay};
+ghost use Rattle.format_spec.specs.Log.{Frame, log_header, frame_header, IsLog, IsOverlay};
+ghost use Rattle.format_spec.specs.LittleLog.{little_page, little_frame, little_salt, little_header, little_frame_header, little_log};
 
 /// Numbers in the bytes at a place, and pages of a file, also of one that ends inside its last page.
 pub fn worked_numbers()
@@ -39,18 +40,18 @@ pub fn worked_header()
 /// The header of a log that SQLite wrote on a machine with the least significant byte first, for pages of 512 bytes.
 #[tactic(auto, unfolding(crate::specs::Log::log_header))]
 pub fn worked_little_log_header()
-    ensures { log_header false 512 0 (0xf1243c8e, 0xe38fc12b) ≡
-        0x37 ∷ 0x7f ∷ 0x06 ∷ 0x82 ∷ 0x00 ∷ 0x2d ∷ 0xe2 ∷ 0x18 ∷ 0x00 ∷ 0x00 ∷ 0x02 ∷ 0x00 ∷ 0x00 ∷ 0x00 ∷ 0x00 ∷ 0x00 ∷
-        0xf1 ∷ 0x24 ∷ 0x3c ∷ 0x8e ∷ 0xe3 ∷ 0x8f ∷ 0xc1 ∷ 0x2b ∷ 0x63 ∷ 0x07 ∷ 0x28 ∷ 0x04 ∷ 0x46 ∷ 0xa2 ∷ 0x8f ∷ 0x8c ∷ [] }
+    ensures { log_header false 512 0 little_salt ≡ little_header }
 {}
 
 /// The frame behind it: page 2 with the row (1, 'one'), a commit of two pages.
 #[tactic(auto, unfolding(crate::specs::Log::frame_header))]
 pub fn worked_frame_header()
-    ensures { let page = 13 ∷ 0 ∷ 0 ∷ 0 ∷ 1 ∷ 0x01 ∷ 0xf8 ∷ 0 ∷ 0x01 ∷ 0xf8 ∷ replicate 494 0 ++ 6 ∷ 1 ∷ 3 ∷ 0 ∷ 0x13 ∷ 0x6f ∷ 0x6e ∷ 0x65 ∷ [] in
-        frame_header false (0xf1243c8e, 0xe38fc12b) (0x63072804, 0x46a28f8c) 2 2 page ≡
-        0x00 ∷ 0x00 ∷ 0x00 ∷ 0x02 ∷ 0x00 ∷ 0x00 ∷ 0x00 ∷ 0x02 ∷ 0xf1 ∷ 0x24 ∷ 0x3c ∷ 0x8e ∷ 0xe3 ∷ 0x8f ∷ 0xc1 ∷ 0x2b ∷
-        0xa6 ∷ 0xbc ∷ 0xde ∷ 0x78 ∷ 0xff ∷ 0xff ∷ 0x64 ∷ 0x67 ∷ [] }
+    ensures { frame_header false little_salt (0x63072804, 0x46a28f8c) 2 2 little_page ≡ little_frame_header }
+{}
+
+/// Both are a log with that frame.
+pub fn worked_log()
+    ensures { IsLog little_log 512 (little_frame ∷ []) }
 {}
 
 /// A file of five bytes, in pages of two, under three frames, of which the last stands behind the last commit.

@@ -8,7 +8,8 @@ use Rattle.file_spec.specs.Files.{Files, content, with_file, after_rename, after
 use Rattle.file_spec.specs.Faults.{Leads}
 use Rattle.file_spec.specs.FaultsLaws.{Leads-map, Leads-same, Leads-weaken, Leads-then}
 use Rattle.format_spec.specs.Log.{IsFrame, IsOverlay}
-use Rattle.wal_codec.specs.LogLaws.{log-of_frames, overlay-of_two_pages}
+use Rattle.format_spec.specs.LogReading.{log-of_frames}
+use Rattle.wal_codec.specs.LogLaws.{overlay-of_two_pages}
 use Rattle.update_spec.specs.View.{IsView, KeepsView}
 use Rattle.update_spec.specs.ViewLaws.{KeepsView-same}
 use Rattle.rbu_run.specs.Handover.{log_of, page_frames, IsAlone, HasPages, HandsOver, SeesPages, LeavesLog}

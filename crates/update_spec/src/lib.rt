@@ -76,4 +76,4 @@ mod laws;
 mod worked;
 
 pub use laws::view_is_one;
-pub use worked::{worked_lines, worked_rows, worked_statuses};
+pub use worked::{worked_lines, worked_rows, worked_statuses, worked_view};

@@ -1,6 +1,8 @@
 // The definitions, computed on answers and numbers that were worked out apart from them.
-ghost use Rattle.std.specs.Prelude.{◌≡◌, negsuc, pos, [], ◌∷◌, ◌++◌, codes};
-ghost use Rattle.file_spec.specs.declared.FileName.TheVariants.{Oal};
+ghost use Rattle.std.specs.Prelude.{◌≡◌, negsuc, pos, [], ◌∷◌, ◌++◌, Some, None, replicate, codes};
+ghost use Rattle.file_spec.specs.declared.FileName.{FileName};
+ghost use Rattle.file_spec.specs.declared.FileName.TheVariants.{Target, Oal, Wal};
+ghost use Rattle.file_spec.specs.Files.{with_file};
 ghost use Rattle.file_spec.specs.declared.DiskCall.TheVariants.{Rename};
 ghost use Rattle.refusal.specs.declared.Part.TheVariants as part;
 ghost use Rattle.refusal.specs.declared.Refusal.TheVariants.{NotYet};
@@ -9,6 +11,10 @@ ghost use Rattle.update_spec.specs.declared.Outcome.TheVariants.{Done, KeyPresen
 ghost use Rattle.rbu_value.specs.declared.value.Value.TheVariants.{Text};
 ghost use Rattle.update_spec.specs.Text.{answer_line, answer_status};
 ghost use Rattle.update_spec.specs.Outcome.{raised, all_rows, page_room};
+ghost use Rattle.update_spec.specs.View.{IsView, KeepsView};
+ghost use Rattle.format_spec.specs.LittleLog.{little_page, little_log};
+
+use format_spec::worked_log;
 
 /// The lines of answers.
 pub fn worked_lines()
@@ -38,3 +44,12 @@ pub fn worked_rows()
         (record { rowid = pos 1; cell = 6 ∷ 1 ∷ 3 ∷ 0 ∷ 0x13 ∷ 0x6f ∷ 0x6e ∷ 0x65 ∷ [] } ∷ record { rowid = pos 2; cell = 6 ∷ 2 ∷ 3 ∷ 0 ∷ 0x13 ∷ 0x74 ∷ 0x77 ∷ 0x6f ∷ [] } ∷ [])
         (record { data_rowid = pos 1; key = pos 3; value = Text (0x64 ∷ 0x72 ∷ 0x65 ∷ 0x69 ∷ []) } ∷ [])) ≡ 39 }
 {}
+
+/// What a reader sees of a target of one page, alone, and under a log that SQLite wrote, whose frame is its second page.
+pub fn worked_view()
+    ensures alone { IsView (with_file (λ (name : FileName). None) Target (Some (replicate 512 7))) (replicate 512 7) }
+    ensures logged { IsView (with_file (with_file (λ (name : FileName). None) Target (Some (replicate 512 7))) Wal (Some little_log)) (replicate 512 7 ++ little_page) }
+    ensures hidden { KeepsView (with_file (λ (name : FileName). None) Target (Some (1 ∷ []))) (with_file (with_file (λ (name : FileName). None) Target (Some (1 ∷ []))) Oal (Some little_log)) }
+{
+    worked_log();
+}

@@ -3,8 +3,7 @@ use Rattle.std.proofs.Common.{◌≡◌, ℕ, ◌-◌, ◌*◌, ◌%◌, ◌^◌
 use Rattle.std.proofs.lemmas.List.{append-nil, append_assoc, drop_at, length-append, take_at}
 use Rattle.file_spec.specs.Files.{resized}
 use Rattle.format_spec.specs.Numbers.{page_at}
-use Rattle.format_spec.specs.Log.{checksum, word, sums_after, log_header, log_sums, Frame, frame_header, frames_bytes, sums_behind, AreFrames, IsLog, last_frame_of, IsOverlay}
-use Rattle.format_spec.specs.LogReading.{length-frame_header}
+use Rattle.format_spec.specs.Log.{checksum, word, sums_after, Frame, last_frame_of, IsOverlay}
 
 -- the checksum of whole pairs of words goes on over what follows them
 pub checksum-append : (big : Bool) (sums : ℕ × ℕ) (a b : List ℕ) → length a % 8 ≡ 0
@@ -19,29 +18,6 @@ checksum-append big sums (a ∷ b ∷ c ∷ d ∷ e ∷ f ∷ []) rest whole = a
 checksum-append big sums (a ∷ b ∷ c ∷ d ∷ e ∷ f ∷ g ∷ []) rest whole = absurd (omega arith)
 checksum-append big sums (a ∷ b ∷ c ∷ d ∷ e ∷ f ∷ g ∷ h ∷ more) rest whole =
     checksum-append big (sums_after sums (word big (a ∷ b ∷ c ∷ d ∷ [])) (word big (e ∷ f ∷ g ∷ h ∷ []))) more rest (omega arith)
-
--- an empty list does not begin with a part that is not empty
-empty-append : (a b : List ℕ) → 0 < length a → [] ≡ a ++ b → ⊥
-empty-append [] b some e = omega arith
-empty-append (x ∷ a) b some e = cc
-
--- a header and frames are a log of these frames
-pub log-of_frames : (big : Bool) (page_size sequence : ℕ) (salt : ℕ × ℕ) (frames : List Frame) → page_size < 2 ^ 32 → AreFrames page_size frames
-    → IsLog (log_header big page_size sequence salt ++ frames_bytes big salt (log_sums big page_size sequence salt) frames) page_size frames
-log-of_frames big page_size sequence salt frames fits valid = record {
-  big = big;
-  sequence = sequence;
-  salt = salt;
-  rest = [];
-  page_size_fits = fits;
-  whole = ap (λ (b : List ℕ). log_header big page_size sequence salt ++ b) (sym (append-nil (frames_bytes big salt (log_sums big page_size sequence salt) frames)));
-  valid = valid;
-  longest = λ frame more is_frame e.
-      let sums = sums_behind big (log_sums big page_size sequence salt) frames in
-      let long = length-frame_header big salt sums frame.number frame.commit frame.page in
-      let header = frame_header big salt sums frame.number frame.commit frame.page in
-      empty-append header (frame.page ++ more) (omega (arith, long)) (e ∙ append_assoc header frame.page more);
-}
 
 -- the page at a place, as the bytes that stand there
 pub page_at-whole : (size number : ℕ) (front page rest : List ℕ) → length front ≡ (number - 1) * size → length page ≡ size

@@ -4,9 +4,9 @@
 //! the checksum that the next one takes. `checksum` is offered to readers of logs.
 //!
 //! The definitions stand in `format_spec`: `Log` has the log's, and `Numbers` has `pair_of`, an array of two words as a pair.
-//! That bytes are a log in one way is said there too, by `LogReading`. `specs/LogLaws` has laws about what is written: a checksum
-//! goes on over what follows, a header with frames is a log of these frames, and a log of both pages of a file of two pages overlays
-//! any other file by it.
+//! That a header with frames is a log, and bytes are one in one way, is said there too, by `LogReading`. `specs/LogLaws` has laws
+//! about what is written: a checksum goes on over what follows, and a log of both pages of a file of two pages overlays any other
+//! file by it.
 #![tactic(auto)]
 
 mod headers;

@@ -304,7 +304,7 @@ const LEFT_OVER: &str = "refused 1 NotYet files\n";
 const INSERTED: &str = "constraint key-present t1 1\n";
 
 // The calls of an update in their order, and what a second update says where one has failed.
-const CALLS: [(&str, &str); 24] = [
+const CALLS: &[(&str, &str)] = &[
     ("Target SyncFolder", CLEAN),
     ("State Exists", CLEAN),
     ("StateTemp Exists", CLEAN),
@@ -331,6 +331,27 @@ const CALLS: [(&str, &str); 24] = [
     ("Target SyncFolder", INSERTED),
 ];
 
+// The call on the disk with this number fails and is named, and a second update says what it finds.
+fn assert_failing_call(
+    rt: &impl Abort,
+    alloc: Global,
+    before: &MemoryDisk,
+    number: u64,
+    call: &str,
+    second: &str,
+) -> Result<(), AllocError> {
+    let left = run_with_faults(alloc, UPDATE, before, &[number], &[])?;
+    let line = format!(in alloc; "fault {call}\n")?;
+    assert_ends(rt, &left, 6, line.as_str());
+    let again = run(alloc, UPDATE, &left.disk)?;
+    assert_eq!(rt;
+        again.output.as_slice(),
+        second.as_bytes(),
+        "after {number}"
+    );
+    Ok(())
+}
+
 #[test]
 fn each_failing_call_is_named_and_leaves_files_for_a_second_update(
     rt: HostRuntime,
@@ -339,15 +360,7 @@ fn each_failing_call_is_named_and_leaves_files_for_a_second_update(
     let before = example_disk(alloc)?;
     let mut number: u64 = 0;
     for (call, second) in CALLS {
-        let left = run_with_faults(alloc, UPDATE, &before, &[number], &[])?;
-        let line = format!(in alloc; "fault {call}\n")?;
-        assert_ends(&rt, &left, 6, line.as_str());
-        let again = run(alloc, UPDATE, &left.disk)?;
-        assert_eq!(rt;
-            again.output.as_slice(),
-            second.as_bytes(),
-            "after {number}"
-        );
+        assert_failing_call(&rt, alloc, &before, number, call, second)?;
         number = number.saturating_add(1);
     }
     let left = run_with_faults(alloc, UPDATE, &before, &[number], &[])?;
@@ -375,7 +388,7 @@ fn failing_output_leaves_the_files_of_the_command(rt: HostRuntime) -> Result<(),
     Ok(())
 }
 
-const NO_COMMAND: [&[&str]; 21] = [
+const NO_COMMAND: &[&[&str]] = &[
     &["apply", "0"],
     &["apply", "+1"],
     &["apply", "-1"],
@@ -399,7 +412,7 @@ const NO_COMMAND: [&[&str]; 21] = [
     &["nope"],
 ];
 
-const NOT_BUILT: [&[&str]; 10] = [
+const NOT_BUILT: &[&[&str]] = &[
     &["apply", "1"],
     &["apply", "4294967294"],
     &["dump", "NAME"],
@@ -412,20 +425,30 @@ const NOT_BUILT: [&[&str]; 10] = [
     &["beside", "16", "1000"],
 ];
 
-// The first call on the disk is to fail, and is not made.
+// The words are answered by this status and line, though the first call on the disk is to fail: it is not made.
+fn assert_judged(
+    rt: &impl Abort,
+    alloc: Global,
+    before: &MemoryDisk,
+    words: &[&str],
+    status: u8,
+    line: &str,
+) -> Result<(), AllocError> {
+    let left = run_with_faults(alloc, words, before, &[0], &[])?;
+    assert_ends(rt, &left, status, line);
+    assert_same_files(rt, &left, before, line);
+    Ok(())
+}
+
 #[test]
 fn words_are_judged_before_the_disk_is_called(rt: HostRuntime) -> Result<(), Fail> {
     let alloc = rt.alloc();
     let before = example_disk(alloc)?;
     for words in NO_COMMAND {
-        let left = run_with_faults(alloc, words, &before, &[0], &[])?;
-        assert_ends(&rt, &left, 2, "usage\n");
-        assert_same_files(&rt, &left, &before, "usage");
+        assert_judged(&rt, alloc, &before, words, 2, "usage\n")?;
     }
     for words in NOT_BUILT {
-        let left = run_with_faults(alloc, words, &before, &[0], &[])?;
-        assert_ends(&rt, &left, 4, "refused 1 NotYet words\n");
-        assert_same_files(&rt, &left, &before, "words");
+        assert_judged(&rt, alloc, &before, words, 4, "refused 1 NotYet words\n")?;
     }
     Ok(())
 }

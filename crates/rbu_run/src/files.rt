@@ -1,5 +1,5 @@
 // What is read of the files before anything is changed.
-ghost use Rattle.std.specs.Prelude.{◌≡◌, ◌≢◌, ◌≤◌, ◌↔◌, length, IsTrue, IfOk, IfErr, OnOk, OnErr, MatchOption};
+ghost use Rattle.std.specs.Prelude.{◌≡◌, ◌≢◌, ◌≤◌, ◌↔◌, length, replicate, IsTrue, IfOk, IfErr, OnOk, OnErr, MatchOption};
 ghost use Rattle.file_spec.specs.Files.{content};
 ghost use Rattle.file_spec.specs.Faults.{Leads};
 ghost use Rattle.rbu_disk.specs.Call.{Fails};
@@ -31,7 +31,7 @@ pub fn has_other_file<D: Disk>(disk: &mut D) -> Result<bool, DiskFault>
 }
 
 fn zeros(alloc: Global, n: usize) -> Result<Vec<u8>, AllocError>
-    ensures { IfOk result (λ v. length v.items ≡ n) }
+    ensures { IfOk result (λ v. v.items ≡ replicate n 0) }
 {
     vec![in alloc; 0; n]
 }

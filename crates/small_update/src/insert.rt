@@ -1,32 +1,22 @@
 // The rows that prepared inserts make.
-ghost use Rattle.std.specs.Prelude.{◌≡◌, ◌++◌, IfOk, OnOk};
-ghost use Rattle.format_spec.specs.Varint.{varint};
+ghost use Rattle.std.specs.Prelude.{◌≡◌, IfOk};
 ghost use Rattle.format_spec.specs.Cell.{table_leaf_cell};
 ghost use Rattle.update_spec.specs.declared.TargetRow.{TargetRow};
 ghost use Rattle.update_spec.specs.Outcome.{inserted, all_rows};
 
-use cell_codec::write_varint;
+use cell_codec::push_varint;
 use rbu_value::{Bytes, Value};
 use record_codec::write_record;
 use std::alloc::{AllocError, Global};
 use update_spec::{PreparedRow, TargetRow};
-
-// Appends a number's shortest varint.
-fn push_varint(bytes: &mut Vec<u8>, value: u64) -> Result<(), AllocError>
-    ensures { OnOk result (bytes.new.items ≡ bytes.old.items ++ varint value) }
-{
-    let mut spelling = [0; 9];
-    let length = write_varint(value, &mut spelling);
-    bytes.extend_from_slice(&spelling[..length])
-}
 
 // The cell of a row with this rowid and payload.
 fn cell_of(alloc: Global, rowid: i64, payload: &[u8]) -> Result<Bytes, AllocError>
     ensures { IfOk result (λ cell. cell ≡ table_leaf_cell rowid payload.now) }
 {
     let mut cell = Vec::new(alloc);
-    push_varint(&mut cell, payload.len() as u64)?;
-    push_varint(&mut cell, rowid.cast_unsigned())?;
+    push_varint(payload.len() as u64, &mut cell)?;
+    push_varint(rowid.cast_unsigned(), &mut cell)?;
     cell.extend_from_slice(payload)?;
     Ok(Bytes::from_vec(cell))
 }

@@ -59,6 +59,15 @@ fn varints_are_written_and_read(rt: HostRuntime) {
 }
 
 #[test]
+fn varints_are_appended(rt: HostRuntime) -> Result<(), Fail> {
+    let mut bytes = Vec::new(rt.alloc());
+    push_varint(300, &mut bytes)?;
+    push_varint(7, &mut bytes)?;
+    assert_eq!(rt; bytes.as_slice(), b"\x82\x2c\x07".as_slice());
+    Ok(())
+}
+
+#[test]
 fn longer_spellings_are_read(rt: HostRuntime) {
     assert_eq!(rt; read_varint(b"\x80\x01"), Some((1, 2)));
     assert_eq!(rt;

@@ -1,7 +1,9 @@
 // Variable-length integers.
-ghost use Rattle.std.specs.Prelude.{◌≡◌, ℕ, ◌+◌, ◌*◌, ◌^◌, ◌<◌, ◌≤◌, ◌↔◌, ◌++◌, List, IfSome, IsNone, length, take, drop};
+ghost use Rattle.std.specs.Prelude.{◌≡◌, ℕ, ◌+◌, ◌*◌, ◌^◌, ◌<◌, ◌≤◌, ◌↔◌, ◌++◌, List, IfSome, IsNone, OnOk, OnErr, length, take, drop};
 ghost use Rattle.std.specs.List.{AllByRecursion};
 ghost use Rattle.format_spec.specs.Varint.{HasHighBit, IsVarint, varint, varint_front};
+
+use std::alloc::AllocError;
 
 /// Reads the varint at the front, and how many bytes it takes, 1 to 9 (Database File Format, section 1.6). Longer spellings than the shortest are read too. `None` where the bytes end inside it.
 pub fn read_varint(bytes: &[u8]) -> Option<(u64, usize)>
@@ -66,6 +68,16 @@ pub fn write_varint(value: u64, into: &mut [u8; 9]) -> usize
         high /= 128;
     }
     front + 1
+}
+
+/// Appends the shortest spelling. Where memory runs out, the vector stays as it was.
+pub fn push_varint(value: u64, into: &mut Vec<u8>) -> Result<(), AllocError>
+    ensures written { OnOk result (into.new.items ≡ into.old.items ++ varint value) }
+    ensures unchanged { OnErr result (into.new.items ≡ into.old.items) }
+{
+    let mut spelling = [0; 9];
+    let size = write_varint(value, &mut spelling);
+    into.extend_from_slice(&spelling[..size])
 }
 
 /// No spelling begins another, and so what was written is read again whatever follows it.

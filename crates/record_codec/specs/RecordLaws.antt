@@ -11,7 +11,7 @@ use Rattle.rbu_value.specs.declared.value.Value.{Value}
 use Rattle.rbu_value.specs.declared.value.Value.TheVariants.{Null, Int, Text, Blob}
 use Rattle.format_spec.specs.Varint.{IsVarint, varint, varint_front}
 use Rattle.format_spec.specs.Record.{int_type, int_size, int_body, serial_type, body, header_size_bytes, serial_types, record_header, canonical_record, IsField, AreFields, IsRecord}
-use Rattle.cell_codec.specs.VarintLaws.{same_varint, spelling_one_to_nine, varint_size, varint_spells}
+use Rattle.cell_codec.specs.VarintLaws.{same_varint, spelling_one_to_nine, varint_size, varint_spells, varint_one_to_nine}
 use Rattle.format_spec.specs.Parts.{same_parts}
 use Rattle.record_codec.specs.Faults.{body_size}
 use Rattle.record_codec.specs.Integers.{IsFormOf, shortest_form, int_body_is, int_body_none}
@@ -200,6 +200,22 @@ size_takes n =
     let least = (front_between (n + 5)).5 large in
     let most : n + 5 < 2 ^ 35 = omega (arith, short, varint_size (n + 5), least) in
     omega (arith, varint_size (n + 5), (front_between (n + 5)).4 large most)))))
+
+-- the size of a header says so, where the serial types take fewer than 2 ^ 34 bytes
+pub header_size : (n : ℕ) → n < 2 ^ 34 → length (varint (n + header_size_bytes n)) ≡ header_size_bytes n
+unfolding SizeTakes
+header_size n h =
+    let most : header_size_bytes n ≤ 5 = grind (arith, nat_tests) in
+    size_takes n (omega (arith, varint_one_to_nine (n + header_size_bytes n) (omega (arith, most))))
+
+-- the length of a record
+pub record_size : (format : ℕ) (values : List Value) → length (canonical_record format values)
+    ≡ length (varint (length (serial_types format values) + header_size_bytes (length (serial_types format values)))) + length (serial_types format values) + length (flat_map (body format) values)
+unfolding canonical_record
+record_size format values =
+    let types = serial_types format values in
+    let size = varint (length types + header_size_bytes (length types)) in
+    omega (arith, length-append (size ++ types) (flat_map (body format) values), length-append size types)
 
 -- the canonical record of values is a record of them
 pub canonical_record_read : (format : ℕ) (values : List Value) → HaveRecord format values → IsRecord (canonical_record format values) values

@@ -1,12 +1,11 @@
 // Writes canonical records.
 ghost use Rattle.std.specs.Prelude.{◌≡◌, ◌+◌, ◌*◌, ◌≤◌, ◌++◌, IfOk, OnOk, length};
 ghost use Rattle.std.specs.List.{flat_map};
-ghost use Rattle.format_spec.specs.Varint.{varint};
 ghost use Rattle.format_spec.specs.Record.{int_type as shortest_type, int_serial_type as type_of_int, int_body, serial_type as type_of, header_size_bytes as size_bytes, serial_types, record_header, body, canonical_record};
 ghost use Rattle.record_codec.specs.Faults.{body_size as size_of};
 
 use byteorder::{BigEndian, ByteOrder};
-use cell_codec::{varint_length, write_varint};
+use cell_codec::{push_varint, varint_length};
 use rbu_value::Value;
 use std::alloc::{AllocError, Global};
 
@@ -91,15 +90,6 @@ fn header_size_bytes(types: usize) -> usize
         0x1f_fffd..=0xfff_fffb => 4,
         _ => 5,
     }
-}
-
-// Appends a number's shortest varint.
-fn push_varint(value: u64, into: &mut Vec<u8>) -> Result<(), AllocError>
-    ensures { OnOk result (into.new.items ≡ into.old.items ++ varint value) }
-{
-    let mut spelling = [0; 9];
-    let size = write_varint(value, &mut spelling);
-    into.extend_from_slice(&spelling[..size])
 }
 
 // Appends the header of the canonical record.

@@ -2,21 +2,15 @@
 use Rattle.std.proofs.Common.{◌≡◌, ℕ, ◌≤◌, ℤ, List, [], ◌++◌, length, ap, length-append, arith, refl, sym, ◌∙◌, Option, Some, None, IfSome, IfNone, MatchOption, FitsSigned}
 use Rattle.std.specs.Int.{w64}
 use Rattle.std.specs.declared.alloc.AllocError.{AllocError}
-use Rattle.std.specs.List.{flat_map}
 use Rattle.rbu_value.specs.declared.value.Value.{Value}
 use Rattle.rbu_value.specs.declared.value.Value.TheVariants.{Null, Int, Text, Blob}
-use Rattle.format_spec.specs.Record.{body, int_body, int_serial_type, record_header, canonical_record}
-use Rattle.record_codec.specs.RecordLaws.{IsStored, HaveRecord, short_record}
+use Rattle.format_spec.specs.Record.{body, int_body, int_serial_type, canonical_record}
+use Rattle.record_codec.specs.RecordLaws.{IsStored, HaveRecord, record_size, short_record}
 use Rattle.record_codec.specs.declared.read.RecordFault.{RecordFault}
 use Rattle.record_codec.specs.declared.read.RecordFault.TheVariants.{ShortHeader, ReservedType, RealValue, BodyLength, Memory}
 use Rattle.record_codec.specs.Faults.{IsMemory}
 use Rattle.update_spec.specs.SmallFile.{IsNullOrText}
 use Rattle.small_file.specs.Records.{target_values, prepared_values}
-
--- a record's bodies are no longer than the record
-bodies_within : (values : List Value) → length (flat_map (body 4) values) ≤ length (canonical_record 4 values)
-unfolding canonical_record
-bodies_within values = omega (arith, length-append (record_header 4 values) (flat_map (body 4) values))
 
 stored : (value : Value) → IsNullOrText value → length (body 4 value) ≤ 4096 → IsStored value
 stored Null p h = tt
@@ -27,7 +21,7 @@ stored (Blob bytes) p h = absurd p
 -- the values of a payload of a page are ones that have a record
 pub have_target : (payload : List ℕ) (value : Value) → length payload ≤ 4096 → IsNullOrText value → payload ≡ canonical_record 4 (target_values value) → HaveRecord 4 (target_values value)
 have_target payload value h p e =
-    let within = bodies_within (target_values value) in
+    let within = record_size 4 (target_values value) in
     let short : length (canonical_record 4 (target_values value)) ≤ 4096 = omega (arith, ap length e, h) in
     let body_short : length (body 4 value) ≤ 4096 = omega (arith, within, short, length-append (body 4 value) []) in
     short_record 4 (target_values value) (tt, (stored value p body_short, tt)) (omega (arith, short))
@@ -36,7 +30,7 @@ pub have_prepared : (payload : List ℕ) (key : ℤ) (value : Value) → length 
     → HaveRecord 4 (prepared_values key value)
 have_prepared payload key value h f p e =
     let own = int_body (int_serial_type 4 key) key in
-    let within = bodies_within (prepared_values key value) in
+    let within = record_size 4 (prepared_values key value) in
     let short : length (canonical_record 4 (prepared_values key value)) ≤ 4096 = omega (arith, ap length e, h) in
     let body_short : length (body 4 value) ≤ 4096 = omega (arith, within, short, length-append own (body 4 value ++ []), length-append (body 4 value) []) in
     short_record 4 (prepared_values key value) (f, (stored value p body_short, (record { sfits = omega arith }, tt))) (omega (arith, short))

@@ -1,14 +1,14 @@
 -- The target after the update is a small target again.
-use Rattle.std.proofs.Common.{◌≡◌, ℕ, ◌+◌, ◌-◌, ◌*◌, ◌^◌, ◌<◌, ◌≤◌, ◌⊎◌, List, [], ◌∷◌, ◌++◌, length, take, drop, replicate, map, get_or, refl, sym, ap, ◌∙◌, subst, arith, inl, inr, ℤ, pos, codes}
+use Rattle.std.proofs.Common.{◌≡◌, ℕ, ◌+◌, ◌-◌, ◌*◌, ◌<◌, ◌≤◌, ◌⊎◌, List, [], ◌∷◌, ◌++◌, length, take, drop, replicate, map, get_or, refl, sym, ap, ◌∙◌, subst, arith, inl, inr, ℤ, pos, codes}
 use Rattle.std.proofs.lemmas.List.{append-nil, length-append, length-map, length-take, length-take-le, length-drop, take_at, drop_at, take_all, take-take, take-append-drop, take-append-le, drop-append-le, get_or-map}
 use Rattle.std.proofs.lemmas.List.Elements.{All-append, All-map}
 use Rattle.std.proofs.lemmas.List.Sorted.{All-permutation}
-use Rattle.std.specs.List.{All, flat_map}
+use Rattle.std.specs.List.{All}
 use Rattle.std.proofs.lemmas.Bool.Decides.{nat_tests}
 use Rattle.std.specs.Int.{w64}
 use Rattle.std.specs.Int.RustNames.{FitsSigned}
 use Rattle.rbu_value.specs.declared.value.Value.{Value}
-use Rattle.rbu_value.specs.declared.value.Value.TheVariants.{Null, Int, Text, Blob}
+use Rattle.rbu_value.specs.declared.value.Value.TheVariants.{Null, Int}
 use Rattle.byteorder.specs.Endian.{big_number}
 use Rattle.byteorder.specs.Numbers.{big_from-append}
 use Rattle.format_spec.specs.declared.PageKind.TheVariants.{TableLeaf}
@@ -19,14 +19,14 @@ use Rattle.format_spec.specs.Record.{body, canonical_record, serial_type, header
 use Rattle.format_spec.specs.Cell.{IsCell}
 use Rattle.format_spec.specs.Page.{IsPage, packed_leaf}
 use Rattle.cell_codec.specs.Cells.{whole_cell}
-use Rattle.cell_codec.specs.VarintLaws.{varint_size, varint_one_to_nine}
+use Rattle.cell_codec.specs.VarintLaws.{varint_size}
 use Rattle.cell_codec.specs.CellLaws.{whole_cell_read, whole_cell_payload, cell_parts, local_at_bounds, local_size_room}
+use Rattle.record_codec.specs.RecordLaws.{header_size, record_size}
 use Rattle.update_spec.specs.declared.TargetRow.{TargetRow}
 use Rattle.update_spec.specs.declared.PreparedRow.{PreparedRow}
-use Rattle.update_spec.specs.SmallFile.{IsSmallHeader, IsSmall, IsSmallTarget, IsSmallRbu, IsRowCell, IsNullOrText, IsTargetRow, IsPreparedRow}
+use Rattle.update_spec.specs.SmallFile.{IsSmallHeader, IsSmall, IsSmallTarget, IsSmallRbu, IsRowCell, IsTargetRow, IsPreparedRow}
 use Rattle.update_spec.specs.Outcome.{inserted, all_rows, page_room, IsMerged, new_first_page, new_pages}
 use Rattle.small_update.proofs.Leaf.{content, page_room_is}
-use Rattle.small_update.proofs.Rows.{small_header}
 use Rattle.small_update.proofs.Whole.{first_page}
 use Rattle.small_update.proofs.Page.{is_page, length-packed_leaf}
 use Rattle.small_update.proofs.FirstPage.{length-new_first_page, field_kept, valid_again, front_kept, back_kept, same_page}
@@ -34,66 +34,51 @@ use Rattle.small_update.proofs.FirstPage.{length-new_first_page, field_kept, val
 -- ---- rows
 
 -- a record that lies in its cell whole is short
-short_record : (cell : List ℕ) (rowid : ℤ) (values : List Value) → IsRowCell cell rowid values → length (canonical_record 4 values) + 35 ≤ 4096
-short_record cell rowid values row =
+record_within : (cell : List ℕ) (rowid : ℤ) (values : List Value) → IsRowCell cell rowid values → length (canonical_record 4 values) + 35 ≤ 4096
+record_within cell rowid values row =
     let within = local_size_room TableLeaf 4096 row.view.payload (omega arith) in
     let local = row.is_cell.local in
     omega (arith, ap length row.record_is, length-take row.view.local (drop row.view.local_at cell), within, local)
 
--- the length of a record
-record_size : (values : List Value) → length (canonical_record 4 values)
-    ≡ length (varint (length (serial_types 4 values) + header_size_bytes (length (serial_types 4 values)))) + length (serial_types 4 values) + length (flat_map (body 4) values)
-unfolding canonical_record
-record_size values =
-    let types = serial_types 4 values in
-    let size = varint (length types + header_size_bytes (length types)) in
-    omega (arith, length-append (size ++ types) (flat_map (body 4) values), length-append size types)
+-- more serial types have no shorter size
+size_grows : (m n : ℕ) → m ≤ n → header_size_bytes m ≤ header_size_bytes n
+size_grows m n h = grind (arith, nat_tests)
 
-varint_one : (x : ℕ) → x < 128 → length (varint x) ≡ 1
+zero_byte : length (varint 0) ≡ 1
 unfolding varint_front
-varint_one x h = varint_size x ∙ grind (arith, nat_tests)
-
-type_fits : (value : Value) → IsNullOrText value → length (body 4 value) ≤ 4096 → serial_type 4 value < 2 ^ 64
-type_fits Null h small = omega arith
-type_fits (Int z) h small = absurd h
-type_fits (Text text) h small = omega arith
-type_fits (Blob bytes) h small = absurd h
+zero_byte = varint_size 0
 
 -- the record of NULL and a value is no longer than one of three values with it
-shorter_record : (x value z : Value) → IsNullOrText value → length (canonical_record 4 (x ∷ value ∷ z ∷ [])) ≤ 4096
+shorter_record : (x value z : Value) → length (canonical_record 4 (x ∷ value ∷ z ∷ [])) ≤ 4096
     → length (canonical_record 4 (Null ∷ value ∷ [])) ≤ length (canonical_record 4 (x ∷ value ∷ z ∷ []))
-shorter_record x value z h small =
-    let t = serial_type 4 value in
-    let types : List ℕ = varint 0 ++ (varint t ++ []) in
-    let three : List ℕ = varint (serial_type 4 x) ++ (varint t ++ (varint (serial_type 4 z) ++ [])) in
-    let bodies : List ℕ = body 4 x ++ (body 4 value ++ (body 4 z ++ [])) in
-    let one = record_size (Null ∷ value ∷ []) in
-    let other = record_size (x ∷ value ∷ z ∷ []) in
-    let body_one : length (body 4 value ++ []) ≡ length (body 4 value) = ap length (append-nil (body 4 value)) in
-    let body_other : length (body 4 value) ≤ length bodies = omega (arith, length-append (body 4 x) (body 4 value ++ (body 4 z ++ [])), length-append (body 4 value) (body 4 z ++ [])) in
-    let spelled = varint_one_to_nine t (type_fits value h (omega arith)) in
-    let zero_byte = varint_one 0 (omega arith) in
-    let two_types : length types ≡ 1 + length (varint t) = omega (arith, length-append (varint 0) (varint t ++ []), ap length (append-nil (varint t))) in
-    let three_types : length types + 1 ≤ length three =
+shorter_record x value z small =
+    let t = varint (serial_type 4 value) in
+    let last = varint (serial_type 4 z) in
+    let two = length (serial_types 4 (Null ∷ value ∷ [])) in
+    let three = length (serial_types 4 (x ∷ value ∷ z ∷ [])) in
+    let one = record_size 4 (Null ∷ value ∷ []) in
+    let other = record_size 4 (x ∷ value ∷ z ∷ []) in
+    let bodies : length (body 4 value ++ []) ≤ length (body 4 x ++ (body 4 value ++ (body 4 z ++ []))) =
+    omega (arith, length-append (body 4 x) (body 4 value ++ (body 4 z ++ [])), length-append (body 4 value) (body 4 z ++ []), length-append (body 4 value) []) in
+    let types : two ≤ three =
     omega (
       arith,
-      length-append (varint (serial_type 4 x)) (varint t ++ (varint (serial_type 4 z) ++ [])),
-      length-append (varint t) (varint (serial_type 4 z) ++ []),
-      ap length (append-nil (varint (serial_type 4 z))),
+      length-append (varint 0) (t ++ []),
+      length-append t [],
+      length-append (varint (serial_type 4 x)) (t ++ (last ++ [])),
+      length-append t (last ++ []),
       varint_size (serial_type 4 x),
-      varint_size (serial_type 4 z),
+      zero_byte,
     ) in
-    let header : header_size_bytes (length types) ≡ 1 = small_header (length types) (omega arith) in
-    let first = varint_one (length types + header_size_bytes (length types)) (omega arith) in
-    let last = varint_size (length three + header_size_bytes (length three)) in
-    omega arith
+    let most : three ≤ 4096 = omega (arith, other, small) in
+    omega (arith, one, other, bodies, types, header_size two (omega arith), header_size three (omega arith), size_grows two three types)
 
 -- a row that a prepared insert makes
 inserted_row : (cell : List ℕ) (row : PreparedRow) → FitsSigned w64 row.key → IsPreparedRow cell row → IsTargetRow (inserted row)
 inserted_row cell row fits p =
     let payload = canonical_record 4 (Null ∷ row.value ∷ []) in
-    let short = short_record cell row.data_rowid (Int row.key ∷ row.value ∷ Int (pos 0) ∷ []) p.1 in
-    let shorter = shorter_record (Int row.key) row.value (Int (pos 0)) p.0 (omega (arith, short)) in
+    let short = record_within cell row.data_rowid (Int row.key ∷ row.value ∷ Int (pos 0) ∷ []) p.1 in
+    let shorter = shorter_record (Int row.key) row.value (Int (pos 0)) (omega (arith, short)) in
     let most : length payload ≤ 4096 - 35 = omega (arith, short, shorter) in (
       row.value,
       p.0,
@@ -112,7 +97,7 @@ leaf_cell row r =
     let values = Null ∷ r.0 ∷ [] in
     let view = r.2.view in
     let types : List ℕ = varint 0 ++ (varint (serial_type 4 r.0) ++ []) in
-    let size = record_size values in
+    let size = record_size 4 values in
     let front = varint_size (length types + header_size_bytes (length types)) in
     let within : length (canonical_record 4 values) ≤ view.local = omega (arith, ap length r.2.record_is, length-take view.local (drop view.local_at row.cell)) in
     let parts = cell_parts 4096 row.cell view r.2.is_cell in

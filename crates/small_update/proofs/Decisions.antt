@@ -101,9 +101,8 @@ shared prepared sorted rows b moves says is some =
     SharesKey-permutation prepared sorted moves (subst (λ (x : List PreparedRow). SharesKey x) is (says.0 some))
 
 -- all rows take the same room in any order
-pub same_room : (old : List TargetRow) (prepared sorted rows : List PreparedRow) → IsPermutation prepared sorted → rows ≡ sorted → page_room (all_rows old rows) ≡ page_room (all_rows old prepared)
-same_room old prepared sorted rows moves is =
-    ap (λ (x : List PreparedRow). page_room (all_rows old x)) is ∙ page_room-permutation (all_rows old prepared) (all_rows old sorted) (all_rows-permutation old prepared sorted moves)
+pub same_room : (old : List TargetRow) (prepared sorted : List PreparedRow) → IsPermutation prepared sorted → page_room (all_rows old sorted) ≡ page_room (all_rows old prepared)
+same_room old prepared sorted moves = page_room-permutation (all_rows old prepared) (all_rows old sorted) (all_rows-permutation old prepared sorted moves)
 
 -- a test of a bound that is not met
 pub over_bound : (b : Bool) (n most : ℕ) → (IsTrue b ↔ (n ≤ most)) → b ≡ false → most < n

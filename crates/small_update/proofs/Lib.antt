@@ -4,5 +4,4 @@ pub mod Whole
 pub mod Page
 pub mod FirstPage
 pub mod Again
-pub mod Rows
 pub mod Decisions

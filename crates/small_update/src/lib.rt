@@ -13,7 +13,7 @@ mod laws;
 mod merge;
 mod pages;
 
-use insert::{has_long_value, with_inserted};
+use insert::with_inserted;
 pub use laws::{packed_leaf_is_page, update_leaves_small_target};
 use merge::{first_present, shares_key, sort_by_key, sort_by_rowid};
 use pages::fits_page;
@@ -48,11 +48,8 @@ pub fn decide(
     if shares_key(&prepared) {
         return Ok(Decision::SharedKey);
     }
-    if has_long_value(&prepared) {
-        return Ok(Decision::NoRoom);
-    }
     let present = first_present(&old, &prepared);
-    let mut rows = with_inserted(alloc, old, &prepared)?;
+    let mut rows = with_inserted(alloc, old, prepared)?;
     if !fits_page(&rows) {
         return Ok(Decision::NoRoom);
     }

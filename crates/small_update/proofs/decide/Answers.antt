@@ -1,11 +1,7 @@
 use Rattle.std.proofs.Common.{◌≡◌, List, ap, subst, ◌∙◌, sym, arith, rules, SFits, w64}
 use Rattle.std.proofs.lemmas.Int.{to_z-of_z}
-use Rattle.std.proofs.lemmas.List.Sorted.{All-permutation}
-use Rattle.std.specs.List.{All}
 use Rattle.std.specs.List.Sorted.{IsPermutation}
 use Rattle.update_spec.specs.declared.TargetRow.{TargetRow}
-use Rattle.update_spec.specs.declared.PreparedRow.{PreparedRow}
-use Rattle.update_spec.specs.SmallFile.{IsNullOrText}
 use Rattle.update_spec.specs.Outcome.{all_rows, page_room, IsFirstPresent}
 use Rattle.update_spec.specs.Answer.{NonePresent}
 use Rattle.small_update.proofs.Decisions.{unshared, shared, same_room, over_bound, merged, IsFirstPresent-permutation, NonePresent-permutation, page_room-permutation}
@@ -14,29 +10,12 @@ use Rattle.small_update.proofs.decide.Goals as goal
 pub returns-then-shares_key : goal.returns-then-shares_key
 returns-then-shares_key c = shared c.args.prepared.items c.sort_by_key.new.rows.items c.deref.result.now c.shares_key.result c.sort_by_key.ensures.same c.shares_key.ensures c.deref.ensures.value c.if-shares_key.true
 
-pub has_long_value-requires : goal.has_long_value-requires
-has_long_value-requires c =
-    let P = λ (row : PreparedRow). IsNullOrText row.value in
-    subst (λ (rows : List PreparedRow). All P rows) (sym c.deref-2.ensures.value) (All-permutation P c.args.prepared.items c.sort_by_key.new.rows.items c.sort_by_key.ensures.same c.requires.values)
-
-pub returns-then-has_long_value : goal.returns-then-has_long_value
-returns-then-has_long_value c =
-    let none = unshared c.args.prepared.items c.sort_by_key.new.rows.items c.deref.result.now c.shares_key.result c.sort_by_key.ensures.same c.shares_key.ensures c.deref.ensures.value c.if-shares_key.false in
-    let same = same_room c.args.old.items c.args.prepared.items c.sort_by_key.new.rows.items c.deref-2.result.now c.sort_by_key.ensures.same c.deref-2.ensures.value in
-    let long = c.if-has_long_value.ensures.long c.args.old.items in
-    (none.1, omega (arith, same, long))
-
-pub with_inserted-requires-clause-null_or_text : goal.with_inserted-requires-clause-null_or_text
-with_inserted-requires-clause-null_or_text c =
-    let P = λ (row : PreparedRow). IsNullOrText row.value in
-    subst (λ (rows : List PreparedRow). All P rows) (sym c.deref-5.ensures.value) (All-permutation P c.args.prepared.items c.sort_by_key.new.rows.items c.sort_by_key.ensures.same c.requires.values)
-
 pub returns-then-not-fits_page : goal.returns-then-not-fits_page
 returns-then-not-fits_page c =
     let none = unshared c.args.prepared.items c.sort_by_key.new.rows.items c.deref.result.now c.shares_key.result c.sort_by_key.ensures.same c.shares_key.ensures c.deref.ensures.value c.if-shares_key.false in
-    let same = same_room c.args.old.items c.args.prepared.items c.sort_by_key.new.rows.items c.deref-5.result.now c.sort_by_key.ensures.same c.deref-5.ensures.value in
-    let over = over_bound c.fits_page.result (page_room c.deref-6.result.now) 4096 c.fits_page.ensures c.if-not-fits_page.true in
-    let rows = ap (λ (x : List TargetRow). page_room x) (c.deref-6.ensures.value ∙ c.in_ok-rows.ensures) in
+    let same = same_room c.args.old.items c.args.prepared.items c.sort_by_key.new.rows.items c.sort_by_key.ensures.same in
+    let over = over_bound c.fits_page.result (page_room c.deref-4.result.now) 4096 c.fits_page.ensures c.if-not-fits_page.true in
+    let rows = ap (λ (x : List TargetRow). page_room x) (c.deref-4.ensures.value ∙ c.in_ok-rows.ensures) in
     (none.1, omega (arith, same, over, rows))
 
 pub returns-in-Some : goal.returns-in-Some
@@ -44,11 +23,11 @@ returns-in-Some c =
     let old = c.args.old.items in
     let sorted = c.sort_by_key.new.rows.items in
     let none = unshared c.args.prepared.items sorted c.deref.result.now c.shares_key.result c.sort_by_key.ensures.same c.shares_key.ensures c.deref.ensures.value c.if-shares_key.false in
-    let same = same_room old c.args.prepared.items sorted c.deref-5.result.now c.sort_by_key.ensures.same c.deref-5.ensures.value in
+    let same = same_room old c.args.prepared.items sorted c.sort_by_key.ensures.same in
     let room = c.fits_page.ensures.0 c.if-not-fits_page.false in
-    let rows = ap (λ (x : List TargetRow). page_room x) (c.deref-6.ensures.value ∙ c.in_ok-rows.ensures) in
+    let rows = ap (λ (x : List TargetRow). page_room x) (c.deref-4.ensures.value ∙ c.in_ok-rows.ensures) in
     let found = c.in-Some.ensures.present in
-    let first : IsFirstPresent old sorted found.0 = rw (← c.deref-3.ensures.value, ← c.deref-4.ensures.value) found.1 in
+    let first : IsFirstPresent old sorted found.0 = rw (← c.deref-2.ensures.value, ← c.deref-3.ensures.value) found.1 in
     let fits : SFits w64 c.in-Some.data_rowid = search rules in
     (none.1, omega (arith, same, room, rows), (found.0, IsFirstPresent-permutation old c.args.prepared.items sorted found.0 c.sort_by_key.ensures.same first, found.2 ∙ sym (to_z-of_z w64 c.in-Some.data_rowid fits)))
 
@@ -61,14 +40,14 @@ returns c =
     let merged_rows = c.sort_by_rowid.new.rows.items in
     let moves = c.sort_by_key.ensures.same in
     let none = unshared prepared sorted c.deref.result.now c.shares_key.result moves c.shares_key.ensures c.deref.ensures.value c.if-shares_key.false in
-    let same = same_room old prepared sorted c.deref-5.result.now moves c.deref-5.ensures.value in
+    let same = same_room old prepared sorted moves in
     let room = c.fits_page.ensures.0 c.if-not-fits_page.false in
-    let rows = ap (λ (x : List TargetRow). page_room x) (c.deref-6.ensures.value ∙ c.in_ok-rows.ensures) in
-    let absent : NonePresent old sorted = rw (← c.deref-3.ensures.value, ← c.deref-4.ensures.value) c.in_default.ensures.none in
-    let whole : all ≡ all_rows old sorted = c.in_ok-rows.ensures ∙ ap (all_rows old) c.deref-5.ensures.value in
+    let rows = ap (λ (x : List TargetRow). page_room x) (c.deref-4.ensures.value ∙ c.in_ok-rows.ensures) in
+    let absent : NonePresent old sorted = rw (← c.deref-2.ensures.value, ← c.deref-3.ensures.value) c.in_default.ensures.none in
+    let whole : all ≡ all_rows old sorted = c.in_ok-rows.ensures in
     let moved : IsPermutation (all_rows old sorted) merged_rows = subst (λ (x : List TargetRow). IsPermutation x merged_rows) whole c.sort_by_rowid.ensures.same in
     let last = page_room-permutation all merged_rows c.sort_by_rowid.ensures.same in
-    let at = ap (λ (x : List TargetRow). page_room x) c.deref-6.ensures.value in (
+    let at = ap (λ (x : List TargetRow). page_room x) c.deref-4.ensures.value in (
       none.1,
       omega (arith, same, room, rows),
       NonePresent-permutation old prepared sorted moves absent,

@@ -4,8 +4,7 @@
 #![tactic(auto)]
 
 ghost use Rattle.std.specs.Prelude.{IfOk, map};
-ghost use Rattle.std.specs.List.{All};
-ghost use Rattle.update_spec.specs.SmallFile.{IsRising, IsNullOrText};
+ghost use Rattle.update_spec.specs.SmallFile.{IsRising};
 ghost use Rattle.small_update.specs.Decision.{Decides};
 
 mod insert;
@@ -34,14 +33,13 @@ pub enum Decision {
     Merged(Vec<TargetRow>),
 }
 
-/// Decides what prepared rows, each of which has NULL or a text beside its key, make of a table's old rows, which are in order of their rowids.
+/// Decides what prepared rows make of a table's old rows, which are in order of their rowids.
 pub fn decide(
     alloc: Global,
     old: Vec<TargetRow>,
     mut prepared: Vec<PreparedRow>,
 ) -> Result<Decision, AllocError>
     requires rising { IsRising (map (λ row. row.rowid) old.items) }
-    requires values { All (λ row. IsNullOrText row.value) prepared.items }
     ensures { IfOk result (Decides old.items prepared.items) }
 {
     sort_by_key(&mut prepared)?;

@@ -18,9 +18,6 @@ use Rattle.rbu_run.proofs.Others.{others-same}
 use Rattle.rbu_run.proofs.Finishes.{kept, before, only-outcome, finished, stopped, log-small, log-kept}
 use Rattle.rbu_run.proofs.update.finish.Goals as goal
 
-pub decide-requires-clause-values : goal.decide-requires-clause-values
-decide-requires-clause-values g c k d h = (c.requires.rbu.1.each k d h).0
-
 pub returns-in-SharedKey-clause-outcome : goal.returns-in-SharedKey-clause-outcome
 returns-in-SharedKey-clause-outcome g c =
     let shares : SharesKey c.args.prepared.items = rw c.in-SharedKey.is at c.in_ok-decide.ensures in

@@ -388,41 +388,42 @@ fn failing_output_leaves_the_files_of_the_command(rt: HostRuntime) -> Result<(),
     Ok(())
 }
 
-const NO_COMMAND: &[&[&str]] = &[
-    &["apply", "0"],
-    &["apply", "+1"],
-    &["apply", "-1"],
-    &["apply", " 1"],
-    &["apply", ""],
-    &["apply", "4294967296"],
-    &["apply", "01"],
-    &["apply", "04294967295"],
-    &["apply"],
-    &["apply", "1", "2"],
-    &["Apply", "1"],
-    &["dump"],
-    &[],
-    &["state", "x"],
-    &["make", "0", "1"],
-    &["make", "200001", "0"],
-    &["make", "1", "4294967296"],
-    &["trial", "1", "2"],
-    &["beside", "17", "1"],
-    &["beside", "1", "1001"],
-    &["nope"],
+// Words, each behind a bar.
+const NO_COMMAND: &[&str] = &[
+    "",
+    "|apply|0",
+    "|apply|+1",
+    "|apply|-1",
+    "|apply| 1",
+    "|apply|",
+    "|apply|4294967296",
+    "|apply|01",
+    "|apply|04294967295",
+    "|apply",
+    "|apply|1|2",
+    "|Apply|1",
+    "|dump",
+    "|state|x",
+    "|make|0|1",
+    "|make|200001|0",
+    "|make|1|4294967296",
+    "|trial|1|2",
+    "|beside|17|1",
+    "|beside|1|1001",
+    "|nope",
 ];
 
-const NOT_BUILT: &[&[&str]] = &[
-    &["apply", "1"],
-    &["apply", "4294967294"],
-    &["dump", "NAME"],
-    &["dump", ""],
-    &["check"],
-    &["state"],
-    &["make", "1", "0"],
-    &["make", "200000", "4294967295"],
-    &["trial", "20", "7", "5"],
-    &["beside", "16", "1000"],
+const NOT_BUILT: &[&str] = &[
+    "|apply|1",
+    "|apply|4294967294",
+    "|dump|NAME",
+    "|dump|",
+    "|check",
+    "|state",
+    "|make|1|0",
+    "|make|200000|4294967295",
+    "|trial|20|7|5",
+    "|beside|16|1000",
 ];
 
 // The words are answered by this status and line, though the first call on the disk is to fail: it is not made.
@@ -430,11 +431,15 @@ fn assert_judged(
     rt: &impl Abort,
     alloc: Global,
     before: &MemoryDisk,
-    words: &[&str],
+    line_of_words: &str,
     status: u8,
     line: &str,
 ) -> Result<(), AllocError> {
-    let left = run_with_faults(alloc, words, before, &[0], &[])?;
+    let mut words = Vec::new(alloc);
+    for word in line_of_words.split('|').skip(1) {
+        words.push(word)?;
+    }
+    let left = run_with_faults(alloc, &words, before, &[0], &[])?;
     assert_ends(rt, &left, status, line);
     assert_same_files(rt, &left, before, line);
     Ok(())

@@ -12,7 +12,7 @@ use Rattle.format_spec.specs.declared.PageKind.{PageKind}
 use Rattle.format_spec.specs.declared.PageKind.TheVariants.{IndexInterior, TableInterior, IndexLeaf, TableLeaf}
 use Rattle.format_spec.specs.declared.CellView.{CellView}
 use Rattle.format_spec.specs.Varint.{varint}
-use Rattle.format_spec.specs.Parts.{same_parts}
+use Rattle.byte_fields.specs.BytesLaws.{append-same}
 use Rattle.format_spec.specs.Cell.{IsCell, IsTableLeafCell, IsTableInteriorCell, IsIndexCell, payload_limit, max_local, min_local, fitted_local, local_size, child_size, overflow_size, cell_bytes, index_cell_bytes, table_leaf_cell}
 use Rattle.cell_codec.specs.VarintLaws.{spelling_one_to_nine, same_varint, varint_spells}
 use Rattle.cell_codec.specs.Cells.{BeginsWithCell, IsWritable, whole_cell, interior_cell, whole_index_cell}
@@ -45,9 +45,9 @@ same_table_leaf_cell {usable} {a} {b} {c} {d} x y v w e =
     let rowid : v.rowid_number ≡ w.rowid_number = rowids.1 in
     let rest = append_cancel_left _ _ _ (ap (λ s. s ++ (v.local_bytes ++ (v.overflow_bytes ++ x))) (sym q) ∙ behind) in
     let local : c.local ≡ d.local = v.local ∙ ap (local_size TableLeaf usable) payload ∙ sym w.local in
-    let locals = same_parts v.local_bytes w.local_bytes _ _ (v.local_length ∙ local ∙ sym w.local_length) rest in
+    let locals = append-same v.local_bytes w.local_bytes _ _ (v.local_length ∙ local ∙ sym w.local_length) rest in
     let over : length v.overflow_bytes ≡ length w.overflow_bytes = v.overflow_length ∙ ap (λ n. overflow_size n c.payload) local ∙ ap (overflow_size d.local) payload ∙ sym w.overflow_length in
-    let overflows = same_parts v.overflow_bytes w.overflow_bytes x y over locals.1 in
+    let overflows = append-same v.overflow_bytes w.overflow_bytes x y over locals.1 in
     let r : v.local_bytes ≡ w.local_bytes = locals.0 in
     let s : v.overflow_bytes ≡ w.overflow_bytes = overflows.0 in
     let bytes : a ≡ b =
@@ -69,7 +69,7 @@ pub same_table_interior_cell : {a b : List ℕ} {c d : CellView} (x y : List ℕ
 same_table_interior_cell {a} {b} {c} {d} x y v w e =
     let left = ap (λ s. s ++ x) v.whole ∙ append_assoc v.child_bytes v.rowid_bytes x in
     let right = ap (λ s. s ++ y) w.whole ∙ append_assoc w.child_bytes w.rowid_bytes y in
-    let children = same_parts v.child_bytes w.child_bytes (v.rowid_bytes ++ x) (w.rowid_bytes ++ y) (v.child_length ∙ sym w.child_length) (sym left ∙ e ∙ right) in
+    let children = append-same v.child_bytes w.child_bytes (v.rowid_bytes ++ x) (w.rowid_bytes ++ y) (v.child_length ∙ sym w.child_length) (sym left ∙ e ∙ right) in
     let p : v.child_bytes ≡ w.child_bytes = children.0 in
     let rowids = same_varint x y v.rowid_varint w.rowid_varint children.1 in
     let q : v.rowid_bytes ≡ w.rowid_bytes = rowids.0 in
@@ -90,16 +90,16 @@ pub same_index_cell : {kind : PageKind} {usable : ℕ} {a b : List ℕ} {c d : C
 same_index_cell {kind} {usable} {a} {b} {c} {d} x y v w e =
     let left = ap (λ s. s ++ x) v.whole ∙ regroup v.child_bytes v.payload_bytes v.local_bytes v.overflow_bytes x in
     let right = ap (λ s. s ++ y) w.whole ∙ regroup w.child_bytes w.payload_bytes w.local_bytes w.overflow_bytes y in
-    let children = same_parts v.child_bytes w.child_bytes _ _ (v.child_length ∙ sym w.child_length) (sym left ∙ e ∙ right) in
+    let children = append-same v.child_bytes w.child_bytes _ _ (v.child_length ∙ sym w.child_length) (sym left ∙ e ∙ right) in
     let p : v.child_bytes ≡ w.child_bytes = children.0 in
     let payloads = same_varint _ _ v.payload w.payload children.1 in
     let q : v.payload_bytes ≡ w.payload_bytes = payloads.0 in
     let payload : c.payload ≡ d.payload = payloads.1 in
     let rest = append_cancel_left _ _ _ (ap (λ s. s ++ (v.local_bytes ++ (v.overflow_bytes ++ x))) (sym q) ∙ children.1) in
     let local : c.local ≡ d.local = v.local ∙ ap (local_size kind usable) payload ∙ sym w.local in
-    let locals = same_parts v.local_bytes w.local_bytes _ _ (v.local_length ∙ local ∙ sym w.local_length) rest in
+    let locals = append-same v.local_bytes w.local_bytes _ _ (v.local_length ∙ local ∙ sym w.local_length) rest in
     let over : length v.overflow_bytes ≡ length w.overflow_bytes = v.overflow_length ∙ ap (λ n. overflow_size n c.payload) local ∙ ap (overflow_size d.local) payload ∙ sym w.overflow_length in
-    let overflows = same_parts v.overflow_bytes w.overflow_bytes x y over locals.1 in
+    let overflows = append-same v.overflow_bytes w.overflow_bytes x y over locals.1 in
     let r : v.local_bytes ≡ w.local_bytes = locals.0 in
     let s : v.overflow_bytes ≡ w.overflow_bytes = overflows.0 in
     let bytes : a ≡ b =

@@ -1,23 +1,9 @@
--- A number that is written at the front of the rest of a slice.
-use Rattle.std.proofs.Common.{◌≡◌, ℕ, ◌+◌, ◌-◌, ◌≤◌, List, [], ◌++◌, length, take, drop, ap, ap₂, ◌∙◌, arith}
-use Rattle.std.proofs.lemmas.List.{append-nil, drop_all, drop-drop, length-drop, take_rest}
-use borrow.Rule.Slice.PartMut.{put_mid}
-use Rattle.byteorder.specs.Endian.{big_bytes}
-use Rattle.format_spec.specs.Numbers.{with_number_at}
+-- The writes of a header, one after the other.
+use Rattle.std.proofs.Common.{◌≡◌, ℕ, List, ap, ◌∙◌}
+use Rattle.byte_fields.specs.Numbers.{with_number_at}
 use Rattle.db_header.specs.declared.fields.Header.{Header}
 use Rattle.db_header.specs.Writing.{header_written}
 
-pub put_mid-number : (at n x : ℕ) (bytes rest : List ℕ) → at + n ≤ length bytes
-    → rest ≡ big_bytes n x ++ drop n (take (length bytes - at) (drop at bytes))
-    → put_mid at (length bytes - at) bytes rest ≡ with_number_at at n x bytes
-put_mid-number at n x bytes rest room rest_is =
-    let none : drop (length bytes - at) (drop at bytes) ≡ [] = drop_all (length bytes - at) (drop at bytes) (omega (arith, length-drop at bytes)) in
-    let behind : drop n (take (length bytes - at) (drop at bytes)) ≡ drop (at + n) bytes = ap (drop n) (take_rest bytes at) ∙ drop-drop n at bytes in
-    let all : rest ≡ big_bytes n x ++ drop (at + n) bytes = rest_is ∙ ap (λ (b : List ℕ). big_bytes n x ++ b) behind in
-    ap₂ (λ (a b : List ℕ). take at bytes ++ (a ++ b)) all none
-    ∙ ap (λ (b : List ℕ). take at bytes ++ b) (append-nil (big_bytes n x ++ drop (at + n) bytes))
-
--- the writes of a header, one after the other
 pub header_written-steps : (header : Header) (page a b c d e f g h i : List ℕ)
     → a ≡ with_number_at 16 2 header.page_size page
     → b ≡ with_number_at 20 1 header.reserved a

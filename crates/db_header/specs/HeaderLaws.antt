@@ -1,11 +1,11 @@
 -- What follows from the definitions of the header alone: crates above cite these facts in their proofs.
-use Rattle.std.proofs.Common.{◌+◌, ◌^◌, slice_index, ◌/◌, ◌≤◌, ◌==◌, ◌&&◌, nat_lt, if◌then◌else◌, ◌*◌, [], ◌∷◌, length, take, drop, ◌≡◌, ℕ, ◌<◌, List, inl, inr, refl, sym, ap, ap₂, ◌∙◌, subst, arith}
+use Rattle.std.proofs.Common.{slice_index, ◌/◌, ◌≤◌, ◌==◌, ◌&&◌, nat_lt, if◌then◌else◌, ◌*◌, [], ◌∷◌, length, take, drop, ◌≡◌, ℕ, ◌<◌, List, inl, inr, refl, sym, ap, ap₂, ◌∙◌, subst, arith}
 use Rattle.std.proofs.lemmas.Bool.Decides.{nat_tests}
-use Rattle.std.proofs.lemmas.List.{get_or-drop}
-use Rattle.byteorder.specs.Numbers.{big_from-lt}
-use Rattle.format_spec.specs.Numbers.{number_at}
+use Rattle.byte_fields.specs.NumbersLaws.{number_at-lt}
+use Rattle.byte_fields.specs.Numbers.{number_at}
 use Rattle.format_spec.specs.Header.{page_size, reserved, change_counter, pages, version_valid_for, largest_root, text_encoding, schema_format}
-use Rattle.db_header.specs.NumberLaws.{Field, AllUpTo, AllFit, number_of, number_at-with_fields, length-with_fields, take-with_fields, drop-with_fields}
+use Rattle.byte_fields.specs.Fields.{Field, AllUpTo, AllFit, number_of}
+use Rattle.byte_fields.specs.FieldsLaws.{number_at-with_fields, length-with_fields, take-with_fields, drop-with_fields}
 use Rattle.db_header.specs.Writing.{header_written, IsHeader}
 use Rattle.std.proofs.lemmas.Bool.{cases_lt}
 use Rattle.db_header.specs.declared.fields.Header.{Header}
@@ -218,13 +218,6 @@ reads-header_written header bytes file_len database versions utf8 no_auto_vacuum
       schema_cookie_is = sym (stays 40 4);
       format_is = sym (read_format-some header.format ok.least_format) ∙ ap read_format (sym format_is);
     }
-
--- a number in n bytes
-number_at-lt : (place n : ℕ) (bytes : List ℕ) → ((k : ℕ) → slice_index bytes k < 256) → number_at place n bytes < 256 ^ n
-number_at-lt place n bytes each = big_from-lt 0 n (drop place bytes) (λ k.
-    let e = get_or-drop place bytes k 0 in
-    let P : ℕ → Type 0 = λ b. b < 256 in
-    subst P (sym e) (each (place + k)))
 
 -- a format that is read is one that can be written
 read_format-range : (number : ℕ) → number ≤ 4 → (1 ≤ read_format number) × (read_format number ≤ 4)

@@ -1,6 +1,6 @@
 -- What a header leaves of the bytes of page 1 (Database File Format, section 1.3).
 use Rattle.std.specs.Prelude.{ℕ, ◌-◌, ◌^◌, ◌<◌, ◌≤◌, List}
-use Rattle.format_spec.specs.Numbers.{with_number_at}
+use Rattle.byte_fields.specs.Numbers.{with_number_at}
 use Rattle.db_header.specs.declared.fields.Header.{Header}
 use Rattle.db_header.specs.Reading.{IsPageSize}
 

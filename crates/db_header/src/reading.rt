@@ -1,43 +1,18 @@
 // Reading the header.
 ghost use Rattle.std.specs.Prelude.{◌≡◌, ℕ, ◌+◌, ◌-◌, ◌<◌, ◌≤◌, ◌^◌, ◌↔◌, ◌*◌, length, IsTrue, MatchResult};
-ghost use Rattle.format_spec.specs.Numbers.{number_at};
 ghost use Rattle.format_spec.specs.Header.{HasMagic, page_size as page_size_of, max_fraction, min_fraction, leaf_fraction};
 ghost use Rattle.db_header.specs.declared.fields.Header.{Header};
 ghost use Rattle.db_header.specs.declared.fields.HeaderFault.{HeaderFault};
 ghost use Rattle.db_header.specs.Reading.{IsDatabase, IsPageSize, HasRollbackVersions, counted_pages as counted, IsSupported, Reads, IsFirstFault};
 
 use crate::fields::{Header, HeaderFault};
-use byteorder::{BigEndian, ByteOrder};
+use byte_fields::{u8_at, u16_at, u32_at};
 
 // What each database begins with.
 const MAGIC: &[u8; 16] = b"SQLite format 3\0";
 
 // The most pages that a file may have.
 const PAGE_LIMIT: u64 = 1 << 24;
-
-// The number in the byte at a place.
-fn u8_at(bytes: &[u8], at: usize) -> u8
-    requires { at < length bytes.now }
-    ensures { result ≡ number_at at 1 bytes.now }
-{
-    bytes[at]
-}
-
-// The number in the two bytes at a place.
-fn u16_at(bytes: &[u8], at: usize) -> u16
-    requires { at + 2 ≤ length bytes.now }
-    ensures { result ≡ number_at at 2 bytes.now }
-{
-    BigEndian::read_u16(&bytes[at..])
-}
-
-// The number in the four bytes at a place.
-fn u32_at(bytes: &[u8], at: usize) -> u32
-    requires { at + 4 ≤ length bytes.now }
-    ensures { result ≡ number_at at 4 bytes.now }
-{
-    BigEndian::read_u32(&bytes[at..])
-}
 
 // Whether the bytes begin with the magic text.
 fn has_magic(bytes: &[u8]) -> bool

@@ -3,7 +3,7 @@ use Rattle.std.proofs.Common.{◌≡◌, ◌≤◌, ◌<◌, ℕ, ◌+◌, ◌-�
 use Rattle.std.proofs.lemmas.Bool.{cases_lt}
 use Rattle.std.proofs.lemmas.List.{take-append-le, take-replicate, drop_all, take_all, append-nil, length-append, length-replicate}
 use Rattle.std.proofs.Math.Seq.{take-append-add}
-use Rattle.file_spec.specs.Files.{overwritten}
+use Rattle.byte_fields.specs.Bytes.{overwritten}
 
 take_within : (old more : List ℕ) (at : ℕ) → at ≤ length old → take at (old ++ more) ≡ take at old ++ replicate (at - length old) 0
 take_within old more at h =

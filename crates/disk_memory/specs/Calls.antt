@@ -1,7 +1,7 @@
 -- What a device in memory counts: its calls, its faults, and the calls that found no memory.
 use Rattle.std.specs.Prelude.{◌≡◌, ◌==◌, ℕ, Bool, true, false, IsTrue, if◌then◌else◌, List}
 use Rattle.std.specs.List.{list_any}
-use Rattle.file_spec.specs.Faults.{one_more}
+use Rattle.common_spec.specs.Counts.{one_more}
 
 -- the numbers of the calls that are to fail, and the counts so far, each of them in 64 bits
 pub record CallCounts : Type 0 where

@@ -1,6 +1,6 @@
 // The counts that the disk and the output in memory keep.
 ghost use Rattle.std.specs.Prelude.{◌≡◌, ◌≤◌};
-ghost use Rattle.file_spec.specs.Faults.{one_more};
+ghost use Rattle.common_spec.specs.Counts.{one_more};
 ghost use Rattle.disk_memory.specs.Calls.{after_call, is_listed};
 
 use std::marker::Model;

@@ -1,9 +1,10 @@
 // A disk in memory.
 ghost use Rattle.std.specs.Prelude.{◌≡◌, ◌≤◌, ◌<◌, ◌+◌, ◌^◌, ◌++◌, ◌||◌, ◌↔◌, IsTrue, IsSome, IsErr, IfOk, OnOk, OnErr, Some, None, is_err, length, drop, map, option_map};
 ghost use Rattle.file_spec.specs.declared.FileName.TheVariants.{Target};
-ghost use Rattle.file_spec.specs.Files.{after_create, after_remove, after_rename, after_set_len, after_write, content, name_index, part_of, with_file};
+ghost use Rattle.byte_fields.specs.Bytes.{part_of};
+ghost use Rattle.file_spec.specs.Files.{after_create, after_remove, after_rename, after_set_len, after_write, content, name_index, with_file};
 ghost use Rattle.rbu_disk.specs.Call.{HasCause};
-ghost use Rattle.file_spec.specs.Faults.{one_more};
+ghost use Rattle.common_spec.specs.Counts.{one_more};
 ghost use Rattle.disk_memory.specs.Calls.{CountsRefusal, after_call, is_listed};
 ghost use Rattle.disk_memory.specs.Disk.{failures_of, files_at, files_of, first_entries, is_over_limit};
 

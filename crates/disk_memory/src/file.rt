@@ -1,6 +1,6 @@
 // The bytes of one file, and the work on them.
 ghost use Rattle.std.specs.Prelude.{◌≡◌, ◌+◌, ◌-◌, ◌≤◌, ◌<◌, ◌^◌, ◌++◌, [], length, take, drop, replicate, IsErr, OnOk, OnErr, Some, unwrap_or};
-ghost use Rattle.file_spec.specs.Files.{overwritten, part_of, resized};
+ghost use Rattle.byte_fields.specs.Bytes.{overwritten, part_of, resized};
 
 use std::alloc::{AllocError, Global};
 use std::marker::Model;

@@ -1,6 +1,6 @@
 // An output in memory.
 ghost use Rattle.std.specs.Prelude.{◌≡◌, ◌≤◌, ◌++◌, [], OnOk, OnErr, Some, is_err};
-ghost use Rattle.file_spec.specs.Faults.{Rises};
+ghost use Rattle.common_spec.specs.Counts.{Rises};
 ghost use Rattle.disk_memory.specs.Calls.{CountsRefusal, is_listed};
 
 use crate::calls::Calls;

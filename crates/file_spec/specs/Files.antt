@@ -1,5 +1,7 @@
 -- The files, and what each call on a disk that ends well leaves of them.
-use Rattle.std.specs.Prelude.{◌≡◌, ℕ, ◌+◌, ◌-◌, Bool, ◌==◌, if◌then◌else◌, List, [], ◌++◌, length, take, drop, replicate, Option, Some, None, unwrap_or}
+use Rattle.std.specs.Prelude.{◌≡◌, ℕ, Bool, ◌==◌, List, [], Option, Some, None, unwrap_or}
+use Rattle.common_spec.specs.Maps.{set_at}
+use Rattle.byte_fields.specs.Bytes.{resized, overwritten}
 use Rattle.file_spec.specs.declared.FileName.{FileName}
 use Rattle.file_spec.specs.declared.FileName.TheVariants.{Target, Oal, Wal, Journal, Rbu, State, StateTemp}
 
@@ -27,15 +29,7 @@ content files name = unwrap_or (files name) []
 
 -- the files with these bytes, or no file, under one name
 abbrev pub with_file : Files → FileName → Option (List ℕ) → Files
-with_file files name bytes other = if is_name name other then bytes else files other
-
--- bytes of the given length: cut there, or followed by zeros
-abbrev pub resized : List ℕ → ℕ → List ℕ
-resized bytes n = take n bytes ++ replicate (n - length bytes) 0
-
--- bytes written over at a place; zeros lie between an earlier end and the place
-abbrev pub overwritten : List ℕ → ℕ → List ℕ → List ℕ
-overwritten old at bytes = resized old at ++ bytes ++ drop (at + length bytes) old
+with_file = set_at is_name
 
 -- a write at a place, which makes a missing file first
 abbrev pub after_write : Files → FileName → ℕ → List ℕ → Files
@@ -61,10 +55,6 @@ moved files from to (Some bytes) = with_file (with_file files from None) to (Som
 -- a file takes another name, in place of what that had; a missing one changes nothing
 abbrev pub after_rename : Files → FileName → FileName → Files
 after_rename files from to = moved files from to (files from)
-
--- the bytes from a place on, as many as are asked for or fewer at the file's end
-abbrev pub part_of : List ℕ → ℕ → ℕ → List ℕ
-part_of bytes at n = take n (drop at bytes)
 
 -- at most the file under one name changes
 abbrev pub OnlyChanges : FileName → Files → Files → Type 0

@@ -4,14 +4,18 @@
 //!
 //! - `Files`: the files as a map from names to bytes, and what each call that ends well leaves;
 //! - `Names`: how files and calls are printed;
-//! - `Faults`: a count of faults that never falls, and what a call that fails leaves.
+//! - `Faults`: what a call that fails leaves.
+//!
+//! `FilesLaws` and `FaultsLaws` say what follows from them.
 #![tactic(auto)]
 
 ghost use Rattle.std.specs.Prelude.{◌≡◌, ◌≤◌, ◌++◌, length, List, ℕ, Option, option_map};
-ghost use Rattle.file_spec.specs.Files.{Files, with_file, overwritten};
-ghost use Rattle.file_spec.specs.FilesLaws.{with_file-again, overwritten-end};
-ghost use Rattle.file_spec.specs.Faults.{Leads};
-ghost use Rattle.file_spec.specs.FaultsLaws.{Leads-then};
+ghost use Rattle.byte_fields.specs.Bytes.{overwritten};
+ghost use Rattle.file_spec.specs.Files.{Files, with_file};
+ghost use Rattle.byte_fields.specs.BytesLaws.{overwritten-end};
+ghost use Rattle.file_spec.specs.FilesLaws.{with_file-again};
+ghost use Rattle.common_spec.specs.Told.{Leads};
+ghost use Rattle.common_spec.specs.ToldLaws.{Leads-then};
 
 /// The files of one update, all in one folder.
 #[derive(Clone, Copy, Debug, PartialEq, Eq)]
@@ -105,4 +109,4 @@ pub fn steps_join()
 
 mod worked;
 
-pub use worked::{worked_bytes, worked_faults, worked_names, worked_steps};
+pub use worked::{worked_faults, worked_names, worked_steps};

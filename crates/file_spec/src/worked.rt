@@ -2,19 +2,10 @@
 ghost use Rattle.std.specs.Prelude.{◌≡◌, ◌+◌, ℕ, [], ◌∷◌, Some, None};
 ghost use Rattle.file_spec.specs.declared.FileName.{FileName};
 ghost use Rattle.file_spec.specs.declared.FileName.TheVariants.{Target, Oal, Wal, State};
-ghost use Rattle.file_spec.specs.Files.{Files, resized, overwritten, part_of, with_file, after_create, after_rename};
-ghost use Rattle.file_spec.specs.Faults.{IsTorn, IsCut, AfterTornWrite, AfterFailedSetLen, Leads};
-
-/// Writes inside a file, over its end and past it, changes of length, and a read over the end.
-pub fn worked_bytes()
-    ensures inside { overwritten (1 ∷ 2 ∷ 3 ∷ []) 1 (9 ∷ []) ≡ 1 ∷ 9 ∷ 3 ∷ [] }
-    ensures over_the_end { overwritten (1 ∷ 2 ∷ []) 1 (8 ∷ 9 ∷ []) ≡ 1 ∷ 8 ∷ 9 ∷ [] }
-    ensures past_the_end { overwritten (1 ∷ []) 3 (9 ∷ []) ≡ 1 ∷ 0 ∷ 0 ∷ 9 ∷ [] }
-    ensures nothing_past_the_end { overwritten (1 ∷ []) 3 [] ≡ 1 ∷ 0 ∷ 0 ∷ [] }
-    ensures shorter { resized (1 ∷ 2 ∷ 3 ∷ []) 2 ≡ 1 ∷ 2 ∷ [] }
-    ensures longer { resized (1 ∷ []) 3 ≡ 1 ∷ 0 ∷ 0 ∷ [] }
-    ensures part { part_of (1 ∷ 2 ∷ 3 ∷ []) 1 5 ≡ 2 ∷ 3 ∷ [] }
-{}
+ghost use Rattle.byte_fields.specs.Bytes.{resized, overwritten, part_of};
+ghost use Rattle.file_spec.specs.Files.{Files, with_file, after_create, after_rename};
+ghost use Rattle.common_spec.specs.Told.{Leads};
+ghost use Rattle.file_spec.specs.Faults.{IsTorn, IsCut, AfterTornWrite, AfterFailedSetLen};
 
 /// A file that takes the place of another, a missing one that is renamed, and names that are made.
 pub fn worked_names()
@@ -33,17 +24,13 @@ pub fn worked_faults()
     ensures kept { ¬ (IsCut 2 (1 ∷ 2 ∷ 3 ∷ 4 ∷ []) (1 ∷ 9 ∷ 3 ∷ [])) }
 {}
 
-/// What a failed write and a failed change of length may leave of a log of four bytes and of one that is missing, and what a call
-/// leads to on a disk that tells its files and on one that does not.
+/// What a failed write and a failed change of length may leave of a log of four bytes and of one that is missing.
 pub fn worked_steps()
     ensures torn { let files : Files = with_file (λ (name : FileName). None) Oal (Some (1 ∷ 2 ∷ 3 ∷ 4 ∷ [])) in
         AfterTornWrite Oal 1 2 files (with_file files Oal (Some (1 ∷ 7 ∷ 8 ∷ 4 ∷ []))) }
     ensures not_made { AfterTornWrite Oal 0 2 (λ (name : FileName). None) (λ (name : FileName). None) }
     ensures cut { let files : Files = with_file (λ (name : FileName). None) Oal (Some (1 ∷ 2 ∷ 3 ∷ 4 ∷ [])) in
         AfterFailedSetLen Oal 2 files (with_file files Oal (Some (1 ∷ 2 ∷ 9 ∷ []))) }
-    ensures told { Leads (λ (before after : ℕ). after ≡ before + 1) (Some 1) (Some 2) }
-    ensures silent { Leads (λ (before after : ℕ). after ≡ before + 1) None None }
-    ensures goes_on { ¬ (Leads (λ (before after : ℕ). after ≡ before + 1) (Some 1) None) }
 {
     worked_faults();
 }

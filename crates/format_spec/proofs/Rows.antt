@@ -1,5 +1,5 @@
 -- Parts of the rows that several proofs take.
-use Rattle.std.proofs.Common.{◌≡◌, ℕ, ◌<◌, [], ◌∷◌, refl, arith, rules}
+use Rattle.std.proofs.Common.{ℕ, ◌<◌, [], ◌∷◌, refl, arith, rules}
 use Rattle.format_spec.specs.Varint.{IsVarint}
 
 -- a number below 128 is spelled by its byte

@@ -1,6 +1,6 @@
 -- The fields of the database header (Database File Format, section 1.3), as numbers at a place in the file's first bytes.
 use Rattle.std.specs.Prelude.{◌≡◌, ℕ, List, [], ◌∷◌, ◌++◌, take, codes}
-use Rattle.format_spec.specs.Numbers.{number_at}
+use Rattle.byte_fields.specs.Numbers.{number_at}
 
 -- `SQLite format 3` and a zero byte (section 1.3.1)
 abbrev pub HasMagic : List ℕ → Type 0

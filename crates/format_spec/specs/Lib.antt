@@ -1,10 +1,8 @@
-pub mod Numbers
 pub mod Varint
 pub mod Record
 pub mod Cell
 pub mod Page
 pub mod Header
 pub mod Log
-pub mod Parts
 pub mod LogReading
 pub mod LittleLog

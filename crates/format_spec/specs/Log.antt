@@ -1,7 +1,7 @@
 -- The write-ahead log (Database File Format, section 4).
-use Rattle.std.specs.Prelude.{◌≡◌, ℕ, ◌+◌, ◌*◌, ◌%◌, ◌^◌, ◌<◌, ◌≤◌, ◌==◌, ◌&&◌, ◌||◌, not, is_some, Bool, true, false, if◌then◌else◌, List, [], ◌∷◌, ◌++◌, length, Option, Some, None, unwrap_or}
+use Rattle.std.specs.Prelude.{◌≡◌, ℕ, ◌+◌, ◌*◌, ◌%◌, ◌^◌, ◌<◌, ◌≤◌, ◌==◌, ◌&&◌, ◌||◌, not, is_some, Bool, true, false, if◌then◌else◌, List, [], ◌∷◌, ◌++◌, length, slice_index, Option, Some, None, unwrap_or}
 use Rattle.byteorder.specs.Endian.{big_bytes, big_number, little_number}
-use Rattle.format_spec.specs.Numbers.{page_at}
+use Rattle.byte_fields.specs.Numbers.{page_at}
 
 -- the number in four bytes, in the byte order that the checksum takes
 abbrev pub word : Bool → List ℕ → ℕ
@@ -24,6 +24,10 @@ checksum big sums _ = sums
 abbrev pub magic : Bool → ℕ
 magic true = 0x377f0683
 magic false = 0x377f0682
+
+-- an array of two words as a pair
+abbrev pub pair_of : List ℕ → ℕ × ℕ
+pair_of xs = (slice_index xs 0, slice_index xs 1)
 
 -- two words, as a header keeps a salt or a checksum
 abbrev pub pair_bytes : ℕ × ℕ → List ℕ

@@ -3,7 +3,8 @@ use Rattle.std.proofs.Common.{◌≡◌, ℕ, ◌+◌, ◌^◌, ◌<◌, Bool, t
 use Rattle.std.proofs.lemmas.Bool.{cases_lt}
 use Rattle.std.proofs.lemmas.List.{append-nil, nil_from_length}
 use Rattle.byteorder.specs.Endian.{big_bytes}
-use Rattle.format_spec.specs.Parts.{same_parts, same_number, same_pages}
+use Rattle.byte_fields.specs.BytesLaws.{append-same}
+use Rattle.byte_fields.specs.NumbersLaws.{big_bytes-same, pages-same}
 use Rattle.format_spec.specs.Log.{checksum, magic, pair_bytes, log_front, log_sums, log_header, Frame, frame_front, frame_sums, frame_header, frame_bytes, frames_bytes, sums_behind, IsFrame, AreFrames, IsLog, committed, last_commit, IsOverlay}
 
 -- a log's header has 32 bytes
@@ -20,8 +21,8 @@ length-frame_header big salt sums number commit page = refl
 -- the magic number says in which order the checksums take their bytes
 same_magic : (big other : Bool) → big_bytes 4 (magic big) ≡ big_bytes 4 (magic other) → big ≡ other
 same_magic true true e = refl
-same_magic true false e = absurd (let apart : magic true ≡ magic false = same_number 4 (magic true) (magic false) (lit< tt) (lit< tt) e in omega (arith, apart))
-same_magic false true e = absurd (let apart : magic false ≡ magic true = same_number 4 (magic false) (magic true) (lit< tt) (lit< tt) e in omega (arith, apart))
+same_magic true false e = absurd (let apart : magic true ≡ magic false = big_bytes-same 4 (magic true) (magic false) (lit< tt) (lit< tt) e in omega (arith, apart))
+same_magic false true e = absurd (let apart : magic false ≡ magic true = big_bytes-same 4 (magic false) (magic true) (lit< tt) (lit< tt) e in omega (arith, apart))
 same_magic false false e = refl
 
 -- What the headers of two logs share. Of the sequence and the salt only their bytes are known.
@@ -36,17 +37,17 @@ same_header : (big other : Bool) (page_size size sequence next : ℕ) (salt salt
     → log_header big page_size sequence salt ≡ log_header other size next salts → ShareHeader big other page_size size sequence next salt salts
 unfolding log_header
 same_header big other page_size size sequence next salt salts fits also e =
-    let fronts = same_parts (log_front big page_size sequence salt) (log_front other size next salts)
+    let fronts = append-same (log_front big page_size sequence salt) (log_front other size next salts)
     (pair_bytes (log_sums big page_size sequence salt)) (pair_bytes (log_sums other size next salts)) refl e in
     let front : log_front big page_size sequence salt ≡ log_front other size next salts = fronts.0 in
-    let magics = same_parts (big_bytes 4 (magic big)) (big_bytes 4 (magic other)) _ _ refl front in
-    let versions = same_parts (big_bytes 4 3007000) (big_bytes 4 3007000) _ _ refl magics.1 in
-    let page_sizes = same_parts (big_bytes 4 page_size) (big_bytes 4 size) _ _ refl versions.1 in
-    let sequences = same_parts (big_bytes 4 sequence) (big_bytes 4 next) _ _ refl page_sizes.1 in
+    let magics = append-same (big_bytes 4 (magic big)) (big_bytes 4 (magic other)) _ _ refl front in
+    let versions = append-same (big_bytes 4 3007000) (big_bytes 4 3007000) _ _ refl magics.1 in
+    let page_sizes = append-same (big_bytes 4 page_size) (big_bytes 4 size) _ _ refl versions.1 in
+    let sequences = append-same (big_bytes 4 sequence) (big_bytes 4 next) _ _ refl page_sizes.1 in
     let order : big ≡ other = same_magic big other magics.0 in
     record {
       order = order;
-      sizes = same_number 4 page_size size fits also page_sizes.0;
+      sizes = big_bytes-same 4 page_size size fits also page_sizes.0;
       salt_bytes = sequences.1;
       sums = ap₂ (λ (b : Bool) (f : List ℕ). checksum b (0, 0) f) order front;
     }
@@ -65,9 +66,9 @@ same_frame_header : (big : Bool) (salt salts sums : ℕ × ℕ) (frame other : F
     → (frame.number ≡ other.number) × (frame.commit ≡ other.commit)
 unfolding frame_header
 same_frame_header big salt salts sums frame other fits also commits others e =
-    let fronts = same_parts (frame_front frame.number frame.commit) (frame_front other.number other.commit) _ _ refl e in
-    let words = same_parts (big_bytes 4 frame.number) (big_bytes 4 other.number) (big_bytes 4 frame.commit) (big_bytes 4 other.commit) refl fronts.0 in
-    (same_number 4 frame.number other.number fits also words.0, same_number 4 frame.commit other.commit commits others words.1)
+    let fronts = append-same (frame_front frame.number frame.commit) (frame_front other.number other.commit) _ _ refl e in
+    let words = append-same (big_bytes 4 frame.number) (big_bytes 4 other.number) (big_bytes 4 frame.commit) (big_bytes 4 other.commit) refl fronts.0 in
+    (big_bytes-same 4 frame.number other.number fits also words.0, big_bytes-same 4 frame.commit other.commit commits others words.1)
 
 -- how many bytes a frame has
 length-frame_bytes : (big : Bool) (salt sums : ℕ × ℕ) (page_size : ℕ) (frame : Frame) → IsFrame page_size frame
@@ -82,12 +83,12 @@ same_frame : (big : Bool) (salt salts sums : ℕ × ℕ) (page_size : ℕ) (fram
 same_frame big salt salts sums page_size frame other x y is also e =
     let long : length (frame_bytes big salt sums frame) ≡ length (frame_bytes big salts sums other) =
     length-frame_bytes big salt sums page_size frame is ∙ sym (length-frame_bytes big salts sums page_size other also) in
-    let wholes = same_parts (frame_bytes big salt sums frame) (frame_bytes big salts sums other) x y long e in
+    let wholes = append-same (frame_bytes big salt sums frame) (frame_bytes big salts sums other) x y long e in
     let header = frame_header big salt sums frame.number frame.commit frame.page in
     let other_header = frame_header big salts sums other.number other.commit other.page in
     let headers_long : length header ≡ length other_header =
     length-frame_header big salt sums frame.number frame.commit frame.page ∙ sym (length-frame_header big salts sums other.number other.commit other.page) in
-    let halves = same_parts header other_header frame.page other.page headers_long wholes.0 in
+    let halves = append-same header other_header frame.page other.page headers_long wholes.0 in
     let words = same_frame_header big salt salts sums frame other is.number_fits also.number_fits is.commit_fits also.commit_fits halves.0 in
     let number : frame.number ≡ other.number = words.0 in
     let commit : frame.commit ≡ other.commit = words.1 in
@@ -138,7 +139,7 @@ same_log bytes p q frames others v w =
     let right = frames_bytes w.big w.salt (log_sums w.big q w.sequence w.salt) others ++ w.rest in
     let long : length (log_header v.big p v.sequence v.salt) ≡ length (log_header w.big q w.sequence w.salt) =
     length-log_header v.big p v.sequence v.salt ∙ sym (length-log_header w.big q w.sequence w.salt) in
-    let halves = same_parts (log_header v.big p v.sequence v.salt) (log_header w.big q w.sequence w.salt) left right long (sym v.whole ∙ w.whole) in
+    let halves = append-same (log_header v.big p v.sequence v.salt) (log_header w.big q w.sequence w.salt) left right long (sym v.whole ∙ w.whole) in
     let header = same_header v.big w.big p q v.sequence w.sequence v.salt w.salt v.page_size_fits w.page_size_fits halves.0 in
     let sums = log_sums v.big p v.sequence v.salt in
     let ours : HaveFrames v.big v.salt sums p left frames = record { rest = v.rest; whole = refl; valid = v.valid; longest = v.longest } in
@@ -176,7 +177,7 @@ pub same_overlay : (file : List ℕ) (page_size : ℕ) (frames : List Frame) (a 
 same_overlay file page_size frames a b v w =
     elim (cases_lt 0 (length (committed frames))) [
       | inl some ↦
-          same_pages page_size (last_commit (committed frames)) a b (v.size some) (w.size some)
+          pages-same page_size (last_commit (committed frames)) a b (v.size some) (w.size some)
           (λ n low high. v.each some n low high ∙ sym (w.each some n low high))
       | inr none ↦
           let nothing : committed frames ≡ [] = nil_from_length (committed frames) (omega (arith, none)) in

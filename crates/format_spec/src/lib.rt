@@ -2,14 +2,12 @@
 //!
 //! A crate of definitions. Crates above cite, from `specs/`:
 //!
-//! - `Numbers`: numbers at a place in bytes, and pages of a file (Database File Format, sections 1.2 and 1.3);
 //! - `Varint`: variable-length integers (section 1.6);
 //! - `Record`: records and the canonical record of a list of values (section 2.1);
 //! - `Cell`: the cells of b-tree pages, and how much of a payload they keep (section 1.6);
 //! - `Page`: a b-tree page as a list of cells (section 1.6), and the page that is packed from its end;
 //! - `Header`: the fields of the database header (section 1.3);
 //! - `Log`: the write-ahead log, its frames and checksums, and the overlay of a file by a log (section 4);
-//! - `Parts`: what equal bytes say of the parts, numbers and pages that they are made of;
 //! - `LogReading`: a header with frames is a log, bytes are a log in one way, and the overlay of a file by its frames is one;
 //! - `LittleLog`: a log that SQLite wrote.
 //!
@@ -55,7 +53,7 @@ mod worked;
 pub use laws::{log_has_one_reading, overlay_has_one_result};
 pub use sqlite_rows::{
     worked_frame_header, worked_header, worked_index_interior, worked_little_log_header,
-    worked_log, worked_numbers, worked_overlay, worked_spellings, worked_table_leaf,
+    worked_log, worked_overlay, worked_spellings, worked_table_leaf,
 };
 pub use worked::{
     worked_cell, worked_log_header, worked_other_cells, worked_page, worked_record, worked_sizes,

@@ -1,21 +1,11 @@
 // The definitions, computed on bytes that SQLite 3.40.1 wrote, and on small rows that were worked out by hand.
 ghost use Rattle.std.specs.Prelude.{◌≡◌, pos, [], ◌∷◌, ◌++◌, false, replicate, codes};
 ghost use Rattle.format_spec.specs.declared.PageKind.TheVariants.{IndexInterior, TableLeaf};
-ghost use Rattle.format_spec.specs.Numbers.{number_at, with_number_at, page_at};
 ghost use Rattle.format_spec.specs.Varint.{IsVarint};
 ghost use Rattle.format_spec.specs.Page.{IsPage};
 ghost use Rattle.format_spec.specs.Header.{HasMagic, page_size, write_version, read_version, reserved, max_fraction, min_fraction, leaf_fraction, change_counter, pages, freelist_trunk, freelist_pages, schema_cookie, schema_format, largest_root, text_encoding, version_valid_for};
 ghost use Rattle.format_spec.specs.Log.{Frame, log_header, frame_header, IsLog, IsOverlay};
 ghost use Rattle.format_spec.specs.LittleLog.{little_page, little_frame, little_salt, little_header, little_frame_header, little_log};
-
-/// Numbers in the bytes at a place, and pages of a file, also of one that ends inside its last page.
-pub fn worked_numbers()
-    ensures read { number_at 1 2 (9 ∷ 0x12 ∷ 0x34 ∷ 9 ∷ []) ≡ 0x1234 }
-    ensures written { with_number_at 1 2 0x1234 (9 ∷ 9 ∷ 9 ∷ 9 ∷ []) ≡ 9 ∷ 0x12 ∷ 0x34 ∷ 9 ∷ [] }
-    ensures second { page_at 2 2 (1 ∷ 2 ∷ 3 ∷ 4 ∷ []) ≡ 3 ∷ 4 ∷ [] }
-    ensures cut { page_at 2 2 (1 ∷ 2 ∷ 3 ∷ []) ≡ 3 ∷ 0 ∷ [] }
-    ensures missing { page_at 2 3 (1 ∷ 2 ∷ 3 ∷ []) ≡ 0 ∷ 0 ∷ [] }
-{}
 
 /// Spellings of 300, of 1 in two bytes, and of the greatest number in nine.
 pub fn worked_spellings()

@@ -2,7 +2,7 @@
 use Rattle.std.specs.Prelude.{◌≡◌, ◌≤◌, ℕ, Option, Some, Result, OnOk, IfErr}
 use Rattle.file_spec.specs.declared.FileName.{FileName}
 use Rattle.file_spec.specs.declared.DiskCall.{DiskCall}
-use Rattle.file_spec.specs.Faults.{Rises}
+use Rattle.common_spec.specs.Counts.{Rises}
 use Rattle.rbu_disk.specs.declared.disk.DiskFault.{DiskFault}
 
 -- the calls of a disk that failed: how many there were, and the fault of the last

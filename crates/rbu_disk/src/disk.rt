@@ -1,8 +1,10 @@
 // The files of an update, and the calls on them.
 ghost use Rattle.std.specs.Prelude.{◌≡◌, ◌≤◌, ◌<◌, ◌+◌, ◌^◌, ◌↔◌, ◌++◌, ℕ, Option, IsTrue, IsSome, IsErr, IfOk, OnOk, OnErr, length, drop, option_map};
 ghost use Rattle.file_spec.specs.declared.FileName.TheVariants.{Target};
-ghost use Rattle.file_spec.specs.Files.{Files, content, part_of, after_create, after_remove, after_rename, after_set_len, after_write};
-ghost use Rattle.file_spec.specs.Faults.{AfterFailedSetLen, AfterTornWrite, Leads};
+ghost use Rattle.byte_fields.specs.Bytes.{part_of};
+ghost use Rattle.file_spec.specs.Files.{Files, content, after_create, after_remove, after_rename, after_set_len, after_write};
+ghost use Rattle.common_spec.specs.Told.{Leads};
+ghost use Rattle.file_spec.specs.Faults.{AfterFailedSetLen, AfterTornWrite};
 
 use crate::{DiskCall, FileName};
 use thiserror::Error;

@@ -1,6 +1,7 @@
 // An output that takes bytes.
 ghost use Rattle.std.specs.Prelude.{◌≡◌, ◌≤◌, ◌++◌, List, ℕ, Option, OnOk, OnErr, option_map};
-ghost use Rattle.file_spec.specs.Faults.{Leads, Rises};
+ghost use Rattle.common_spec.specs.Told.{Leads};
+ghost use Rattle.common_spec.specs.Counts.{Rises};
 ghost use Rattle.rbu_disk.specs.Sink.{GrewByPrefix};
 
 use thiserror::Error;

@@ -2,8 +2,8 @@
 use Rattle.std.proofs.Common.{◌≡◌, ◌⊎◌, ◌++◌, ℕ, ℤ, List, Option, Some, None, option_map, unwrap_or, refl, sym, ap, ◌∙◌, subst, inl, inr, arith, []}
 use Rattle.file_spec.specs.declared.FileName.TheVariants.{Target}
 use Rattle.file_spec.specs.Files.{Files, content}
-use Rattle.file_spec.specs.Faults.{Leads}
-use Rattle.file_spec.specs.FaultsLaws.{Leads-weaken, Leads-same}
+use Rattle.common_spec.specs.Told.{Leads}
+use Rattle.common_spec.specs.ToldLaws.{Leads-weaken, Leads-same}
 use Rattle.update_spec.specs.declared.Outcome.{Outcome}
 use Rattle.update_spec.specs.declared.Outcome.TheVariants.{Done, KeyPresent, Refused}
 use Rattle.update_spec.specs.declared.Answer.{Answer}

@@ -3,10 +3,12 @@ use Rattle.std.proofs.Common.{◌≡◌, ℕ, ◌+◌, ◌-◌, List, [], ◌++�
 use Rattle.std.proofs.lemmas.List.{take_at}
 use Rattle.std.proofs.Math.ListN.{drop_of_length-le}
 use Rattle.file_spec.specs.declared.FileName.TheVariants.{Target}
-use Rattle.file_spec.specs.Files.{Files, content, with_file, overwritten, after_write}
-use Rattle.file_spec.specs.FilesLaws.{with_file-again, overwritten-front}
-use Rattle.file_spec.specs.Faults.{Leads}
-use Rattle.file_spec.specs.FaultsLaws.{Leads-map, Leads-then}
+use Rattle.byte_fields.specs.Bytes.{overwritten}
+use Rattle.file_spec.specs.Files.{Files, content, with_file, after_write}
+use Rattle.byte_fields.specs.BytesLaws.{overwritten-front}
+use Rattle.file_spec.specs.FilesLaws.{with_file-again}
+use Rattle.common_spec.specs.Told.{Leads}
+use Rattle.common_spec.specs.ToldLaws.{Leads-map, Leads-then}
 use Rattle.rbu_run.specs.Handover.{HasPages}
 
 -- the second page is written behind the first, over bytes of two pages

@@ -3,8 +3,8 @@ use Rattle.std.proofs.Common.{◌≡◌, ◌≤◌, ◌⊎◌, ℕ, ℤ, List, l
 use Rattle.file_spec.specs.declared.FileName.{FileName}
 use Rattle.file_spec.specs.declared.FileName.TheVariants.{Target, Oal, Wal, Journal, Rbu, State, StateTemp}
 use Rattle.file_spec.specs.Files.{Files, content, is_name, with_file}
-use Rattle.file_spec.specs.Faults.{Leads}
-use Rattle.file_spec.specs.FaultsLaws.{Leads-weaken, Leads-same}
+use Rattle.common_spec.specs.Told.{Leads}
+use Rattle.common_spec.specs.ToldLaws.{Leads-weaken, Leads-same}
 use Rattle.update_spec.specs.declared.TargetRow.{TargetRow}
 use Rattle.update_spec.specs.declared.PreparedRow.{PreparedRow}
 use Rattle.update_spec.specs.SmallFile.{IsSmallTarget}

@@ -5,8 +5,8 @@ use Rattle.std.proofs.lemmas.List.{take-append-drop}
 use Rattle.file_spec.specs.declared.FileName.{FileName}
 use Rattle.file_spec.specs.declared.FileName.TheVariants.{Target, Oal, Wal, Journal, Rbu, State, StateTemp}
 use Rattle.file_spec.specs.Files.{Files, content, with_file, after_rename, after_remove, OnlyChanges}
-use Rattle.file_spec.specs.Faults.{Leads}
-use Rattle.file_spec.specs.FaultsLaws.{Leads-map, Leads-same, Leads-weaken, Leads-then}
+use Rattle.common_spec.specs.Told.{Leads}
+use Rattle.common_spec.specs.ToldLaws.{Leads-map, Leads-same, Leads-weaken, Leads-then}
 use Rattle.format_spec.specs.Log.{IsFrame, IsOverlay}
 use Rattle.format_spec.specs.LogReading.{log-of_frames}
 use Rattle.wal_codec.specs.LogLaws.{overlay-of_two_pages}

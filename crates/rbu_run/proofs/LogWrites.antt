@@ -2,12 +2,16 @@
 use Rattle.std.proofs.Common.{◌≡◌, ℕ, true, append_assoc, take, drop, List, [], ◌++◌, length, Option, Some, None, option_map, unwrap_or, refl, sym, ap, ◌∙◌, subst}
 use Rattle.file_spec.specs.declared.FileName.{FileName}
 use Rattle.file_spec.specs.declared.FileName.TheVariants.{Oal}
-use Rattle.file_spec.specs.Files.{Files, content, with_file, overwritten, after_write, after_create, OnlyChanges}
-use Rattle.file_spec.specs.FilesLaws.{with_file-again, with_file-same, overwritten-end, OnlyChanges-none, OnlyChanges-then}
+use Rattle.byte_fields.specs.Bytes.{overwritten}
+use Rattle.file_spec.specs.Files.{Files, content, with_file, after_write, after_create, OnlyChanges}
+use Rattle.byte_fields.specs.BytesLaws.{overwritten-end}
+use Rattle.file_spec.specs.FilesLaws.{with_file-again, with_file-same, OnlyChanges-none, OnlyChanges-then}
 use Rattle.format_spec.specs.Log.{log_header, log_sums, frame_header, frame_sums}
 use Rattle.rbu_run.specs.Handover.{log_of}
-use Rattle.file_spec.specs.Faults.{Leads, AfterTornWrite}
-use Rattle.file_spec.specs.FaultsLaws.{Leads-map, Leads-same, Leads-weaken, Leads-then, OnlyChanges-torn}
+use Rattle.common_spec.specs.Told.{Leads}
+use Rattle.file_spec.specs.Faults.{AfterTornWrite}
+use Rattle.common_spec.specs.ToldLaws.{Leads-map, Leads-same, Leads-weaken, Leads-then}
+use Rattle.file_spec.specs.FaultsLaws.{OnlyChanges-torn}
 
 -- the empty log comes to hold these bytes
 abbrev pub Wrote : List ℕ → Files → Files → Type 0

@@ -3,8 +3,8 @@ use Rattle.std.proofs.Common.{◌≡◌, ◌⊎◌, ℕ, false, if◌then◌else
 use Rattle.file_spec.specs.declared.FileName.{FileName}
 use Rattle.file_spec.specs.declared.FileName.TheVariants.{Target, Oal, Wal}
 use Rattle.file_spec.specs.Files.{Files, is_name, with_file, moved, after_rename, after_remove, OnlyChanges}
-use Rattle.file_spec.specs.Faults.{Leads}
-use Rattle.file_spec.specs.FaultsLaws.{Leads-map, Leads-same, Leads-weaken, Leads-then}
+use Rattle.common_spec.specs.Told.{Leads}
+use Rattle.common_spec.specs.ToldLaws.{Leads-map, Leads-same, Leads-weaken, Leads-then}
 use Rattle.rbu_run.specs.Handover.{KeepsOthers}
 
 -- a change under one name is none under another

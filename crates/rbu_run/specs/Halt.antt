@@ -1,7 +1,7 @@
 -- Why a call ended before its outcome, and what it left.
 use Rattle.std.specs.Prelude.{◌≡◌, Option}
 use Rattle.file_spec.specs.Files.{Files}
-use Rattle.file_spec.specs.Faults.{Leads}
+use Rattle.common_spec.specs.Told.{Leads}
 use Rattle.rbu_disk.specs.Call.{Failures, Fails}
 use Rattle.update_spec.specs.Answer.{SeesOldOrNew}
 use Rattle.rbu_run.specs.declared.halt.Halt.{Halt}

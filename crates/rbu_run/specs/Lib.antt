@@ -7,7 +7,8 @@ pub use Rattle.rbu_disk.specs.Call
 pub use Rattle.rbu_disk.specs.Sink
 pub use Rattle.file_spec.specs.Files
 pub use Rattle.file_spec.specs.Faults
-pub use Rattle.format_spec.specs.Numbers
+pub use Rattle.common_spec.specs.Counts
+pub use Rattle.format_spec.specs.Log
 pub use Rattle.update_spec.specs.Answer
 pub use Rattle.update_spec.specs.Words
 pub use Rattle.update_spec.specs.Text

@@ -1,6 +1,6 @@
 -- How the program tells an answer.
 use Rattle.std.specs.Prelude.{◌≡◌, ◌⊎◌, ◌++◌, ℕ, List, Option, option_map}
-use Rattle.file_spec.specs.Faults.{Leads}
+use Rattle.common_spec.specs.Told.{Leads}
 use Rattle.rbu_disk.specs.Sink.{GrewByPrefix}
 use Rattle.update_spec.specs.declared.Answer.{Answer}
 use Rattle.update_spec.specs.Text.{answer_line, answer_status, output_fault_status}

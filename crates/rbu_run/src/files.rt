@@ -1,7 +1,7 @@
 // What is read of the files before anything is changed.
 ghost use Rattle.std.specs.Prelude.{◌≡◌, ◌≢◌, ◌≤◌, ◌↔◌, length, replicate, IsTrue, IfOk, IfErr, OnOk, OnErr, MatchOption};
 ghost use Rattle.file_spec.specs.Files.{content};
-ghost use Rattle.file_spec.specs.Faults.{Leads};
+ghost use Rattle.common_spec.specs.Told.{Leads};
 ghost use Rattle.rbu_disk.specs.Call.{Fails};
 ghost use Rattle.update_spec.specs.Answer.{HasOtherFile};
 ghost use Rattle.rbu_run.specs.Halt.{HasCause};

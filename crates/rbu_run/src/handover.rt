@@ -3,9 +3,9 @@ ghost use Rattle.std.specs.Prelude.{◌≡◌, ◌≤◌, ◌<◌, ◌^◌, ◌�
 ghost use Rattle.std.specs.List.{flat_map};
 ghost use Rattle.file_spec.specs.declared.FileName.TheVariants.{Target, Oal, Wal};
 ghost use Rattle.file_spec.specs.Files.{content, with_file, after_remove, after_rename, OnlyChanges};
-ghost use Rattle.file_spec.specs.Faults.{Leads};
+ghost use Rattle.common_spec.specs.Told.{Leads};
 ghost use Rattle.rbu_disk.specs.Call.{Fails};
-ghost use Rattle.format_spec.specs.Numbers.{pair_of};
+ghost use Rattle.format_spec.specs.Log.{pair_of};
 ghost use Rattle.rbu_run.specs.Handover.{log_of, IsAlone, HasPages, HandsOver, SeesPages, KeepsOthers, LeavesLog};
 
 use rbu_disk::{Disk, DiskFault, FileName};

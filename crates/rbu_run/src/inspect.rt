@@ -2,7 +2,7 @@
 ghost use Rattle.std.specs.Prelude.{◌≡◌, ◌≤◌, ℕ, List, IfOk, IfErr, OnOk, IfSome, MatchOption};
 ghost use Rattle.file_spec.specs.declared.FileName.TheVariants.{Target, Rbu};
 ghost use Rattle.file_spec.specs.Files.{content};
-ghost use Rattle.file_spec.specs.Faults.{Leads};
+ghost use Rattle.common_spec.specs.Told.{Leads};
 ghost use Rattle.update_spec.specs.declared.TargetRow.{TargetRow};
 ghost use Rattle.update_spec.specs.declared.PreparedRow.{PreparedRow};
 ghost use Rattle.update_spec.specs.SmallFile.{IsSmallTarget, IsSmallRbu};

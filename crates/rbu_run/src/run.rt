@@ -1,7 +1,8 @@
 // The commands, from the words in to the line out.
 ghost use Rattle.std.specs.Prelude.{◌≡◌, ◌≢◌, ◌≤◌, ◌⊎◌, ◌↔◌, List, ℕ, map, string_bytes, IsTrue};
-ghost use Rattle.file_spec.specs.Faults.{Leads, Rises};
-ghost use Rattle.format_spec.specs.Numbers.{pair_of};
+ghost use Rattle.common_spec.specs.Told.{Leads};
+ghost use Rattle.common_spec.specs.Counts.{Rises};
+ghost use Rattle.format_spec.specs.Log.{pair_of};
 ghost use Rattle.update_spec.specs.declared.Outcome.{Outcome};
 ghost use Rattle.update_spec.specs.declared.Command.TheVariants.{Apply};
 ghost use Rattle.update_spec.specs.Answer.{HasOutcome, IsAnswer, IsUpdateAnswer, IsFinished, SeesOldOrNew};

@@ -1,7 +1,7 @@
 // The line and the status of an answer.
 ghost use Rattle.std.specs.Prelude.{◌≡◌, ◌≢◌, ◌≤◌, ◌⊎◌, ◌++◌, ◌∷◌, [], ℤ, length, string_bytes, IfOk, OnErr};
 ghost use Rattle.std.specs.Fmt.{signed_decimal};
-ghost use Rattle.file_spec.specs.Faults.{Rises};
+ghost use Rattle.common_spec.specs.Counts.{Rises};
 ghost use Rattle.refusal.specs.Refusal.{refusal_text};
 ghost use Rattle.update_spec.specs.Text.{answer_line, answer_status};
 ghost use Rattle.update_spec.specs.declared.Outcome.TheVariants.{KeyPresent, Refused};

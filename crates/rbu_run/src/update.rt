@@ -1,9 +1,9 @@
 // The update of a small target, from the files in to the files out.
 ghost use Rattle.std.specs.Prelude.{◌≡◌, ◌≤◌, ℕ, List, length, map, IfOk, IfErr, OnOk, OnErr};
 ghost use Rattle.std.specs.List.{All};
-ghost use Rattle.file_spec.specs.Faults.{Leads};
+ghost use Rattle.common_spec.specs.Told.{Leads};
 ghost use Rattle.rbu_disk.specs.Call.{Fails};
-ghost use Rattle.format_spec.specs.Numbers.{pair_of};
+ghost use Rattle.format_spec.specs.Log.{pair_of};
 ghost use Rattle.refusal.specs.declared.Refusal.TheVariants.{NotYet};
 ghost use Rattle.update_spec.specs.declared.Outcome.TheVariants.{Refused};
 ghost use Rattle.update_spec.specs.SmallFile.{IsSmallTarget, IsSmallRbu};

@@ -12,7 +12,7 @@ use Rattle.rbu_value.specs.declared.value.Value.TheVariants.{Null, Int, Text, Bl
 use Rattle.format_spec.specs.Varint.{IsVarint, varint, varint_front}
 use Rattle.format_spec.specs.Record.{int_type, int_size, int_body, serial_type, body, header_size_bytes, serial_types, record_header, canonical_record, IsField, AreFields, IsRecord}
 use Rattle.cell_codec.specs.VarintLaws.{same_varint, spelling_one_to_nine, varint_size, varint_spells, varint_one_to_nine}
-use Rattle.format_spec.specs.Parts.{same_parts}
+use Rattle.byte_fields.specs.BytesLaws.{append-same}
 use Rattle.record_codec.specs.Faults.{body_size}
 use Rattle.record_codec.specs.Integers.{IsFormOf, shortest_form, int_body_is, int_body_none}
 
@@ -101,7 +101,7 @@ same_fields types b c x y (v ∷ vs) (w ∷ ws) f g e =
     let sizes : length f.2 ≡ length g.2 = field_size f.0 f.2 v f.8 ∙ ap body_size kinds ∙ sym (field_size g.0 g.2 w g.8) in
     let split : f.2 ++ (f.4 ++ x) ≡ g.2 ++ (g.4 ++ y) =
     sym (append_assoc f.2 f.4 x) ∙ ap (λ s. s ++ x) (sym f.7) ∙ e ∙ ap (λ s. s ++ y) g.7 ∙ append_assoc g.2 g.4 y in
-    let parts = same_parts f.2 g.2 (f.4 ++ x) (g.4 ++ y) sizes split in
+    let parts = append-same f.2 g.2 (f.4 ++ x) (g.4 ++ y) sizes split in
     let field : IsField g.0 g.2 v = subst (λ t. IsField t g.2 v) kinds (subst (λ s. IsField f.0 s v) parts.0 f.8) in
     let first : v ≡ w = same_field g.0 g.2 v w field g.8 in
     let rest = same_fields g.3 f.4 g.4 x y vs ws (subst (λ s. AreFields s f.4 vs) others f.9) g.9 parts.1 in
@@ -117,7 +117,7 @@ same_header size types rest other_size other_types other_rest v w e =
     let sizes : size ≡ other_size = same.0 in
     let behind : types ++ rest ≡ other_types ++ other_rest =
     append_cancel_left size (types ++ rest) (other_types ++ other_rest) (e ∙ ap (λ s. s ++ (other_types ++ other_rest)) (sym sizes)) in
-    let parts = same_parts types other_types rest other_rest (omega (arith, same.1, ap length sizes)) behind in
+    let parts = append-same types other_types rest other_rest (omega (arith, same.1, ap length sizes)) behind in
     (sizes, parts.0, parts.1)
 
 -- no record begins a record of other values

@@ -1,6 +1,6 @@
 -- The cells of a page, one by one.
 use Rattle.std.proofs.Common.{◌≡◌, ℕ, ◌+◌, ◌*◌, ◌≤◌, max, List, length, take, drop, sym, ◌∙◌, ap, subst, length-drop, Ok, Result, arith}
-use Rattle.file_spec.specs.Files.{part_of}
+use Rattle.byte_fields.specs.Bytes.{part_of}
 use Rattle.format_spec.specs.declared.PageKind.TheVariants.{TableLeaf}
 use Rattle.format_spec.specs.declared.CellView.{CellView}
 use Rattle.format_spec.specs.Cell.{IsCell}

@@ -2,12 +2,12 @@
 use Rattle.std.proofs.Common.{◌≡◌, ℕ, ◌+◌, ◌-◌, ◌≤◌, ℤ, List, [], ◌∷◌, ◌++◌, length, map, get_or, take, drop, replicate, refl, sym, ◌∙◌, ap, Option, Some, None, subst, length-append, length-drop, arith}
 use Rattle.std.proofs.lemmas.List.{length-map, take_all, take-take, drop-take, drop-drop, append-nil}
 use Rattle.std.specs.Option.{IfNone}
-use Rattle.file_spec.specs.Files.{part_of, resized}
+use Rattle.byte_fields.specs.Bytes.{part_of, resized}
 use Rattle.rbu_value.specs.declared.value.Value.{Value}
 use Rattle.format_spec.specs.declared.PageKind.TheVariants.{TableLeaf}
 use Rattle.format_spec.specs.declared.CellView.{CellView}
 use Rattle.format_spec.specs.Cell.{IsCell}
-use Rattle.format_spec.specs.Numbers.{page_at}
+use Rattle.byte_fields.specs.Numbers.{page_at}
 use Rattle.format_spec.specs.Record.{canonical_record}
 use Rattle.format_spec.specs.Page.{IsPage}
 use Rattle.update_spec.specs.SmallFile.{IsRowCell, IsSmall, IsSmallHeader}

@@ -1,7 +1,7 @@
 -- Where the cells of a page stand.
 use Rattle.std.specs.Prelude.{◌≡◌, ℕ, ◌+◌, ◌*◌, ◌<◌, ◌≤◌, List, length, map, max, drop, slice_index_or}
 use Rattle.std.specs.List.{All}
-use Rattle.file_spec.specs.Files.{part_of}
+use Rattle.byte_fields.specs.Bytes.{part_of}
 use Rattle.format_spec.specs.declared.PageKind.TheVariants.{TableLeaf}
 use Rattle.format_spec.specs.declared.CellView.{CellView}
 use Rattle.format_spec.specs.Cell.{IsCell}

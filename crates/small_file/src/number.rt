@@ -1,6 +1,6 @@
 // Numbers at a place in bytes, the most significant byte first.
 ghost use Rattle.std.specs.Prelude.{◌≡◌, ◌+◌, ◌≤◌, length};
-ghost use Rattle.format_spec.specs.Numbers.{number_at};
+ghost use Rattle.byte_fields.specs.Numbers.{number_at};
 
 use byteorder::{BigEndian, ByteOrder};
 

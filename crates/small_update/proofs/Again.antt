@@ -13,7 +13,7 @@ use Rattle.byteorder.specs.Endian.{big_number}
 use Rattle.byteorder.specs.Numbers.{big_from-append}
 use Rattle.format_spec.specs.declared.PageKind.TheVariants.{TableLeaf}
 use Rattle.format_spec.specs.declared.CellView.{CellView}
-use Rattle.format_spec.specs.Numbers.{number_at, page_at}
+use Rattle.byte_fields.specs.Numbers.{number_at, page_at}
 use Rattle.format_spec.specs.Varint.{varint, varint_front}
 use Rattle.format_spec.specs.Record.{body, canonical_record, serial_type, header_size_bytes, serial_types}
 use Rattle.format_spec.specs.Cell.{IsCell}

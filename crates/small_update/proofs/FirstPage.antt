@@ -5,7 +5,7 @@ use Rattle.std.proofs.lemmas.Nat.{mod_below}
 use Rattle.byteorder.specs.Endian.{big_bytes, big_number}
 use Rattle.byteorder.specs.Numbers.{big_number-reads_back, big_from-take, length-bytes_high_first}
 use Rattle.format_spec.specs.declared.PageKind.TheVariants.{TableLeaf}
-use Rattle.format_spec.specs.Numbers.{number_at, with_number_at}
+use Rattle.byte_fields.specs.Numbers.{number_at, with_number_at}
 use Rattle.format_spec.specs.Header.{change_counter, schema_cookie}
 use Rattle.format_spec.specs.Page.{IsPage, AreApart, cell_place, cell_room}
 use Rattle.update_spec.specs.Outcome.{new_first_page, raised}

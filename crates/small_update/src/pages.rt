@@ -2,7 +2,7 @@
 ghost use Rattle.std.specs.Prelude.{◌≡◌, ◌↔◌, IsTrue, ◌<◌, ◌≤◌, ◌+◌, [], ◌∷◌, ◌++◌, length, map, take, drop};
 ghost use Rattle.std.specs.List.{between};
 ghost use Rattle.byteorder.specs.Endian.{big_bytes};
-ghost use Rattle.format_spec.specs.Numbers.{with_number_at};
+ghost use Rattle.byte_fields.specs.Numbers.{with_number_at};
 ghost use Rattle.format_spec.specs.Page.{packed_leaf};
 ghost use Rattle.update_spec.specs.Outcome.{page_room, new_first_page, new_pages};
 

@@ -13,7 +13,7 @@ use Rattle.update_spec.specs.declared.Outcome.TheVariants.{Done, KeyPresent, Ref
 use Rattle.update_spec.specs.declared.Answer.{Answer}
 use Rattle.update_spec.specs.declared.Answer.TheVariants.{Usage, Ended, Fault, NoMemory}
 use Rattle.update_spec.specs.Words.{IsUsage, AsksUpdate, AsksMore}
-use Rattle.file_spec.specs.Faults.{Leads}
+use Rattle.common_spec.specs.Told.{Leads}
 use Rattle.update_spec.specs.SmallFile.{IsSmallTarget, IsSmallRbu}
 use Rattle.update_spec.specs.View.{IsView, KeepsView}
 use Rattle.update_spec.specs.Outcome.{SharesKey, all_rows, page_room, IsPresent, IsFirstPresent, IsMerged, new_pages}

@@ -7,3 +7,5 @@ pub mod Words
 pub mod Text
 pub use Rattle.file_spec.specs.Files
 pub use Rattle.file_spec.specs.Faults
+pub use Rattle.common_spec.specs.Told
+pub use Rattle.common_spec.specs.Counts

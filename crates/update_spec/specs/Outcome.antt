@@ -1,7 +1,7 @@
 -- What the prepared rows of a small RBU database make of a small target.
 use Rattle.std.specs.Prelude.{◌≡◌, ℕ, ◌+◌, ◌%◌, ◌^◌, ◌<◌, ◌≤ℤ◌, List, [], ◌∷◌, ◌++◌, length, map, sum_by, slice_index_or, Contains, IsPermutation}
 use Rattle.rbu_value.specs.declared.value.Value.TheVariants.{Null}
-use Rattle.format_spec.specs.Numbers.{page_at, with_number_at}
+use Rattle.byte_fields.specs.Numbers.{page_at, with_number_at}
 use Rattle.format_spec.specs.Record.{canonical_record}
 use Rattle.format_spec.specs.Cell.{table_leaf_cell}
 use Rattle.format_spec.specs.Page.{packed_leaf}

@@ -4,7 +4,7 @@ use Rattle.std.specs.List.{flat_map}
 use Rattle.std.proofs.lemmas.List.{append-nil, drop_all, drop_at, length-drop, take_at}
 use borrow.Rule.Slice.PartMut.{put_mid}
 use Rattle.byteorder.specs.Endian.{big_bytes}
-use Rattle.format_spec.specs.Numbers.{pair_of}
+use Rattle.format_spec.specs.Log.{pair_of}
 use Rattle.format_spec.specs.Log.{checksum, pair_bytes, log_front, log_sums, log_header, frame_front, frame_sums, frame_header}
 
 -- the front of an array is written, and then the rest of it

@@ -1,8 +1,8 @@
 -- Laws about the definitions of the write-ahead log.
-use Rattle.std.proofs.Common.{◌≡◌, ℕ, ◌-◌, ◌*◌, ◌%◌, ◌^◌, ◌<◌, ◌≤◌, Bool, List, [], ◌∷◌, ◌++◌, length, take, drop, replicate, unwrap_or, zero, suc, refl, sym, ap, ap₂, ◌∙◌, arith}
-use Rattle.std.proofs.lemmas.List.{append-nil, append_assoc, drop_at, length-append, take_at}
-use Rattle.file_spec.specs.Files.{resized}
-use Rattle.format_spec.specs.Numbers.{page_at}
+use Rattle.std.proofs.Common.{◌≡◌, ℕ, ◌%◌, ◌<◌, ◌≤◌, Bool, List, [], ◌∷◌, ◌++◌, length, unwrap_or, zero, suc, refl, sym, ap, ◌∙◌, arith}
+use Rattle.std.proofs.lemmas.List.{append-nil, length-append}
+use Rattle.byte_fields.specs.NumbersLaws.{page_at-whole}
+use Rattle.byte_fields.specs.Numbers.{page_at}
 use Rattle.format_spec.specs.Log.{checksum, word, sums_after, Frame, last_frame_of, IsOverlay}
 
 -- the checksum of whole pairs of words goes on over what follows them
@@ -18,17 +18,6 @@ checksum-append big sums (a ∷ b ∷ c ∷ d ∷ e ∷ f ∷ []) rest whole = a
 checksum-append big sums (a ∷ b ∷ c ∷ d ∷ e ∷ f ∷ g ∷ []) rest whole = absurd (omega arith)
 checksum-append big sums (a ∷ b ∷ c ∷ d ∷ e ∷ f ∷ g ∷ h ∷ more) rest whole =
     checksum-append big (sums_after sums (word big (a ∷ b ∷ c ∷ d ∷ [])) (word big (e ∷ f ∷ g ∷ h ∷ []))) more rest (omega arith)
-
--- the page at a place, as the bytes that stand there
-pub page_at-whole : (size number : ℕ) (front page rest : List ℕ) → length front ≡ (number - 1) * size → length page ≡ size
-    → page_at size number (front ++ (page ++ rest)) ≡ page
-page_at-whole size number front page rest before long =
-    let from : drop ((number - 1) * size) (front ++ (page ++ rest)) ≡ page ++ rest = drop_at front (page ++ rest) ((number - 1) * size) before in
-    let cut : take size (page ++ rest) ≡ page = take_at page rest size long in
-    let none : size - length (page ++ rest) ≡ 0 = omega (arith, length-append page rest) in
-    ap (λ (b : List ℕ). resized b size) from
-    ∙ ap₂ (λ (a : List ℕ) (n : ℕ). a ++ replicate n 0) cut none
-    ∙ append-nil page
 
 -- page 1 not in a commit, and page 2 with the commit of a file of two pages
 abbrev pub two_pages : List ℕ → List ℕ → List Frame

@@ -1,6 +1,6 @@
 // The headers of a log and of its frames.
 ghost use Rattle.std.specs.Prelude.{◌≡◌, ◌%◌, true, length};
-ghost use Rattle.format_spec.specs.Numbers.{pair_of};
+ghost use Rattle.format_spec.specs.Log.{pair_of};
 ghost use Rattle.format_spec.specs.Log.{log_header, log_sums, frame_header, frame_sums};
 
 use crate::sums::checksum;

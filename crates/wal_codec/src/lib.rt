@@ -3,7 +3,7 @@
 //! The layer above writes a whole log by `header_bytes`, and then for each page `frame_bytes` and the page itself. Each call gives
 //! the checksum that the next one takes. `checksum` is offered to readers of logs.
 //!
-//! The definitions stand in `format_spec`: `Log` has the log's, and `Numbers` has `pair_of`, an array of two words as a pair.
+//! The definitions stand in `format_spec`: `Log`, also `pair_of`, an array of two words as a pair.
 //! That a header with frames is a log, and bytes are one in one way, is said there too, by `LogReading`. `specs/LogLaws` has laws
 //! about what is written: a checksum goes on over what follows, and a log of both pages of a file of two pages overlays any other
 //! file by it.

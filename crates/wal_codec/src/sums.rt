@@ -1,6 +1,6 @@
 // The log's checksum.
 ghost use Rattle.std.specs.Prelude.{◌≡◌, ◌%◌, length};
-ghost use Rattle.format_spec.specs.Numbers.{pair_of};
+ghost use Rattle.format_spec.specs.Log.{pair_of};
 ghost use Rattle.format_spec.specs.Log.{word, checksum};
 
 use byteorder::{BigEndian, ByteOrder, LittleEndian};

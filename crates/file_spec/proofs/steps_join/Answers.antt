@@ -1,5 +1,5 @@
 use Rattle.std.proofs.Common.{◌≡◌, ap, ◌∙◌}
-use Rattle.file_spec.specs.FaultsLaws.{Leads-map, Leads-then}
+use Rattle.common_spec.specs.ToldLaws.{Leads-map, Leads-then}
 use Rattle.file_spec.proofs.steps_join.Goals as goal
 
 pub returns : goal.returns

@@ -1,5 +1,6 @@
 use Rattle.std.proofs.Common.{length, refl}
-use Rattle.file_spec.specs.FilesLaws.{with_file-again, overwritten-end}
+use Rattle.byte_fields.specs.BytesLaws.{overwritten-end}
+use Rattle.file_spec.specs.FilesLaws.{with_file-again}
 use Rattle.file_spec.proofs.writes_join.Goals as goal
 
 pub returns-clause-again : goal.returns-clause-again

@@ -1,7 +1,7 @@
-use Rattle.std.proofs.Common.{◌≡◌, [], ◌∷◌, ◌++◌, refl, ap, ap₂, append-nil, subst, sym, ◌∙◌, lit<, List, ℕ, false}
+use Rattle.std.proofs.Common.{◌≡◌, [], ◌∷◌, ◌++◌, refl, subst, lit<, List, ℕ, false}
 use Rattle.format_spec.specs.Log.{log_header, log_sums, frame_header, frames_bytes, IsLog}
 use Rattle.format_spec.specs.LogReading.{log-of_frames}
-use Rattle.format_spec.specs.LittleLog.{little_page, little_frame, little_salt, little_header, little_frame_header, little_log}
+use Rattle.format_spec.specs.LittleLog.{little_frame, little_salt, little_log}
 use Rattle.format_spec.proofs.sqlite_rows.worked_log.Goals as goal
 
 -- the header and the frame as the log has them

@@ -1,5 +1,5 @@
 use Rattle.std.proofs.Common.{◌≡◌, ℕ, zero, suc, ◌<◌, ◌≤◌, [], ◌∷◌, unwrap_or, refl, arith}
-use Rattle.format_spec.specs.Numbers.{page_at}
+use Rattle.byte_fields.specs.Numbers.{page_at}
 use Rattle.format_spec.specs.Log.{last_frame_of}
 use Rattle.format_spec.proofs.sqlite_rows.worked_overlay.Goals as goal
 

@@ -1,5 +1,4 @@
-use Rattle.std.proofs.Common.{◌≡◌, [], ◌∷◌, refl, arith, rules}
-use Rattle.format_spec.specs.Varint.{IsVarint}
+use Rattle.std.proofs.Common.{[], ◌∷◌, refl, arith, rules}
 use Rattle.format_spec.proofs.sqlite_rows.worked_spellings.Goals as goal
 
 pub returns-clause-shortest : goal.returns-clause-shortest

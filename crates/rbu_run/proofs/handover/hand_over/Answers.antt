@@ -1,8 +1,8 @@
 use Rattle.std.proofs.Common.{◌≡◌, ◌⊎◌, inr, option_map}
 use Rattle.file_spec.specs.declared.FileName.TheVariants.{Wal}
 use Rattle.file_spec.specs.Files.{after_remove}
-use Rattle.file_spec.specs.Faults.{Leads}
-use Rattle.format_spec.specs.Numbers.{pair_of}
+use Rattle.common_spec.specs.Told.{Leads}
+use Rattle.format_spec.specs.Log.{pair_of}
 use Rattle.rbu_run.proofs.Parts.{on-err, on-ok-map, on-err-map, on-either}
 use Rattle.rbu_run.proofs.Handovers.{PagesCopied, log-moved, sees-log, sees-move, sees-copy, pages-copied, handed-over, sees-drop, logs-log, logs-move, logs-copy, logs-drop}
 use Rattle.rbu_run.proofs.Others.{others-oal, others-target, others-rename, others-maybe_rename, others-dropped, others-then}

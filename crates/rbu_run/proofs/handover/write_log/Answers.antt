@@ -1,6 +1,6 @@
 use Rattle.std.proofs.Common.{◌≡◌, ◌++◌, [], arith}
 use Rattle.file_spec.specs.declared.FileName.TheVariants.{Oal}
-use Rattle.format_spec.specs.Numbers.{pair_of}
+use Rattle.format_spec.specs.Log.{pair_of}
 use Rattle.rbu_run.specs.Handover.{log_of}
 use Rattle.rbu_run.proofs.Parts.{on-ok, five_short}
 use Rattle.rbu_run.proofs.LogWrites.{only-none, only-then, only-created, log_parts, Made}

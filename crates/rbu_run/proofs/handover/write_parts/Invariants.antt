@@ -2,7 +2,7 @@ use Rattle.std.proofs.Common.{◌≡◌, [], length, take, Some}
 use Rattle.std.specs.List.{flat_map}
 use Rattle.file_spec.specs.declared.FileName.TheVariants.{Oal}
 use Rattle.file_spec.specs.Files.{with_file, OnlyChanges}
-use Rattle.file_spec.specs.Faults.{Leads}
+use Rattle.common_spec.specs.Told.{Leads}
 use Rattle.rbu_run.proofs.handover.write_parts.Given as goal
 
 abbrev pub invariant-loop-part : goal.invariant-loop-part

@@ -1,5 +1,5 @@
 use Rattle.std.proofs.Common.{◌≡◌, Some, refl, sym, ◌∙◌, inr, inl, true, map, string_bytes}
-use Rattle.format_spec.specs.Numbers.{pair_of}
+use Rattle.format_spec.specs.Log.{pair_of}
 use Rattle.update_spec.specs.declared.Command.TheVariants.{Apply}
 use Rattle.update_spec.specs.Words.{AsksUpdate}
 use Rattle.rbu_run.proofs.Others.{others-same}

@@ -1,5 +1,5 @@
 use Rattle.std.proofs.Common.{map, string_bytes}
-use Rattle.file_spec.specs.FaultsLaws.{Leads-weaken}
+use Rattle.common_spec.specs.ToldLaws.{Leads-weaken}
 use Rattle.update_spec.specs.declared.Outcome.{Outcome}
 use Rattle.update_spec.specs.Answer.{HasOutcome, IsAnswer}
 use Rattle.rbu_run.specs.Status.{HasStatusOf, IsOutcome}

@@ -1,4 +1,4 @@
-use Rattle.file_spec.specs.FaultsLaws.{Leads-weaken}
+use Rattle.common_spec.specs.ToldLaws.{Leads-weaken}
 use Rattle.update_spec.specs.Answer.{SeesOldOrNew}
 use Rattle.rbu_run.proofs.run.update_answer.Goals as goal
 

@@ -2,9 +2,9 @@ use Rattle.std.proofs.Common.{rules, refl}
 use mir.Syntax.{w64}
 use mir.Val.{SFits}
 use Rattle.std.proofs.lemmas.Int.{to_z-of_z}
-use Rattle.file_spec.specs.Faults.{Leads}
-use Rattle.file_spec.specs.FaultsLaws.{Leads-weaken}
-use Rattle.format_spec.specs.Numbers.{pair_of}
+use Rattle.common_spec.specs.Told.{Leads}
+use Rattle.common_spec.specs.ToldLaws.{Leads-weaken}
+use Rattle.format_spec.specs.Log.{pair_of}
 use Rattle.refusal.specs.declared.Part.TheVariants as part
 use Rattle.refusal.specs.declared.Refusal.TheVariants.{NotYet}
 use Rattle.update_spec.specs.declared.Outcome.TheVariants.{Done, KeyPresent, Refused}

@@ -1,7 +1,7 @@
 use Rattle.std.proofs.Common.{◌≡◌, ◌∙◌, IfSome}
-use Rattle.file_spec.specs.Faults.{Leads}
-use Rattle.file_spec.specs.FaultsLaws.{Leads-weaken}
-use Rattle.format_spec.specs.Numbers.{pair_of}
+use Rattle.common_spec.specs.Told.{Leads}
+use Rattle.common_spec.specs.ToldLaws.{Leads-weaken}
+use Rattle.format_spec.specs.Log.{pair_of}
 use Rattle.update_spec.specs.Answer.{AfterOutcome}
 use Rattle.rbu_run.specs.Halt.{AfterHalt, HasCause}
 use Rattle.rbu_run.specs.Inspection.{IsSmallWith, HasOnly, HasOnlyRows}

@@ -2,7 +2,7 @@ use Rattle.std.proofs.Common.{◌≡◌, ◌+◌, get_or, sym, ap, ◌∙◌, ar
 use Rattle.std.proofs.lemmas.Result.{IfOk-weaker}
 use Rattle.std.proofs.lemmas.Option.{IfSome_then}
 use Rattle.std.specs.Option.{IfSome}
-use Rattle.format_spec.specs.Numbers.{number_at}
+use Rattle.byte_fields.specs.Numbers.{number_at}
 use Rattle.format_spec.specs.Page.{cell_count}
 use Rattle.small_file.specs.Pages.{HoldsCells}
 use Rattle.small_file.proofs.PageCells.{holds_cells, array_fits}

@@ -1,7 +1,7 @@
 use Rattle.std.proofs.Common.{◌≡◌, ◌+◌, ◌-◌, ◌*◌, length, take, drop, sym, ap, ◌∙◌, subst, arith}
 use Rattle.std.proofs.lemmas.List.{take_rest}
 use Rattle.format_spec.specs.declared.PageKind.TheVariants.{TableLeaf}
-use Rattle.format_spec.specs.Numbers.{number_at}
+use Rattle.byte_fields.specs.Numbers.{number_at}
 use Rattle.format_spec.specs.Page.{array_place, cell_place}
 use Rattle.small_file.proofs.Pages.{BeginsWith, begins_at, placed_at, same_ok}
 use Rattle.small_file.proofs.page.read_placed_cell.Goals as goal

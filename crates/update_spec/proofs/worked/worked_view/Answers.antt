@@ -1,5 +1,5 @@
-use Rattle.std.proofs.Common.{◌≡◌, ℕ, zero, suc, ◌<◌, ◌≤◌, List, [], ◌∷◌, ◌++◌, replicate, unwrap_or, refl, arith}
-use Rattle.format_spec.specs.Numbers.{page_at}
+use Rattle.std.proofs.Common.{◌≡◌, ℕ, zero, suc, ◌<◌, ◌≤◌, [], ◌∷◌, ◌++◌, replicate, unwrap_or, refl, arith}
+use Rattle.byte_fields.specs.Numbers.{page_at}
 use Rattle.format_spec.specs.Log.{last_frame_of}
 use Rattle.format_spec.specs.LittleLog.{little_page, little_frame}
 use Rattle.update_spec.proofs.worked.worked_view.Goals as goal

@@ -1,5 +1,5 @@
 use Rattle.std.proofs.Common.{◌≡◌, length}
-use Rattle.format_spec.specs.Numbers.{pair_of}
+use Rattle.format_spec.specs.Log.{pair_of}
 use Rattle.format_spec.specs.Log.{checksum}
 use Rattle.wal_codec.proofs.sums.checksum.Given as goal
 

@@ -1,6 +1,6 @@
 -- The bytes after the growth and the copy are the old ones written over.
 use Rattle.std.proofs.Common.{ap, ◌∙◌}
-use Rattle.file_spec.specs.Files.{overwritten}
+use Rattle.byte_fields.specs.Bytes.{overwritten}
 use Rattle.disk_memory.proofs.Bytes.{overwritten_by_parts}
 use Rattle.disk_memory.proofs.file.File.overwrite.Goals as goal
 

@@ -1,7 +1,7 @@
 -- Numbers at a place in bytes, the most significant byte first, and the pages of a file (Database File Format, sections 1.2 and 1.3).
-use Rattle.std.specs.Prelude.{ℕ, ◌+◌, ◌-◌, ◌*◌, List, ◌++◌, take, drop, slice_index}
+use Rattle.std.specs.Prelude.{ℕ, ◌+◌, ◌-◌, ◌*◌, List, ◌++◌, take, drop}
 use Rattle.byteorder.specs.Endian.{big_number, big_bytes}
-use Rattle.file_spec.specs.Files.{resized}
+use Rattle.byte_fields.specs.Bytes.{resized}
 
 -- the number in the n bytes at a place
 abbrev pub number_at : ℕ → ℕ → List ℕ → ℕ
@@ -14,7 +14,3 @@ with_number_at at n x bytes = take at bytes ++ (big_bytes n x ++ drop (at + n) b
 -- page `number`, which counts from 1, of a file with pages of `size` bytes; past the file's end bytes count as 0
 abbrev pub page_at : ℕ → ℕ → List ℕ → List ℕ
 page_at size number bytes = resized (drop ((number - 1) * size) bytes) size
-
--- an array of two numbers as a pair
-abbrev pub pair_of : List ℕ → ℕ × ℕ
-pair_of xs = (slice_index xs 0, slice_index xs 1)

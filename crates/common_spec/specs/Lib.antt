@@ -1,0 +1,7 @@
+pub mod Maps
+pub mod MapsLaws
+pub mod Told
+pub mod ToldLaws
+pub mod Counts
+pub mod Reading
+pub mod ReadingLaws

@@ -11,6 +11,8 @@ use Rattle.format_spec.specs.declared.PageKind.TheVariants.{TableLeaf}
 use Rattle.format_spec.specs.declared.CellView.{CellView}
 use Rattle.format_spec.specs.Varint.{IsVarint}
 use Rattle.format_spec.specs.Cell.{IsTableLeafCell, payload_limit, local_size, overflow_size}
+use Rattle.common_spec.specs.Reading.{Reads, OrNone}
+use Rattle.cell_codec.specs.Varints.{BeginsWithVarint}
 use Rattle.cell_codec.specs.VarintLaws.{same_front}
 use Rattle.cell_codec.specs.Cells.{BeginsWithCell, BeginsWithLengthOver, part_size, IsLocalPart}
 use Rattle.cell_codec.specs.declared.cell.LocalPart.{LocalPart}
@@ -21,8 +23,8 @@ use Rattle.cell_codec.specs.declared.cell.CellFault.TheVariants.{ShortCell, Size
 abbrev pub BeginsWithNone : List ℕ → Type 0
 BeginsWithNone bytes = (value n : ℕ) → n ≤ length bytes → IsVarint (take n bytes) value → ⊥
 
-pub begins_with_none : (bytes : List ℕ) (r : Option (ℕ × ℕ)) → r ≡ None → ((value n : ℕ) → n ≤ length bytes → IsVarint (take n bytes) value → r ≡ Some (value, n)) → BeginsWithNone bytes
-begins_with_none bytes r e only value n h v = none-some (value, n) (sym e ∙ only value n h v)
+pub begins_with_none : (bytes : List ℕ) (r : Option (ℕ × ℕ)) → r ≡ None → Reads (OrNone (BeginsWithVarint bytes)) r → BeginsWithNone bytes
+begins_with_none bytes r e reads value n h v = none-some (value, n) (sym e ∙ reads.only (Some (value, n)) (h, v))
 
 -- nor with a length that a payload can have
 abbrev pub BeginsWithNoLength : List ℕ → Type 0
@@ -38,10 +40,10 @@ pub record VarintIs (bytes : List ℕ) (value size : ℕ) : Type 0 where
   pub spelled : IsVarint (take size bytes) value
 
 -- what was read behind n bytes
-pub varint_is : (bytes rest : List ℕ) (n : ℕ) (r : Option (ℕ × ℕ)) (value size : ℕ) → rest ≡ drop n bytes → r ≡ Some (value, size) → IfSome r (λ found. (found.1 ≤ length rest) × IsVarint (take found.1 rest) found.0)
+pub varint_is : (bytes rest : List ℕ) (n : ℕ) (r : Option (ℕ × ℕ)) (value size : ℕ) → rest ≡ drop n bytes → r ≡ Some (value, size) → Reads (OrNone (BeginsWithVarint rest)) r
     → VarintIs (drop n bytes) value size
 varint_is bytes rest n r value size s e h =
-    let f : (size ≤ length rest) × IsVarint (take size rest) value = rw e at h in
+    let f : BeginsWithVarint rest (value, size) = subst (OrNone (BeginsWithVarint rest)) e h.holds in
     record { within = subst (λ t. size ≤ length t) s f.0; spelled = subst (λ t. IsVarint (take size t) value) s f.1 }
 
 pub varint_at : (bytes rest : List ℕ) (n value size : ℕ) → rest ≡ drop n bytes → size ≤ length rest → IsVarint (take size rest) value → VarintIs (drop n bytes) value size

@@ -9,6 +9,8 @@ use Rattle.format_spec.specs.declared.CellView.{CellView}
 use Rattle.format_spec.specs.Varint.{IsVarint, varint}
 use Rattle.format_spec.specs.Cell.{IsCell, payload_limit, local_size, child_size, overflow_size, cell_bytes, table_leaf_cell}
 use Rattle.cell_codec.specs.declared.cell.LocalPart.{LocalPart}
+use Rattle.cell_codec.specs.declared.cell.CellFault.{CellFault}
+use Rattle.cell_codec.specs.declared.cell.CellFault.TheVariants.{ShortCell, SizeOverLimit}
 
 -- the bytes begin with a cell
 abbrev pub BeginsWithCell : PageKind → ℕ → List ℕ → CellView → Type 0
@@ -24,6 +26,11 @@ BeginsOverLimit TableLeaf bytes = BeginsWithLengthOver bytes
 BeginsOverLimit TableInterior bytes = ⊥
 BeginsOverLimit IndexLeaf bytes = BeginsWithLengthOver bytes
 BeginsOverLimit IndexInterior bytes = BeginsWithLengthOver (drop 4 bytes)
+
+-- why bytes begin with no cell: the payload's length is over the greatest one, or else they end inside the cell
+abbrev pub HasCellFault : PageKind → ℕ → List ℕ → CellFault → Type 0
+HasCellFault kind usable bytes ShortCell = ((cell : CellView) → ¬ BeginsWithCell kind usable bytes cell) × ¬ BeginsOverLimit kind bytes
+HasCellFault kind usable bytes SizeOverLimit = BeginsOverLimit kind bytes
 
 -- how many bytes of a cell the local part of a payload takes, with those that name the first overflow page
 abbrev pub part_size : PageKind → ℕ → ℕ → ℕ

@@ -1,3 +1,4 @@
 pub mod VarintLaws
+pub mod Varints
 pub mod Cells
 pub mod CellLaws

@@ -3,12 +3,13 @@ ghost use Rattle.std.specs.Prelude.{◌≡◌, [], ◌+◌, ◌-◌, ◌^◌, �
 ghost use Rattle.std.specs.Int.{w64};
 ghost use Rattle.std.specs.Int.RustNames.{FitsSigned};
 ghost use Rattle.byteorder.specs.Endian.{big_bytes, big_number};
+ghost use Rattle.common_spec.specs.Reading.{Reads, OrFault};
 ghost use Rattle.format_spec.specs.declared.CellView.{CellView};
 ghost use Rattle.format_spec.specs.declared.PageKind.{PageKind};
 ghost use Rattle.format_spec.specs.declared.PageKind.TheVariants.{IndexInterior, TableInterior, IndexLeaf, TableLeaf};
 ghost use Rattle.format_spec.specs.Cell.{IsCell, IsTableInteriorCell, IsIndexCell, payload_limit, max_local as local_limit, local_size as local_bytes, child_size as child_bytes, overflow_size as overflow_bytes, cell_bytes, index_cell_bytes, table_leaf_cell};
 ghost use Rattle.format_spec.specs.Varint.{IsVarint, varint};
-ghost use Rattle.cell_codec.specs.Cells.{BeginsWithCell, BeginsWithLengthOver, BeginsOverLimit, part_size, IsLocalPart, IsWritable, whole_cell, interior_cell, whole_index_cell};
+ghost use Rattle.cell_codec.specs.Cells.{BeginsWithCell, BeginsWithLengthOver, HasCellFault, part_size, IsLocalPart, IsWritable, whole_cell, interior_cell, whole_index_cell};
 
 use crate::varint::{read_varint, varint_length, write_varint};
 use byteorder::{BigEndian, ByteOrder};
@@ -209,10 +210,7 @@ fn read_index_cell(kind: PageKind, usable: u32, bytes: &[u8]) -> Result<CellView
 pub fn read_cell(kind: PageKind, usable: u32, bytes: &[u8]) -> Result<CellView, CellFault>
     requires least { 480 ≤ usable }
     requires most { usable ≤ 32768 }
-    ensures found { IfOk result (λ cell. (cell.size ≤ length bytes.now) × IsCell kind usable (take cell.size bytes.now) cell) }
-    ensures only { (cell : CellView) → cell.size ≤ length bytes.now → IsCell kind usable (take cell.size bytes.now) cell → result ≡ Ok cell }
-    ensures over { (result ≡ Err CellFault.SizeOverLimit) ↔ BeginsOverLimit kind bytes.now }
-    ensures short { (result ≡ Err CellFault.ShortCell) ↔ (((cell : CellView) → ¬ BeginsWithCell kind usable bytes.now cell) × ¬ BeginsOverLimit kind bytes.now) }
+    ensures { Reads (OrFault (BeginsWithCell kind usable bytes.now) (HasCellFault kind usable bytes.now)) result }
 {
     match kind {
         PageKind::TableLeaf => read_table_leaf_cell(usable, bytes),

@@ -1,15 +1,16 @@
 // Variable-length integers.
 ghost use Rattle.std.specs.Prelude.{◌≡◌, ℕ, ◌+◌, ◌*◌, ◌^◌, ◌<◌, ◌≤◌, ◌↔◌, ◌++◌, List, IfSome, IsNone, OnOk, OnErr, length, take, drop};
 ghost use Rattle.std.specs.List.{AllByRecursion};
+ghost use Rattle.common_spec.specs.Reading.{Reads, OrNone};
+ghost use Rattle.cell_codec.specs.Varints.{BeginsWithVarint, IsCut};
 ghost use Rattle.format_spec.specs.Varint.{HasHighBit, IsVarint, varint, varint_front};
 
 use std::alloc::AllocError;
 
 /// Reads the varint at the front, and how many bytes it takes, 1 to 9 (Database File Format, section 1.6). Longer spellings than the shortest are read too. `None` where the bytes end inside it.
 pub fn read_varint(bytes: &[u8]) -> Option<(u64, usize)>
-    ensures found { IfSome result (λ found. (found.1 ≤ length bytes.now) × IsVarint (take found.1 bytes.now) found.0) }
-    ensures only { (value n : ℕ) → n ≤ length bytes.now → IsVarint (take n bytes.now) value → result ≡ Some (value, n) }
-    ensures none { IsNone result ↔ (AllByRecursion HasHighBit bytes.now × (length bytes.now < 9)) }
+    ensures answer { Reads (OrNone (BeginsWithVarint bytes.now)) result }
+    ensures none { IsNone result ↔ IsCut bytes.now }
 {
     let mut high = 0;
     for i in 0..8 {

@@ -1,8 +1,8 @@
 -- One answer that has what a reader promises is the only one: crates above cite these facts in their proofs.
-use Rattle.std.specs.Prelude.{◌≡◌, ℕ, Option, Some, None, Ok, Err, refl}
+use Rattle.std.specs.Prelude.{◌≡◌, ℕ, ◌<◌, ◌⊎◌, Option, Some, None, Result, Ok, Err, IfSome, IfOk, IfErr, refl}
 use Rattle.std.proofs.Common.{ap, arith, inl, inr}
 use Rattle.std.proofs.lemmas.Bool.{cases_lt}
-use Rattle.common_spec.specs.Reading.{Reads, OrNone, OrFault, IsFirst}
+use Rattle.common_spec.specs.Reading.{Reads, OrNone, OrFault, IsFirst, ReadsOrWants}
 
 -- two that have P are one
 abbrev pub IsOne : {A : Type 0} → (A → Type 0) → Type 0
@@ -37,6 +37,31 @@ IsFirst-one order F one f g has also =
       ]
     ]
 
--- nothing is found exactly where nothing has P
-pub none-of_reads : {A : Type 0} (P : A → Type 0) (answer : Option A) → Reads (OrNone P) answer → ((found : A) → ¬ P found) → answer ≡ None
-none-of_reads P answer reads none = reads.only None none
+-- what is found has P, and whatever has P is found
+pub OrNone-reads : {A : Type 0} (P : A → Type 0) (answer : Option A) → IfSome answer P → ((found : A) → P found → answer ≡ Some found) → Reads (OrNone P) answer
+OrNone-reads {A} P (Some a) found only = record { holds = found; only = others }
+  where
+    others : (other : Option A) → OrNone P other → Some a ≡ other
+    others (Some b) has = only b has
+    others None none = absurd (none a found)
+OrNone-reads {A} P None found only = record { holds = λ b has. let e : None ≡ Some b = only b has in absurd (cc); only = others }
+  where
+    others : (other : Option A) → OrNone P other → None ≡ other
+    others (Some b) has = only b has
+    others None none = refl
+
+-- what is found has P and a fault has F, and whatever has either is the answer
+pub OrFault-reads : {A E : Type 0} (P : A → Type 0) (F : E → Type 0) (answer : Result A E) → OrFault P F answer
+    → ((found : A) → P found → answer ≡ Ok found) → ((fault : E) → F fault → answer ≡ Err fault) → Reads (OrFault P F) answer
+OrFault-reads {A} {E} P F answer holds only only_fault = record { holds = holds; only = others }
+  where
+    others : (other : Result A E) → OrFault P F other → answer ≡ other
+    others (Ok b) has = only b has
+    others (Err fault) has = only_fault fault has
+
+-- what was read has P or is want of memory, and there is one answer that has P
+pub ReadsOrWants-one : {A B E : Type 0} (seen : A → B) (IsMemory : E → Type 0) (P : Result B E → Type 0) (answer : Result A E) → IsOne P
+    → IfOk answer (λ found. P (Ok (seen found))) → IfErr answer (λ fault. IsMemory fault ⊎ P (Err fault)) → ReadsOrWants seen IsMemory P answer
+ReadsOrWants-one seen IsMemory P (Ok found) one holds fault = Reads-one P (Ok (seen found)) one holds
+ReadsOrWants-one seen IsMemory P (Err e) one holds (inl memory) = inl memory
+ReadsOrWants-one seen IsMemory P (Err e) one holds (inr fault) = inr (Reads-one P (Err e) one fault)

@@ -1,24 +1,21 @@
 -- What an answer of `read_header` leaves no room for.
 use Rattle.std.proofs.Common.{◌≡◌, ℕ, ◌*◌, ◌^◌, ◌<◌, ◌≤◌, max, List, Result, Ok, Err, sym, ap, ap₂, subst, arith}
 use Rattle.std.proofs.lemmas.Bool.Decides.{nat_tests}
-use Rattle.std.specs.Prelude.{MatchResult}
+use Rattle.common_spec.specs.Reading.{Reads, OrFault}
+use Rattle.common_spec.specs.ReadingLaws.{Reads-one}
 use Rattle.format_spec.specs.Header.{page_size}
 use Rattle.db_header.specs.declared.fields.Header.{Header}
 use Rattle.db_header.specs.declared.fields.HeaderFault.{HeaderFault}
 use Rattle.db_header.specs.declared.fields.HeaderFault.TheVariants.{SizeMismatch}
-use Rattle.db_header.specs.Reading.{IsSupported, HasItsPages, counted_pages, read_format, Reads, IsFirstFault}
-use Rattle.db_header.specs.HeaderLaws.{reads-no_fault, same_first_fault, same_header, first-size_mismatch}
+use Rattle.db_header.specs.Reading.{IsSupported, HasItsPages, counted_pages, read_format, IsHeaderOf, IsFirstFault}
+use Rattle.db_header.specs.HeaderLaws.{one_answer, first-size_mismatch}
 
+-- the answer of a file
 abbrev pub Answers : List ℕ → ℕ → Result Header HeaderFault → Type 0
-Answers bytes file_len result = MatchResult result (Reads bytes file_len) (IsFirstFault bytes file_len)
+Answers bytes file_len = OrFault (IsHeaderOf bytes file_len) (IsFirstFault bytes file_len)
 
-pub accepted : (bytes : List ℕ) (file_len : ℕ) (result : Result Header HeaderFault) → Answers bytes file_len result → (header : Header) → Reads bytes file_len header → result ≡ Ok header
-accepted bytes file_len (Ok other) answer header reads = ap Ok (same_header bytes file_len other header answer reads)
-accepted bytes file_len (Err fault) answer header reads = absurd (reads-no_fault bytes file_len header fault reads answer.holds)
-
-pub refused : (bytes : List ℕ) (file_len : ℕ) (result : Result Header HeaderFault) → Answers bytes file_len result → (fault : HeaderFault) → IsFirstFault bytes file_len fault → result ≡ Err fault
-refused bytes file_len (Ok header) answer fault first = absurd (reads-no_fault bytes file_len header fault answer first.holds)
-refused bytes file_len (Err other) answer fault first = ap Err (same_first_fault bytes file_len other fault answer first)
+pub reads : (bytes : List ℕ) (file_len : ℕ) (result : Result Header HeaderFault) → Answers bytes file_len result → Reads (Answers bytes file_len) result
+reads bytes file_len result = Reads-one (Answers bytes file_len) result (one_answer bytes file_len)
 
 -- the pages that count, as they were computed
 abbrev pub HasPages : ℕ → ℕ → ℕ → Type 0

@@ -6,12 +6,14 @@ use Rattle.byte_fields.specs.Numbers.{number_at}
 use Rattle.format_spec.specs.Header.{page_size, reserved, change_counter, pages, version_valid_for, largest_root, text_encoding, schema_format}
 use Rattle.byte_fields.specs.Fields.{Field, AllUpTo, AllFit, number_of}
 use Rattle.byte_fields.specs.FieldsLaws.{number_at-with_fields, length-with_fields, take-with_fields, drop-with_fields}
+use Rattle.common_spec.specs.Reading.{OrFault}
+use Rattle.common_spec.specs.ReadingLaws.{IsOne, OrFault-one, IsFirst-one}
 use Rattle.db_header.specs.Writing.{header_written, IsHeader}
 use Rattle.std.proofs.lemmas.Bool.{cases_lt}
 use Rattle.db_header.specs.declared.fields.Header.{Header}
 use Rattle.db_header.specs.declared.fields.HeaderFault.{HeaderFault}
 use Rattle.db_header.specs.declared.fields.HeaderFault.TheVariants.{NotADatabase, PageSize, WalMode, Encoding, AutoVacuum, SizeMismatch, ReservedSpace, SchemaFormat}
-use Rattle.db_header.specs.Reading.{IsDatabase, HasRollbackVersions, read_format, IsPageSize, IsSupported, HasItsPages, HasFault, fault_order, IsFirstFault, Reads, counted_pages}
+use Rattle.db_header.specs.Reading.{IsDatabase, HasRollbackVersions, read_format, IsPageSize, IsSupported, HasItsPages, HasFault, fault_order, IsHeaderOf, IsFirstFault, counted_pages}
 
 -- a header that can be read has no fault but that of its size
 pub supported-no_fault : (bytes : List ℕ) (file_len : ℕ) (fault : HeaderFault) → IsSupported bytes → fault_order fault < 7 → ¬ HasFault bytes file_len fault
@@ -25,7 +27,7 @@ supported-no_fault bytes file_len (AutoVacuum value) ok early fault = omega (ari
 supported-no_fault bytes file_len (SizeMismatch pages length) ok early fault = absurd (omega arith)
 
 -- a file that is read has no fault
-pub reads-no_fault : (bytes : List ℕ) (file_len : ℕ) (header : Header) (fault : HeaderFault) → Reads bytes file_len header → ¬ HasFault bytes file_len fault
+pub reads-no_fault : (bytes : List ℕ) (file_len : ℕ) (header : Header) (fault : HeaderFault) → IsHeaderOf bytes file_len header → ¬ HasFault bytes file_len fault
 reads-no_fault bytes file_len header (SizeMismatch pages length) ok fault = fault.2 ok.whole
 reads-no_fault bytes file_len header fault ok has = supported-no_fault bytes file_len fault ok.supported (omega arith) has
 
@@ -48,19 +50,8 @@ same_order bytes file_len (AutoVacuum v) g hf hg e = absurd (omega arith)
 same_order bytes file_len (SizeMismatch p l) (SizeMismatch q m) hf hg e = ap₂ SizeMismatch (hf.0 ∙ sym hg.0) (hf.1 ∙ sym hg.1)
 same_order bytes file_len (SizeMismatch p l) g hf hg e = absurd (omega arith)
 
--- a file has one first fault
-pub same_first_fault : (bytes : List ℕ) (file_len : ℕ) (f g : HeaderFault) → IsFirstFault bytes file_len f → IsFirstFault bytes file_len g → f ≡ g
-same_first_fault bytes file_len f g hf hg =
-    elim (cases_lt (fault_order f) (fault_order g)) [
-      | inl before ↦ absurd (hg.first f before hf.holds)
-      | inr not_before ↦ elim (cases_lt (fault_order g) (fault_order f)) [
-        | inl before ↦ absurd (hf.first g before hg.holds)
-        | inr not_behind ↦ same_order bytes file_len f g hf.holds hg.holds (omega arith)
-      ]
-    ]
-
 -- a file reads as one header
-pub same_header : (bytes : List ℕ) (file_len : ℕ) (h k : Header) → Reads bytes file_len h → Reads bytes file_len k → h ≡ k
+pub same_header : (bytes : List ℕ) (file_len : ℕ) (h k : Header) → IsHeaderOf bytes file_len h → IsHeaderOf bytes file_len k → h ≡ k
 same_header bytes file_len h k rh rk = λ i. record {
   page_size = (rh.page_size_is ∙ sym rk.page_size_is) i;
   reserved = (rh.reserved_is ∙ sym rk.reserved_is) i;
@@ -71,6 +62,14 @@ same_header bytes file_len h k rh rk = λ i. record {
   schema_cookie = (rh.schema_cookie_is ∙ sym rk.schema_cookie_is) i;
   format = (rh.format_is ∙ sym rk.format_is) i;
 }
+
+-- a file has one header or one first fault
+pub one_answer : (bytes : List ℕ) (file_len : ℕ) → IsOne (OrFault (IsHeaderOf bytes file_len) (IsFirstFault bytes file_len))
+one_answer bytes file_len =
+    OrFault-one (IsHeaderOf bytes file_len) (IsFirstFault bytes file_len)
+    (same_header bytes file_len)
+    (IsFirst-one fault_order (HasFault bytes file_len) (same_order bytes file_len))
+    (λ header fault reads first. reads-no_fault bytes file_len header fault reads first.holds)
 
 -- where the size does not fit, that is the first fault of a header that can be read
 pub first-size_mismatch : (bytes : List ℕ) (file_len : ℕ) → IsSupported bytes → ¬ HasItsPages bytes file_len → IsFirstFault bytes file_len (SizeMismatch (counted_pages bytes file_len) file_len)
@@ -173,7 +172,7 @@ read_format-some number some = grind (arith, nat_tests)
 pub reads-header_written : (header : Header) (bytes : List ℕ) (file_len : ℕ)
     → IsDatabase bytes → HasRollbackVersions bytes → text_encoding bytes ≤ 1 → largest_root bytes ≡ 0
     → IsHeader header → header.pages * header.page_size ≤ file_len
-    → Reads (header_written header bytes) file_len header
+    → IsHeaderOf (header_written header bytes) file_len header
 reads-header_written header bytes file_len database versions utf8 no_auto_vacuum ok long =
     let new = header_written header bytes in
     let stays = λ (place size : ℕ). number_at-header_written place size header bytes ok database.long in
@@ -224,7 +223,7 @@ read_format-range : (number : ℕ) → number ≤ 4 → (1 ≤ read_format numbe
 read_format-range number most = (grind (arith, nat_tests), grind (arith, nat_tests))
 
 -- a header that is read can be written
-pub is_header-read : (bytes : List ℕ) (file_len : ℕ) (header : Header) → ((k : ℕ) → slice_index bytes k < 256) → Reads bytes file_len header → IsHeader header
+pub is_header-read : (bytes : List ℕ) (file_len : ℕ) (header : Header) → ((k : ℕ) → slice_index bytes k < 256) → IsHeaderOf bytes file_len header → IsHeader header
 is_header-read bytes file_len header each reads =
     let format = read_format-range (schema_format bytes) reads.supported.known_format in
     let P : ℕ → Type 0 = IsPageSize in

@@ -2,6 +2,7 @@
 use Rattle.std.specs.Prelude.{◌≡◌, ℕ, ◌-◌, ◌*◌, ◌/◌, ◌^◌, ◌<◌, ◌≤◌, ◌==◌, ◌&&◌, nat_lt, if◌then◌else◌, List, length}
 use Rattle.std.specs.Int.{IsPowerOfTwo}
 use Rattle.format_spec.specs.Header.{HasMagic, page_size, write_version, read_version, reserved, max_fraction, min_fraction, leaf_fraction, change_counter, pages, freelist_trunk, freelist_pages, schema_cookie, schema_format, largest_root, text_encoding, version_valid_for}
+use Rattle.common_spec.specs.Reading.{IsFirst}
 use Rattle.db_header.specs.declared.fields.Header.{Header}
 use Rattle.db_header.specs.declared.fields.HeaderFault.{HeaderFault}
 use Rattle.db_header.specs.declared.fields.HeaderFault.TheVariants.{NotADatabase, PageSize, WalMode, Encoding, AutoVacuum, SizeMismatch, ReservedSpace, SchemaFormat}
@@ -51,7 +52,7 @@ pub record IsSupported (bytes : List ℕ) : Type 0 where
   pub no_auto_vacuum : largest_root bytes ≡ 0
 
 -- The first bytes of a file of this length are not refused, and their fields are those of the header.
-pub record Reads (bytes : List ℕ) (file_len : ℕ) (header : Header) : Type 0 where
+pub record IsHeaderOf (bytes : List ℕ) (file_len : ℕ) (header : Header) : Type 0 where
   pub supported : IsSupported bytes
   pub whole : HasItsPages bytes file_len
   pub page_size_is : header.page_size ≡ page_size bytes
@@ -86,7 +87,6 @@ fault_order (Encoding value) = 5
 fault_order (AutoVacuum value) = 6
 fault_order (SizeMismatch pages length) = 7
 
--- the fault is one of the file's, and the file has no fault that comes before it
-pub record IsFirstFault (bytes : List ℕ) (file_len : ℕ) (fault : HeaderFault) : Type 0 where
-  pub holds : HasFault bytes file_len fault
-  pub first : (other : HeaderFault) → fault_order other < fault_order fault → ¬ HasFault bytes file_len other
+-- the first fault of a file
+abbrev pub IsFirstFault : List ℕ → ℕ → HeaderFault → Type 0
+IsFirstFault bytes file_len = IsFirst fault_order (HasFault bytes file_len)

@@ -1,21 +1,21 @@
 // Laws about the definitions of the header.
-ghost use Rattle.std.specs.Prelude.{◌≡◌, ◌*◌, ◌<◌, ◌≤◌, ℕ, List, length, drop, slice_index};
+ghost use Rattle.std.specs.Prelude.{◌≡◌, ◌*◌, ◌<◌, ◌≤◌, ℕ, List, Result, length, drop, slice_index};
 ghost use Rattle.format_spec.specs.Header.{largest_root, text_encoding, change_counter, version_valid_for};
 ghost use Rattle.db_header.specs.declared.fields.Header.{Header};
 ghost use Rattle.db_header.specs.declared.fields.HeaderFault.{HeaderFault};
-ghost use Rattle.db_header.specs.Reading.{IsDatabase, HasRollbackVersions, Reads, IsFirstFault};
+ghost use Rattle.common_spec.specs.Reading.{OrFault};
+ghost use Rattle.db_header.specs.Reading.{IsDatabase, HasRollbackVersions, IsHeaderOf, IsFirstFault};
 ghost use Rattle.db_header.specs.Writing.{IsHeader, header_written};
 
-/// A file reads as one header, or has one first fault, and not both.
+/// A file has one header or one first fault, and not both.
 pub fn header_has_one_reading()
-    ensures header { (bytes : List ℕ) (file_len : ℕ) (h k : Header) → Reads bytes file_len h → Reads bytes file_len k → h ≡ k }
-    ensures fault { (bytes : List ℕ) (file_len : ℕ) (f g : HeaderFault) → IsFirstFault bytes file_len f → IsFirstFault bytes file_len g → f ≡ g }
-    ensures one_of_both { (bytes : List ℕ) (file_len : ℕ) (h : Header) (f : HeaderFault) → Reads bytes file_len h → IsFirstFault bytes file_len f → ⊥ }
+    ensures { (bytes : List ℕ) (file_len : ℕ) (a b : Result Header HeaderFault) →
+        OrFault (IsHeaderOf bytes file_len) (IsFirstFault bytes file_len) a → OrFault (IsHeaderOf bytes file_len) (IsFirstFault bytes file_len) b → a ≡ b }
 {}
 
 /// A header that is read from bytes can be written.
 pub fn read_header_can_be_written()
-    ensures { (bytes : List ℕ) (file_len : ℕ) (header : Header) → ((k : ℕ) → slice_index bytes k < 256) → Reads bytes file_len header → IsHeader header }
+    ensures { (bytes : List ℕ) (file_len : ℕ) (header : Header) → ((k : ℕ) → slice_index bytes k < 256) → IsHeaderOf bytes file_len header → IsHeader header }
 {}
 
 /// A header that is written into page 1 of a database is read again, in a file that has its pages. The size is valid, the length
@@ -24,7 +24,7 @@ pub fn written_header_is_read()
     ensures read { (header : Header) (bytes : List ℕ) (file_len : ℕ)
         → IsDatabase bytes → HasRollbackVersions bytes → text_encoding bytes ≤ 1 → largest_root bytes ≡ 0
         → IsHeader header → header.pages * header.page_size ≤ file_len
-        → Reads (header_written header bytes) file_len header }
+        → IsHeaderOf (header_written header bytes) file_len header }
     ensures valid { (header : Header) (bytes : List ℕ) → IsHeader header → 100 ≤ length bytes
         → version_valid_for (header_written header bytes) ≡ change_counter (header_written header bytes) }
     ensures long { (header : Header) (bytes : List ℕ) → 100 ≤ length bytes → length (header_written header bytes) ≡ length bytes }

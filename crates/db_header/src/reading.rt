@@ -1,9 +1,8 @@
 // Reading the header.
 ghost use Rattle.std.specs.Prelude.{◌≡◌, ℕ, ◌+◌, ◌-◌, ◌<◌, ◌≤◌, ◌^◌, ◌↔◌, ◌*◌, length, IsTrue, MatchResult};
 ghost use Rattle.format_spec.specs.Header.{HasMagic, page_size as page_size_of, max_fraction, min_fraction, leaf_fraction};
-ghost use Rattle.db_header.specs.declared.fields.Header.{Header};
-ghost use Rattle.db_header.specs.declared.fields.HeaderFault.{HeaderFault};
-ghost use Rattle.db_header.specs.Reading.{IsDatabase, IsPageSize, HasRollbackVersions, counted_pages as counted, IsSupported, Reads, IsFirstFault};
+ghost use Rattle.common_spec.specs.Reading.{Reads, OrFault};
+ghost use Rattle.db_header.specs.Reading.{IsDatabase, IsPageSize, HasRollbackVersions, counted_pages as counted, IsSupported, IsHeaderOf, IsFirstFault};
 
 use crate::fields::{Header, HeaderFault};
 use byte_fields::{u8_at, u16_at, u32_at};
@@ -113,9 +112,7 @@ fn check_supported(bytes: &[u8]) -> Result<(), HeaderFault>
 /// `bytes` are the first bytes of the file, at least 100 where it has so many, and `file_len` is the length of the file in bytes.
 /// Schema format 0 reads as 1, and text encoding 0 counts as UTF-8.
 pub fn read_header(bytes: &[u8], file_len: u64) -> Result<Header, HeaderFault>
-    ensures answer { MatchResult result (Reads bytes.now file_len) (IsFirstFault bytes.now file_len) }
-    ensures accepted { (header : Header) → Reads bytes.now file_len header → result ≡ Ok header }
-    ensures refused { (fault : HeaderFault) → IsFirstFault bytes.now file_len fault → result ≡ Err fault }
+    ensures { Reads (OrFault (IsHeaderOf bytes.now file_len) (IsFirstFault bytes.now file_len)) result }
 {
     check_supported(bytes)?;
     let page_size = u32::from(u16_at(bytes, 16));

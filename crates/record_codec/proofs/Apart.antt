@@ -7,11 +7,14 @@ use Rattle.rbu_value.specs.declared.value.Value.{Value}
 use Rattle.rbu_value.specs.declared.value.Value.TheVariants.{Null, Int, Text, Blob}
 use Rattle.format_spec.specs.Varint.{IsVarint}
 use Rattle.format_spec.specs.Record.{IsField, AreFields, IsRecord}
+use Rattle.cell_codec.specs.Varints.{IsCut}
 use Rattle.cell_codec.specs.VarintLaws.{same_varint, none_in_high}
 use Rattle.record_codec.specs.declared.read.RecordFault.{RecordFault}
 use Rattle.record_codec.specs.declared.read.RecordFault.TheVariants.{ShortHeader, ReservedType, RealValue, BodyLength, Memory}
-use Rattle.record_codec.specs.Faults.{IsReserved, IsValueType, body_size, IsCut, BeginsWith, After, StopsWith, FieldsHaveFault, HasHeader, HasNoHeader, HasFault}
-use Rattle.record_codec.specs.RecordLaws.{field_size, no_varint_ends, same_header}
+use Rattle.record_codec.specs.Faults.{IsReserved, IsValueType, body_size, BeginsWith, After, StopsWith, FieldsHaveFault, HasHeader, HasNoHeader, HasFault}
+use Rattle.record_codec.specs.RecordLaws.{field_size, no_varint_ends, same_header, same_record}
+use Rattle.common_spec.specs.Reading.{OrFault}
+use Rattle.common_spec.specs.ReadingLaws.{IsOne, OrFault-one}
 
 -- no varint stands at the front of bytes that end inside it
 pub cut_short : (bytes spelling rest : List ℕ) (type : ℕ) → IsCut bytes → IsVarint spelling type → bytes ≡ spelling ++ rest → ⊥
@@ -144,3 +147,11 @@ same_fault bytes f g h k =
                 (same_reading f g v.3.read w.3.read w.0 (subst (After (StopsWith f) v.3.read) parts.1 v.3.stop) w.3.stop).1
           ]
     ]
+
+-- bytes are a record of one list of values, or have one fault
+pub one_answer : (bytes : List ℕ) → IsOne (OrFault (IsRecord bytes) (HasFault bytes))
+one_answer bytes =
+    OrFault-one (IsRecord bytes) (HasFault bytes)
+    (λ a b r s. (same_record a b bytes bytes [] [] r s refl).0)
+    (same_fault bytes)
+    (λ values fault. record_no_fault bytes values fault)

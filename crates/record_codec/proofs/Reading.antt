@@ -1,18 +1,18 @@
 -- What the loops of the reader keep.
-use Rattle.std.proofs.Common.{◌≡◌, ℕ, ◌-◌, ◌<◌, ◌≤◌, ◌⊎◌, List, [], ◌∷◌, ◌++◌, length, take, drop, inl, inr, refl, sym, ◌∙◌, ap, subst, append_assoc, length-append, arith, Result, Ok, Err, Option, Some, IfSome}
+use Rattle.std.proofs.Common.{◌≡◌, ℕ, ◌-◌, ◌<◌, ◌≤◌, ◌⊎◌, List, [], ◌∷◌, ◌++◌, length, take, drop, inl, inr, refl, sym, ◌∙◌, ap, subst, append_assoc, length-append, arith, Option, Some}
 use Rattle.cell_codec.specs.VarintLaws.{spelling_one_to_nine}
 use Rattle.std.proofs.lemmas.List.{nil_from_length, length-take-le, length-drop, take_all, drop-drop, take-append-drop}
 use Rattle.std.proofs.lemmas.List.Sums.{sum_by-cons}
 use Rattle.std.proofs.lemmas.Bool.{cases_lt}
-use Rattle.std.specs.Result.{IfOk, IfErr, MatchResult}
 use Rattle.rbu_value.specs.declared.value.Value.{Value}
 use Rattle.format_spec.specs.Varint.{IsVarint}
 use Rattle.format_spec.specs.Record.{IsField, AreFields, IsRecord}
 use Rattle.record_codec.specs.declared.read.RecordFault.{RecordFault}
 use Rattle.record_codec.specs.declared.read.RecordFault.TheVariants.{BodyLength}
 use Rattle.record_codec.specs.Faults.{IsMemory, IsReserved, IsValueType, body_size, BeginsWith, After, StopsWith, FieldsHaveFault, HasHeader, HasNoHeader, HasFault}
-use Rattle.record_codec.specs.RecordLaws.{field_size, same_record}
-use Rattle.record_codec.proofs.Apart.{record_no_fault, same_fault}
+use Rattle.record_codec.specs.RecordLaws.{field_size}
+use Rattle.common_spec.specs.Reading.{Reads, OrNone}
+use Rattle.cell_codec.specs.Varints.{BeginsWithVarint}
 
 -- the reading of serial types ends with this fault
 abbrev pub ReadingStops : List ℕ → RecordFault → Type 0
@@ -85,26 +85,14 @@ bodies_end types bodies behind type fault s short r =
 pub bodies_go_on : (bodies : List ℕ) → (bodies ≡ [] → ⊥) → FieldsHaveFault [] bodies BodyLength
 bodies_go_on bodies n = record { read = []; stop = refl; sizes = λ b all. n (nil_from_length bodies all) }
 
--- what was read is the record, and nothing else was
-pub read_only : {V : Type 0} (items : V → List Value) (bytes : List ℕ) (r : Result V RecordFault) → IfOk r (λ v. IsRecord bytes (items v)) → IfErr r (λ fault. IsMemory fault ⊎ HasFault bytes fault)
-    → (values : List Value) → IsRecord bytes values → MatchResult r (λ v. items v ≡ values) IsMemory
-read_only items bytes (Ok v) f g values w = (same_record (items v) values bytes bytes [] [] f w refl).0
-read_only items bytes (Err e) f g values w = elim g [ inl m ↦ m | inr h ↦ absurd (record_no_fault bytes values e w h) ]
-
--- the fault is the one of the bytes
-pub fault_only : {V : Type 0} (items : V → List Value) (bytes : List ℕ) (r : Result V RecordFault) → IfOk r (λ v. IsRecord bytes (items v)) → IfErr r (λ fault. IsMemory fault ⊎ HasFault bytes fault)
-    → (fault : RecordFault) → HasFault bytes fault → MatchResult r (λ _. ⊥) (λ other. IsMemory other ⊎ (other ≡ fault))
-fault_only items bytes (Ok v) f g fault h = record_no_fault bytes (items v) fault f h
-fault_only items bytes (Err e) f g fault h = elim g [ inl m ↦ inl m | inr k ↦ inr (same_fault bytes e fault k h) ]
-
 -- a varint at the front of bytes, and how many bytes it takes
 pub record FrontIs (bytes : List ℕ) (number size : ℕ) : Type 0 where
   pub within : size ≤ length bytes
   pub spelled : IsVarint (take size bytes) number
 
-pub front_is : (bytes : List ℕ) (r : Option (ℕ × ℕ)) (number size : ℕ) → r ≡ Some (number, size) → IfSome r (λ found. (found.1 ≤ length bytes) × IsVarint (take found.1 bytes) found.0) → FrontIs bytes number size
+pub front_is : (bytes : List ℕ) (r : Option (ℕ × ℕ)) (number size : ℕ) → r ≡ Some (number, size) → Reads (OrNone (BeginsWithVarint bytes)) r → FrontIs bytes number size
 front_is bytes r number size e h =
-    let f : (size ≤ length bytes) × IsVarint (take size bytes) number = rw e at h in
+    let f : BeginsWithVarint bytes (number, size) = subst (OrNone (BeginsWithVarint bytes)) e h.holds in
     record { within = f.0; spelled = f.1 }
 
 pub header_found : (bytes : List ℕ) (end start : ℕ) → FrontIs bytes end start → start ≤ end → end ≤ length bytes

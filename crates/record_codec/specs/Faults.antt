@@ -1,7 +1,8 @@
 -- Why bytes are no record (Database File Format, section 2.1).
 use Rattle.std.specs.Prelude.{◌≡◌, ◌≢◌, ℕ, ◌+◌, ◌-◌, ◌/◌, ◌<◌, ◌⊎◌, nat_lt, if◌then◌else◌, List, [], ◌∷◌, ◌++◌, length}
-use Rattle.std.specs.List.{AllByRecursion, sum_by}
-use Rattle.format_spec.specs.Varint.{HasHighBit, IsVarint}
+use Rattle.std.specs.List.{sum_by}
+use Rattle.format_spec.specs.Varint.{IsVarint}
+use Rattle.cell_codec.specs.Varints.{IsCut}
 use Rattle.format_spec.specs.Record.{int_size}
 use Rattle.record_codec.specs.declared.read.RecordFault.{RecordFault}
 use Rattle.record_codec.specs.declared.read.RecordFault.TheVariants.{ShortHeader, ReservedType, RealValue, BodyLength, Memory}
@@ -30,10 +31,6 @@ IsValueType type = (type ≢ 7) × (type ≢ 10) × (type ≢ 11)
 abbrev pub body_size : ℕ → ℕ
 body_size type =
     if nat_lt type 1 then 0 else if nat_lt type 7 then int_size type else if nat_lt type 12 then 0 else (type - 12) / 2
-
--- the bytes end inside the varint at their front
-abbrev pub IsCut : List ℕ → Type 0
-IsCut bytes = AllByRecursion HasHighBit bytes × (length bytes < 9)
 
 -- a varint of which P holds stands at the front
 pub record BeginsWith (P : ℕ → Type 0) (bytes : List ℕ) : Type 0 where

@@ -1,6 +1,7 @@
 // Reads records.
 ghost use Rattle.std.specs.Prelude.{◌≡◌, ℕ, ◌<◌, ◌⊎◌, ◌++◌, List, IfOk, IfErr, MatchResult, length};
 ghost use Rattle.rbu_value.specs.declared.value.Value.{Value};
+ghost use Rattle.common_spec.specs.Reading.{OrFault, ReadsOrWants};
 ghost use Rattle.format_spec.specs.Varint.{IsVarint};
 ghost use Rattle.format_spec.specs.Record.{IsField, AreFields, IsRecord};
 ghost use Rattle.record_codec.specs.declared.read.RecordFault.{RecordFault};
@@ -127,10 +128,7 @@ fn read_fields(alloc: Global, types: &[u8], bodies: &[u8]) -> Result<Vec<Value>,
 
 /// Reads the values of a record. Longer spellings of varints and of integers are read too. Where bytes have several faults, that of the header's length comes first, then those of the serial types from the left, and that of the bodies last.
 pub fn read_record(alloc: Global, bytes: &[u8]) -> Result<Vec<Value>, RecordFault>
-    ensures found { IfOk result (λ values. IsRecord bytes.now values.items) }
-    ensures only { (values : List Value) → IsRecord bytes.now values → MatchResult result (λ read. read.items ≡ values) IsMemory }
-    ensures fault { IfErr result (λ fault. IsMemory fault ⊎ HasFault bytes.now fault) }
-    ensures fault_only { (fault : RecordFault) → HasFault bytes.now fault → MatchResult result (λ _. ⊥) (λ other. IsMemory other ⊎ (other ≡ fault)) }
+    ensures { ReadsOrWants (λ values. values.items) IsMemory (OrFault (IsRecord bytes.now) (HasFault bytes.now)) result }
 {
     let (types, bodies) = read_header(bytes)?;
     read_fields(alloc, types, bodies)

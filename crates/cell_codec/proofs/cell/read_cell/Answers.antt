@@ -2,7 +2,9 @@ use Rattle.std.proofs.Common.{◌≡◌, ◌↔◌, ℕ, List, Result, Ok, Err, 
 use Rattle.format_spec.specs.declared.PageKind.{PageKind}
 use Rattle.format_spec.specs.declared.PageKind.TheVariants.{IndexInterior, TableInterior, IndexLeaf, TableLeaf}
 use Rattle.format_spec.specs.declared.CellView.{CellView}
-use Rattle.cell_codec.specs.Cells.{BeginsWithCell, BeginsOverLimit}
+use Rattle.common_spec.specs.Reading.{Reads, OrFault}
+use Rattle.common_spec.specs.ReadingLaws.{OrFault-reads}
+use Rattle.cell_codec.specs.Cells.{BeginsWithCell, BeginsOverLimit, HasCellFault}
 use Rattle.cell_codec.specs.declared.cell.CellFault.{CellFault}
 use Rattle.cell_codec.specs.declared.cell.CellFault.TheVariants.{ShortCell, SizeOverLimit}
 use Rattle.cell_codec.proofs.cell.read_cell.Goals as goal
@@ -24,12 +26,19 @@ none_at : (P : CellView → Type 0) (Q : Type 0) (r : Result CellView CellFault)
     → r ≡ Err ShortCell → ((cell : CellView) → ¬ P cell) × ¬ Q
 none_at P Q r only over e = (λ cell h. let f : r ≡ Ok cell = only cell h in absurd (cc), λ h. let f : r ≡ Err SizeOverLimit = over.1 h in absurd (cc))
 
-short_is : (kind : PageKind) (usable : ℕ) (bytes : List ℕ) (r : Result CellView CellFault) → IsRead kind usable bytes r
-    → (r ≡ Err ShortCell) ↔ (((cell : CellView) → ¬ BeginsWithCell kind usable bytes cell) × ¬ BeginsOverLimit kind bytes)
-short_is kind usable bytes r h = (
-  none_at (BeginsWithCell kind usable bytes) (BeginsOverLimit kind bytes) r h.only h.over,
-  short_at (BeginsWithCell kind usable bytes) (BeginsOverLimit kind bytes) r h.found h.only h.over,
-)
+-- the answer both ways
+reads : (kind : PageKind) (usable : ℕ) (bytes : List ℕ) (r : Result CellView CellFault) → IsRead kind usable bytes r
+    → Reads (OrFault (BeginsWithCell kind usable bytes) (HasCellFault kind usable bytes)) r
+reads kind usable bytes r h = OrFault-reads (BeginsWithCell kind usable bytes) (HasCellFault kind usable bytes) r (holds r h) h.only faults
+  where
+    holds : (r : Result CellView CellFault) → IsRead kind usable bytes r → OrFault (BeginsWithCell kind usable bytes) (HasCellFault kind usable bytes) r
+    holds (Ok cell) h = h.found
+    holds (Err ShortCell) h = none_at (BeginsWithCell kind usable bytes) (BeginsOverLimit kind bytes) (Err ShortCell) h.only h.over refl
+    holds (Err SizeOverLimit) h = h.over.0 refl
+
+    faults : (fault : CellFault) → HasCellFault kind usable bytes fault → r ≡ Err fault
+    faults ShortCell none = short_at (BeginsWithCell kind usable bytes) (BeginsOverLimit kind bytes) r h.found h.only h.over none
+    faults SizeOverLimit over = h.over.1 over
 
 at_kind : (kind other : PageKind) (usable : ℕ) (bytes : List ℕ) (r : Result CellView CellFault) → other ≡ kind → IsRead kind usable bytes r → IsRead other usable bytes r
 at_kind kind other usable bytes r e h = subst (λ k. IsRead k usable bytes r) (sym e) h
@@ -37,39 +46,19 @@ at_kind kind other usable bytes r e h = subst (λ k. IsRead k usable bytes r) (s
 pub returns-in-TableLeaf : goal.returns-in-TableLeaf
 returns-in-TableLeaf c =
     let read = at_kind TableLeaf c.args.kind c.args.usable c.args.bytes.now c.read_table_leaf_cell.result c.in-TableLeaf.is (record { found = c.read_table_leaf_cell.ensures.found; only = c.read_table_leaf_cell.ensures.only; over = c.read_table_leaf_cell.ensures.over }) in
-    record {
-      found = read.found;
-      only = λ cell h v. read.only cell (h, v);
-      over = read.over;
-      short = short_is c.args.kind c.args.usable c.args.bytes.now c.read_table_leaf_cell.result read;
-    }
+    reads c.args.kind c.args.usable c.args.bytes.now c.read_table_leaf_cell.result read
 
 pub returns-in-TableInterior : goal.returns-in-TableInterior
 returns-in-TableInterior c =
     let read = at_kind TableInterior c.args.kind c.args.usable c.args.bytes.now c.read_table_interior_cell.result c.in-TableInterior.is (record { found = c.read_table_interior_cell.ensures.found; only = c.read_table_interior_cell.ensures.only; over = (λ e. c.read_table_interior_cell.ensures.over e, λ h. absurd h) }) in
-    record {
-      found = read.found;
-      only = λ cell h v. read.only cell (h, v);
-      over = read.over;
-      short = short_is c.args.kind c.args.usable c.args.bytes.now c.read_table_interior_cell.result read;
-    }
+    reads c.args.kind c.args.usable c.args.bytes.now c.read_table_interior_cell.result read
 
 pub returns-in-IndexLeaf : goal.returns-in-IndexLeaf
 returns-in-IndexLeaf c =
     let read = at_kind IndexLeaf c.args.kind c.args.usable c.args.bytes.now c.read_index_cell.result c.in-IndexLeaf.is (record { found = c.read_index_cell.ensures.found; only = c.read_index_cell.ensures.only; over = c.read_index_cell.ensures.over }) in
-    record {
-      found = read.found;
-      only = λ cell h v. read.only cell (h, v);
-      over = read.over;
-      short = short_is c.args.kind c.args.usable c.args.bytes.now c.read_index_cell.result read;
-    }
+    reads c.args.kind c.args.usable c.args.bytes.now c.read_index_cell.result read
 
 pub returns-in-IndexInterior : goal.returns-in-IndexInterior
 returns-in-IndexInterior c =
     let read = at_kind IndexInterior c.args.kind c.args.usable c.args.bytes.now c.read_index_cell-in-IndexInterior.result c.in-IndexInterior.is (record { found = c.read_index_cell-in-IndexInterior.ensures.found; only = c.read_index_cell-in-IndexInterior.ensures.only; over = c.read_index_cell-in-IndexInterior.ensures.over }) in
-    record {
-      found = read.found;
-      only = λ cell h v. read.only cell (h, v);
-      over = read.over;
-      short = short_is c.args.kind c.args.usable c.args.bytes.now c.read_index_cell-in-IndexInterior.result read;
-    }
+    reads c.args.kind c.args.usable c.args.bytes.now c.read_index_cell-in-IndexInterior.result read

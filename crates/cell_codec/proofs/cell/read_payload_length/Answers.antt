@@ -10,17 +10,17 @@ same_found r a b m n e f =
 
 pub returns-then-payload-gt-PAYLOAD_LIMIT-clause-only : goal.returns-then-payload-gt-PAYLOAD_LIMIT-clause-only
 returns-then-payload-gt-PAYLOAD_LIMIT-clause-only c = λ value n h v l.
-    let same = same_found c.read_varint.result c.in_ok-payload.payload c.in_ok-payload.size value n c.in_ok-payload.ensures.ok_part (c.read_varint.ensures.only value n h v) in
+    let same = same_found c.read_varint.result c.in_ok-payload.payload c.in_ok-payload.size value n c.in_ok-payload.ensures.ok_part (c.read_varint.ensures.answer.only (Some (value, n)) (h, v)) in
     absurd (omega (arith, same.0))
 
 pub returns-clause-only : goal.returns-clause-only
 returns-clause-only c = λ value n h v l.
-    let same = same_found c.read_varint.result c.in_ok-payload.payload c.in_ok-payload.size value n c.in_ok-payload.ensures.ok_part (c.read_varint.ensures.only value n h v) in
+    let same = same_found c.read_varint.result c.in_ok-payload.payload c.in_ok-payload.size value n c.in_ok-payload.ensures.ok_part (c.read_varint.ensures.answer.only (Some (value, n)) (h, v)) in
     let p : c.in_ok-payload.payload ≡ value = same.0 in
     let q : c.in_ok-payload.size ≡ n = same.1 in
     cc
 
 pub returns-clause-over : goal.returns-clause-over
 returns-clause-over c =
-    let v = varint_is c.args.bytes.now c.args.bytes.now 0 c.read_varint.result c.in_ok-payload.payload c.in_ok-payload.size refl c.in_ok-payload.ensures.ok_part c.read_varint.ensures.found in
+    let v = varint_is c.args.bytes.now c.args.bytes.now 0 c.read_varint.result c.in_ok-payload.payload c.in_ok-payload.size refl c.in_ok-payload.ensures.ok_part c.read_varint.ensures.answer in
     (λ e. absurd (cc), λ h. absurd (not_over c.args.bytes.now c.in_ok-payload.payload c.in_ok-payload.size v (omega arith) h))

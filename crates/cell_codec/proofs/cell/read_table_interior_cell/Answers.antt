@@ -12,7 +12,7 @@ use Rattle.cell_codec.proofs.cell.read_table_interior_cell.Goals as goal
 pub returns-in_err-rowid-clause-only : goal.returns-in_err-rowid-clause-only
 returns-in_err-rowid-clause-only c =
     let bytes = c.args.bytes.now in
-    let none = begins_with_none (slice_range bytes 4 (length bytes)) c.read_varint.result c.in_err-rowid.ensures.ok_part c.read_varint.ensures.only in
+    let none = begins_with_none (slice_range bytes 4 (length bytes)) c.read_varint.result c.in_err-rowid.ensures.ok_part c.read_varint.ensures.answer in
     λ cell h. absurd (no_interior_rowid bytes (subst BeginsWithNone (take_rest bytes 4) none) cell h)
 
 pub returns : goal.returns
@@ -20,7 +20,7 @@ returns c =
     let bytes = c.args.bytes.now in
     let number = c.in_ok-rowid.rowid in
     let j = c.in_ok-rowid.rowid_size in
-    let w = varint_is bytes (slice_range bytes 4 (length bytes)) 4 c.read_varint.result number j (take_rest bytes 4) c.in_ok-rowid.ensures.ok_part c.read_varint.ensures.found in
+    let w = varint_is bytes (slice_range bytes 4 (length bytes)) 4 c.read_varint.result number j (take_rest bytes 4) c.in_ok-rowid.ensures.ok_part c.read_varint.ensures.answer in
     let fits : FitsSigned w64 c.cast_signed.result = search rules in
     let cell : CellView = record {
       size = 4 + j;

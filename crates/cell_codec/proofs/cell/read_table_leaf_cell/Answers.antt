@@ -21,7 +21,7 @@ returns-in_err-rowid-clause-only c =
     let payload = c.in_ok-payload.payload in
     let i = c.in_ok-payload.rowid_at in
     let v = varint_at bytes bytes 0 payload i refl c.in_ok-payload.ensures.found.0 c.in_ok-payload.ensures.found.1 in
-    let none = begins_with_none (slice_range bytes i (length bytes)) c.read_varint.result c.in_err-rowid.ensures.ok_part c.read_varint.ensures.only in
+    let none = begins_with_none (slice_range bytes i (length bytes)) c.read_varint.result c.in_err-rowid.ensures.ok_part c.read_varint.ensures.answer in
     λ cell h. absurd (no_rowid c.args.usable bytes payload i v (subst BeginsWithNone (take_rest bytes i) none) cell h)
 
 pub returns-in_err-part-clause-only : goal.returns-in_err-part-clause-only
@@ -32,7 +32,7 @@ returns-in_err-part-clause-only c =
     let number = c.in_ok-rowid.rowid in
     let j = c.in_ok-rowid.rowid_size in
     let v = varint_at bytes bytes 0 payload i refl c.in_ok-payload.ensures.found.0 c.in_ok-payload.ensures.found.1 in
-    let w = varint_is bytes (slice_range bytes i (length bytes)) i c.read_varint.result number j (take_rest bytes i) c.in_ok-rowid.ensures.ok_part c.read_varint.ensures.found in
+    let w = varint_is bytes (slice_range bytes i (length bytes)) i c.read_varint.result number j (take_rest bytes i) c.in_ok-rowid.ensures.ok_part c.read_varint.ensures.answer in
     let short = none_is _ c.read_local_part.result c.in_err-part.ensures.ok_part c.read_local_part.ensures.none in
     λ cell h. absurd (too_short c.args.usable bytes payload i number j v w (subst (λ s. length s < part_size TableLeaf c.args.usable payload) (take_rest bytes (i + j)) short) cell h)
 
@@ -45,7 +45,7 @@ returns c =
     let j = c.in_ok-rowid.rowid_size in
     let part = c.in_ok-part.part in
     let v = varint_at bytes bytes 0 payload i refl c.in_ok-payload.ensures.found.0 c.in_ok-payload.ensures.found.1 in
-    let w = varint_is bytes (slice_range bytes i (length bytes)) i c.read_varint.result number j (take_rest bytes i) c.in_ok-rowid.ensures.ok_part c.read_varint.ensures.found in
+    let w = varint_is bytes (slice_range bytes i (length bytes)) i c.read_varint.result number j (take_rest bytes i) c.in_ok-rowid.ensures.ok_part c.read_varint.ensures.answer in
     let part_found = subst (λ s. IsLocalPart TableLeaf c.args.usable payload s part) (take_rest bytes (i + j))
     (part_is (IsLocalPart TableLeaf c.args.usable payload (slice_range bytes (i + j) (length bytes))) c.read_local_part.result part c.in_ok-part.ensures.ok_part c.read_local_part.ensures.found) in
     let fits : FitsSigned w64 c.cast_signed.result = search rules in

@@ -1,5 +1,7 @@
 use Rattle.std.proofs.Common.{◌≡◌, ◌+◌, ◌*◌, ◌<◌, ◌≤◌, length, take, arith, subst, rules}
 use Rattle.format_spec.specs.Varint.{IsVarint}
+use Rattle.common_spec.specs.ReadingLaws.{OrNone-reads}
+use Rattle.cell_codec.specs.Varints.{BeginsWithVarint}
 use Rattle.cell_codec.proofs.Reading.{IsHighFront, high_below, one_more, spelled, only_found, never_none, only_none, always_none}
 use Rattle.cell_codec.specs.VarintLaws.{last_weight_short}
 use Rattle.cell_codec.proofs.varint.read_varint.Goals as goal
@@ -37,8 +39,7 @@ returns-then-byte-lt128 c =
     let found : IsVarint (take (i + 1) bytes) (c.loop-i.high * 128 + c.from.result) =
     rw (← weight, c.from.ensures) (spelled bytes i c.loop-i.high c.in_ok-byte.field-0.now c.loop-i.invariant (omega arith) within (c.in_ok-byte.ensures.lookup.3.1 0) (omega (arith, weight))) in
     record {
-      found = (omega arith, found);
-      only = only_found bytes _ (i + 1) (omega arith) found;
+      answer = OrNone-reads (BeginsWithVarint bytes) _ (omega arith, found) (λ other h. only_found bytes _ (i + 1) (omega arith) found other.0 other.1 h.0 h.1);
       none = never_none bytes _ (i + 1) found;
     }
 
@@ -51,8 +52,7 @@ returns c =
     let found : IsVarint (take 9 bytes) (c.loop-i.high * 256 + c.from-2.result) =
     rw c.from-2.ensures (spelled bytes 8 c.loop-i.high c.in_ok-last.field-0.now invariant (omega arith) within (c.in_ok-last.ensures.lookup.3.1 0) (omega arith)) in
     record {
-      found = (omega arith, found);
-      only = only_found bytes _ 9 (omega arith) found;
+      answer = OrNone-reads (BeginsWithVarint bytes) _ (omega arith, found) (λ other h. only_found bytes _ 9 (omega arith) found other.0 other.1 h.0 h.1);
       none = never_none bytes _ 9 found;
     }
 
@@ -61,8 +61,7 @@ returns-in_err-byte c =
     let bytes = c.args.bytes.now in
     let ends : length bytes ≤ c.loop-i.i = c.in_err-byte.ensures.lookup.3 in
     record {
-      found = search rules;
-      only = only_none bytes c.loop-i.i c.loop-i.high c.loop-i.invariant ends (omega arith) c.from_residual.result;
+      answer = OrNone-reads (BeginsWithVarint bytes) c.from_residual.result (search rules) (λ other h. only_none bytes c.loop-i.i c.loop-i.high c.loop-i.invariant ends (omega arith) c.from_residual.result other.0 other.1 h.0 h.1);
       none = always_none bytes c.loop-i.i c.loop-i.high c.loop-i.invariant ends (omega arith) c.from_residual.result c.from_residual.ensures;
     }
 
@@ -71,7 +70,6 @@ returns-in_err-last c =
     let bytes = c.args.bytes.now in
     let ends : length bytes ≤ c.loop-i.i = omega (arith, c.in_err-last.ensures.lookup.3) in
     record {
-      found = search rules;
-      only = only_none bytes c.loop-i.i c.loop-i.high c.loop-i.invariant ends (omega arith) c.from_residual-in_err-last.result;
+      answer = OrNone-reads (BeginsWithVarint bytes) c.from_residual-in_err-last.result (search rules) (λ other h. only_none bytes c.loop-i.i c.loop-i.high c.loop-i.invariant ends (omega arith) c.from_residual-in_err-last.result other.0 other.1 h.0 h.1);
       none = always_none bytes c.loop-i.i c.loop-i.high c.loop-i.invariant ends (omega arith) c.from_residual-in_err-last.result c.from_residual-in_err-last.ensures;
     }

@@ -1,30 +1,22 @@
 use Rattle.std.proofs.Common.{◌∙◌, ap, max, rules}
 use Rattle.std.proofs.lemmas.Result.{err_from_is_err_and}
-use Rattle.db_header.proofs.Answering.{Answers, accepted, refused, HasPages, has_its_pages, no_pages, read_format-max}
+use Rattle.db_header.proofs.Answering.{Answers, reads, HasPages, has_its_pages, no_pages, read_format-max}
 use Rattle.db_header.proofs.reading.read_header.Goals as goal
 
 pub returns-in_err-check_supported : goal.returns-in_err-check_supported
 returns-in_err-check_supported c =
     let p = err_from_is_err_and c.from_residual.result c.from_residual.ensures.1 in
     let answer : Answers c.args.bytes.now c.args.file_len c.from_residual.result = rw (p.1, p.2) (c.in_err-check_supported.ensures c.args.file_len) in
-    record {
-      answer = answer;
-      accepted = accepted c.args.bytes.now c.args.file_len c.from_residual.result answer;
-      refused = refused c.args.bytes.now c.args.file_len c.from_residual.result answer;
-    }
+    reads c.args.bytes.now c.args.file_len c.from_residual.result answer
 
 pub returns-then-not-has_pages : goal.returns-then-not-has_pages
 returns-then-not-has_pages c =
     let lacks : HasPages c.counted_pages-pages.result c.from-page_size.result c.args.file_len → ⊥ = search rules in
     let answer = no_pages c.args.bytes.now c.args.file_len c.counted_pages-pages.result c.from-page_size.result c.counted_pages-pages.ensures (cc) c.in_ok-check_supported.ensures lacks in
-    record {
-      answer = answer;
-      accepted = accepted c.args.bytes.now c.args.file_len _ answer;
-      refused = refused c.args.bytes.now c.args.file_len _ answer;
-    }
+    reads c.args.bytes.now c.args.file_len _ answer
 
-pub returns-clause-answer : goal.returns-clause-answer
-returns-clause-answer c = record {
+pub returns : goal.returns
+returns c = reads c.args.bytes.now c.args.file_len _ (record {
   supported = c.in_ok-check_supported.ensures;
   whole = has_its_pages c.args.bytes.now c.args.file_len c.counted_pages-pages.result c.from-page_size.result c.counted_pages-pages.ensures (cc) (search rules);
   page_size_is = cc;
@@ -35,10 +27,4 @@ returns-clause-answer c = record {
   freelist_pages_is = cc;
   schema_cookie_is = cc;
   format_is = c.max.ensures ∙ ap (λ n. max n 1) c.u32_at-5.ensures ∙ read_format-max _;
-}
-
-pub returns-clause-accepted : goal.returns-clause-accepted
-returns-clause-accepted c = accepted c.args.bytes.now c.args.file_len _ (returns-clause-answer c)
-
-pub returns-clause-refused : goal.returns-clause-refused
-returns-clause-refused c = refused c.args.bytes.now c.args.file_len _ (returns-clause-answer c)
+})

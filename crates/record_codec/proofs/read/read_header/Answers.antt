@@ -8,7 +8,7 @@ returns-then-end-start-clause-fault c =
     let bytes = c.args.bytes.now in
     let end = c.in_ok-header.header in
     let start = c.in_ok-header.start in
-    let front = front_is bytes c.read_varint.result end start c.in_ok-header.ensures.ok_part c.read_varint.ensures.found in
+    let front = front_is bytes c.read_varint.result end start c.in_ok-header.ensures.ok_part c.read_varint.ensures.answer in
     elim c.then-end-start.branch [
       | then-end-start-via-then-end-start w ↦ (refl, wrong_size bytes end start front (inl w.if-end-start.true))
       | then-end-start-via-else-end-start+then-bytes-end w ↦ (refl, wrong_size bytes end start front (inr w.if-bytes-end.true))
@@ -19,4 +19,4 @@ returns-clause-found c =
     let bytes = c.args.bytes.now in
     let end = c.in_ok-header.header in
     let start = c.in_ok-header.start in
-    header_found bytes end start (front_is bytes c.read_varint.result end start c.in_ok-header.ensures.ok_part c.read_varint.ensures.found) c.if-end-start.false c.if-bytes-end.false
+    header_found bytes end start (front_is bytes c.read_varint.result end start c.in_ok-header.ensures.ok_part c.read_varint.ensures.answer) c.if-end-start.false c.if-bytes-end.false

@@ -1,0 +1,3 @@
+mod ClaimLists
+mod Closing
+mod Steps

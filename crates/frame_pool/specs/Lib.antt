@@ -1,0 +1,10 @@
+pub mod Bits
+pub mod Claims
+pub mod Frames
+pub mod Lending
+pub mod Rule
+pub mod RuleLaws
+pub mod Seats
+pub mod Steps
+pub mod Tries
+pub mod Views

@@ -1,5 +1,5 @@
 -- What a pool that ends still has.
-use Rattle.std.proofs.Common.{◌≡◌, ℕ, zero, suc, ◌+◌, ◌/◌, ◌%◌, ◌<◌, ◌≤◌, Bool, true, false, List, [], ◌∷◌, ◌++◌, length, get_or, set, map, sym, refl, ap, ◌∙◌, subst, arith, Some, None, get_or-set_other, get_or-set_same, append-nil, bit_and, ◌^◌, cond, eq-eqb, ne_eqb, eqb, ⊎_elim}
+use Rattle.std.proofs.Common.{◌≡◌, ℕ, zero, suc, ◌+◌, ◌/◌, ◌%◌, ◌<◌, ◌≤◌, Bool, true, false, List, [], ◌∷◌, ◌++◌, length, get_or, set, map, sym, refl, ap, ◌∙◌, subst, arith, Some, None, get_or-set_other, get_or-set_same, append-nil, bit_and, ◌^◌, cond, eq-eqb, ne_eqb, eqb, ⊎_elim, length-append}
 use Rattle.std.proofs.lemmas.List.{map-append}
 use Rattle.std.proofs.lemmas.Nat.Bits.{shr_and_one}
 use Rattle.std.specs.List.{All, list_any}
@@ -88,6 +88,10 @@ only_seat size s kp id v me all (suc n) le =
     let mine : Has v.claimed n = only_has size s kp id v me all n lt on in
     step false true (ne_eqb (stands s.words n) 0 (λ off. differ (stands s.words n) off on)) (any_of v.claimed n mine) refl)
     (bit_cases (get_or s.words (n / 64) 0) (n % 64))
+
+pub length_lacking : (n : ℕ) → length (lacking [] n) ≡ n
+length_lacking zero = refl
+length_lacking (suc n) = let h = length_lacking n in let l = length-append (lacking [] n) (n ∷ []) in omega (arith, h, l)
 
 pub first_of : (fs : List Frame) (size : ℕ) → All (λ (f : Frame). length f.bytes.items ≡ size) fs → All (λ (f : Frame). length f.bytes.items ≡ first_size fs) fs
 first_of [] size all = λ k d lt. absurd (omega (arith, lt))

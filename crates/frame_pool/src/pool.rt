@@ -163,6 +163,7 @@ impl Pool {
         requires own { IsSeatOf seat self }
         ensures frames { IfOk result (λ frames. Remains self seat frames.items) }
         ensures only { IfOk result (λ frames. IsOnlySeat seat → AreUnclaimed self seat frames.items) }
+        ensures all { IfOk result (λ frames. IsOnlySeat seat → claims_of seat ≡ [] → vec_len frames ≡ frame_count self) }
     {
         let Pool { table } = self;
         let PoolSeat { seat } = seat;

@@ -1,12 +1,14 @@
 use Rattle.std.proofs.Common.{◌≡◌, ◌++◌, ◌∷◌, [], ℕ, List, length, map, sym, ap, ◌∙◌, subst, arith, true≢false, length-append}
+use Rattle.std.proofs.lemmas.List.{length-map}
 use Rattle.std.proofs.lemmas.Option.{none-some}
 use Rattle.std.proofs.lemmas.List.Elements.{All-push}
 use Rattle.std.specs.List.{All}
 use Rattle.std.specs.Slots.{slots_items, slots_len, slots_filled, slots_counts}
 use Rattle.std.specs.Vec.{vec_capacity}
 use Rattle.frame_pool.specs.declared.frame.Frame.{Frame}
+use Rattle.frame_pool.specs.Claims.{lacking}
 use Rattle.frame_pool.specs.Rule.{unlent}
-use Rattle.frame_pool.proofs.Closing.{only_seat, some_frame, taken_free, word_stands, numbers_more, emptied_above, emptied_below, unlent_lent}
+use Rattle.frame_pool.proofs.Closing.{length_lacking, only_seat, some_frame, taken_free, word_stands, numbers_more, emptied_above, emptied_below, unlent_lent}
 use Rattle.frame_pool.proofs.pool.Pool.close.Goals as goal
 use Rattle.frame_pool.proofs.pool.Pool.close.Goals.{then-word-number-eq0+in-Some+in-Ok, else-word-number-eq0+in-Some-1, else-word-number-eq0+in-None-1}
 
@@ -109,3 +111,13 @@ pub returns-clause-only : goal.returns-clause-only
 returns-clause-only c all =
     let r = returns-clause-frames c in
     r.are ∙ only_seat c.args.self.table.shared.key r.last r.kept c.args.seat.seat.id c.args.seat.seat.me.0 r.seen all c.args.self.table.shared.table_id.slots (omega (arith, r.wide))
+
+pub returns-clause-all : goal.returns-clause-all
+returns-clause-all c only empty =
+    let slots : ℕ = c.args.self.table.shared.table_id.slots in
+    let fs = c.loop-number.frames.items in
+    let are = returns-clause-only c only ∙ ap (λ (l : List ℕ). lacking l slots) empty in
+    let ok = c.loop-number.frames.ok in
+    let named = length-map fs (λ (f : Frame). f.number) in
+    let count = ap length are ∙ length_lacking slots in
+    omega (arith, ok, named, count)

@@ -4,5 +4,5 @@ pub mod Cell
 pub mod Page
 pub mod Header
 pub mod Log
-pub mod LogReading
+pub mod LogLaws
 pub mod LittleLog

@@ -1,5 +1,6 @@
 -- The write-ahead log (Database File Format, section 4).
 use Rattle.std.specs.Prelude.{◌≡◌, ℕ, ◌+◌, ◌*◌, ◌%◌, ◌^◌, ◌<◌, ◌≤◌, ◌==◌, ◌&&◌, ◌||◌, not, is_some, Bool, true, false, if◌then◌else◌, List, [], ◌∷◌, ◌++◌, length, slice_index, Option, Some, None, unwrap_or}
+use Rattle.std.specs.List.{AllByRecursion}
 use Rattle.byteorder.specs.Endian.{big_bytes, big_number, little_number}
 use Rattle.byte_fields.specs.Numbers.{page_at}
 
@@ -32,6 +33,10 @@ pair_of xs = (slice_index xs 0, slice_index xs 1)
 -- two words, as a header keeps a salt or a checksum
 abbrev pub pair_bytes : ℕ × ℕ → List ℕ
 pair_bytes pair = big_bytes 4 pair.0 ++ big_bytes 4 pair.1
+
+-- both words have 32 bits
+abbrev pub AreWords : ℕ × ℕ → Type 0
+AreWords pair = (pair.0 < 2 ^ 32) × (pair.1 < 2 ^ 32)
 
 -- what a log's header says, and what it sums: the file format is 3007000
 abbrev pub log_front : Bool → ℕ → ℕ → ℕ × ℕ → List ℕ
@@ -90,8 +95,7 @@ pub record IsFrame (page_size : ℕ) (frame : Frame) : Type 0 where
 
 -- each of them counts
 abbrev pub AreFrames : ℕ → List Frame → Type 0
-AreFrames page_size [] = Unit {0}
-AreFrames page_size (frame ∷ frames) = IsFrame page_size frame × AreFrames page_size frames
+AreFrames page_size = AllByRecursion (IsFrame page_size)
 
 -- The bytes are a log with these valid frames: a header, the frames, and then no further valid frame. What follows the valid frames is ignored.
 pub record IsLog (bytes : List ℕ) (page_size : ℕ) (frames : List Frame) : Type 0 where
@@ -100,10 +104,32 @@ pub record IsLog (bytes : List ℕ) (page_size : ℕ) (frames : List Frame) : Ty
   pub salt : ℕ × ℕ
   pub rest : List ℕ
   pub page_size_fits : page_size < 2 ^ 32
+  pub sequence_fits : sequence < 2 ^ 32
+  pub salt_fits : AreWords salt
   pub whole : bytes ≡ log_header big page_size sequence salt ++ (frames_bytes big salt (log_sums big page_size sequence salt) frames ++ rest)
   pub valid : AreFrames page_size frames
   pub longest : (frame : Frame) (more : List ℕ) → IsFrame page_size frame →
       rest ≡ frame_bytes big salt (sums_behind big (log_sums big page_size sequence salt) frames) frame ++ more → ⊥
+
+-- what a log says: the order in which its checksums take their bytes, what its header has, its frames, and the checksum behind them
+pub record LogReading : Type 0 where
+  pub big : Bool
+  pub page_size : ℕ
+  pub sequence : ℕ
+  pub salt : ℕ × ℕ
+  pub frames : List Frame
+  pub sums : ℕ × ℕ
+
+-- what bytes that are a log say
+abbrev pub reading_of : {bytes : List ℕ} {page_size : ℕ} {frames : List Frame} → IsLog bytes page_size frames → LogReading
+reading_of {bytes} {page_size} {frames} log = record {
+  big = log.big;
+  page_size = page_size;
+  sequence = log.sequence;
+  salt = log.salt;
+  frames = frames;
+  sums = sums_behind log.big (log_sums log.big page_size log.sequence log.salt) frames;
+}
 
 -- the frames up to the last commit
 abbrev pub committed : List Frame → List Frame

@@ -1,10 +1,10 @@
 // Laws about the definitions.
 ghost use Rattle.std.specs.Prelude.{◌≡◌, ℕ, List};
-ghost use Rattle.format_spec.specs.Log.{Frame, IsLog, IsOverlay};
+ghost use Rattle.format_spec.specs.Log.{Frame, IsLog, IsOverlay, reading_of};
 
-/// Bytes are a log with one page size and one list of valid frames.
+/// Bytes are a log in one way: one order of the checksums' bytes, page size, sequence, salt, list of valid frames and checksum behind them.
 pub fn log_has_one_reading()
-    ensures { (bytes : List ℕ) (p q : ℕ) (frames others : List Frame) → IsLog bytes p frames → IsLog bytes q others → (p ≡ q) × (frames ≡ others) }
+    ensures { (bytes : List ℕ) (p q : ℕ) (frames others : List Frame) (v : IsLog bytes p frames) (w : IsLog bytes q others) → reading_of v ≡ reading_of w }
 {}
 
 /// A file overlaid by frames is one list of bytes.

@@ -8,7 +8,7 @@
 //! - `Page`: a b-tree page as a list of cells (section 1.6), and the page that is packed from its end;
 //! - `Header`: the fields of the database header (section 1.3);
 //! - `Log`: the write-ahead log, its frames and checksums, and the overlay of a file by a log (section 4);
-//! - `LogReading`: a header with frames is a log, bytes are a log in one way, and the overlay of a file by its frames is one;
+//! - `LogLaws`: a header with frames is a log, bytes are a log in one way, and the overlay of a file by its frames is one;
 //! - `LittleLog`: a log that SQLite wrote.
 //!
 //! The functions without parameters promise the main laws, and that the definitions compute on worked rows.

@@ -7,14 +7,14 @@ use Rattle.file_spec.specs.declared.FileName.TheVariants.{Target, Oal, Wal, Jour
 use Rattle.file_spec.specs.Files.{Files, content, with_file, after_rename, after_remove, OnlyChanges}
 use Rattle.common_spec.specs.Told.{Leads}
 use Rattle.common_spec.specs.ToldLaws.{Leads-map, Leads-same, Leads-weaken, Leads-then}
-use Rattle.format_spec.specs.Log.{IsFrame, IsOverlay}
-use Rattle.format_spec.specs.LogReading.{log-of_frames}
+use Rattle.format_spec.specs.Log.{AreWords, IsFrame, IsOverlay}
+use Rattle.format_spec.specs.LogLaws.{log-of_frames}
 use Rattle.wal_codec.specs.LogLaws.{overlay-of_two_pages}
 use Rattle.update_spec.specs.View.{IsView, KeepsView}
 use Rattle.update_spec.specs.ViewLaws.{KeepsView-same}
 use Rattle.rbu_run.specs.Handover.{log_of, page_frames, IsAlone, HasPages, HandsOver, SeesPages, LeavesLog}
 
-module _ (salt : ℕ × ℕ) (pages : List ℕ) (long : length pages ≡ 8192) where
+module _ (salt : ℕ × ℕ) (pages : List ℕ) (fit : (length pages ≡ 8192) × AreWords salt) where
   -- the hidden log was written
   abbrev pub LogWritten : Files → Files → Type 0
   LogWritten f g = f Oal ≡ None → g ≡ with_file f Oal (Some (log_of salt pages))
@@ -36,7 +36,7 @@ module _ (salt : ℕ × ℕ) (pages : List ℕ) (long : length pages ≡ 8192) w
       let seen : IsOverlay (content g Target) 4096 (page_frames pages) pages = subst (IsOverlay (content g Target) 4096 (page_frames pages)) (take-append-drop 4096 pages) over in
       let front : IsFrame 4096 (record { number = 1; commit = 0; page = take 4096 pages }) = record { of_page = lit< tt; number_fits = lit< tt; commit_fits = lit< tt; whole = first } in
       let back : IsFrame 4096 (record { number = 2; commit = 2; page = drop 4096 pages }) = record { of_page = lit< tt; number_fits = lit< tt; commit_fits = lit< tt; whole = second } in
-      rw wal (4096, page_frames pages, log-of_frames true 4096 0 salt (page_frames pages) (lit< tt) (front, (back, tt)), seen)
+      rw wal (4096, page_frames pages, log-of_frames true 4096 0 salt (page_frames pages) (lit< tt) (lit< tt) fit.1 (front, (back, tt)), seen)
 
   pub view-hidden : (f g : Files) → OnlyChanges Oal f g → KeepsView f g
   view-hidden f g only = subst (KeepsView f) (sym only.1) (KeepsView-same f f refl)
@@ -129,7 +129,7 @@ module _ (salt : ℕ × ℕ) (pages : List ℕ) (long : length pages ≡ 8192) w
   left-hidden f g h wrote same alone = inl (ap (λ (files : Files). files Wal) (same ∙ wrote alone.no_oal))
 
   left-moved : (f g : Files) → LogMoved f g → Leaves f g
-  left-moved f g is alone = inr (inr (pages, long, ap (λ (files : Files). files Wal) (is alone)))
+  left-moved f g is alone = inr (inr (pages, fit.0, ap (λ (files : Files). files Wal) (is alone)))
 
   pub logs-move : (a b c : Option Files) → Leads LogWritten a b → (c ≡ b) ⊎ (c ≡ option_map (λ f. after_rename f Oal Wal) b) → Leads Leaves a c
   logs-move a b c wrote (inl same) = Leads-then LogWritten (λ f g. g ≡ f) Leaves a b c wrote (Leads-same b c same) left-hidden
@@ -137,13 +137,13 @@ module _ (salt : ℕ × ℕ) (pages : List ℕ) (long : length pages ≡ 8192) w
 
   left-half : (f g h : Files) → LogMoved f g → OnlyChanges Target g h → Leaves f h
   left-half f g h is only alone =
-      inr (inr (pages, long, ap (λ (files : Files). files Wal) only.1 ∙ ap (λ (files : Files). files Wal) (is alone)))
+      inr (inr (pages, fit.0, ap (λ (files : Files). files Wal) only.1 ∙ ap (λ (files : Files). files Wal) (is alone)))
 
   pub logs-copy : (a b c : Option Files) → Leads LogMoved a b → Leads (OnlyChanges Target) b c → Leads Leaves a c
   logs-copy a b c is only = Leads-then LogMoved (OnlyChanges Target) Leaves a b c is only left-half
 
   left-copied : (f g h : Files) → PagesCopied f g → h ≡ g → Leaves f h
-  left-copied f g h is same alone = inr (inr (pages, long, ap (λ (files : Files). files Wal) (same ∙ is alone)))
+  left-copied f g h is same alone = inr (inr (pages, fit.0, ap (λ (files : Files). files Wal) (same ∙ is alone)))
 
   left-done : (f g : Files) → HandsOver pages f g → Leaves f g
   left-done f g is alone = inl (ap (λ (files : Files). files Wal) (is alone))

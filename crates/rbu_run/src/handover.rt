@@ -5,7 +5,7 @@ ghost use Rattle.file_spec.specs.declared.FileName.TheVariants.{Target, Oal, Wal
 ghost use Rattle.file_spec.specs.Files.{content, with_file, after_remove, after_rename, OnlyChanges};
 ghost use Rattle.common_spec.specs.Told.{Leads};
 ghost use Rattle.rbu_disk.specs.Call.{Fails};
-ghost use Rattle.format_spec.specs.Log.{pair_of};
+ghost use Rattle.format_spec.specs.Log.{AreWords, pair_of};
 ghost use Rattle.rbu_run.specs.Handover.{log_of, IsAlone, HasPages, HandsOver, SeesPages, KeepsOthers, LeavesLog};
 
 use rbu_disk::{Disk, DiskFault, FileName};
@@ -40,6 +40,7 @@ fn write_log<D: Disk>(disk: &mut D, salt: [u32; 2], pages: &[u8]) -> Result<(), 
     ensures count { (D.failures disk.old).count ≤ (D.failures disk.new).count }
     ensures still { OnOk result (D.failures disk.new ≡ D.failures disk.old) }
     ensures cause { IfErr result (Fails (D.failures disk.old) (D.failures disk.new)) }
+    ensures words { AreWords (pair_of salt) }
 {
     let (first_page, second_page) = pages.split_at(PAGE_SIZE);
     let mut header = [0; 32];

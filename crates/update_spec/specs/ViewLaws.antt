@@ -3,7 +3,7 @@ use Rattle.std.proofs.Common.{◌≡◌, ℕ, List, Option, Some, None, sym, ◌
 use Rattle.file_spec.specs.declared.FileName.TheVariants.{Target, Wal}
 use Rattle.file_spec.specs.Files.{Files, content}
 use Rattle.format_spec.specs.Log.{Frame, IsOverlay}
-use Rattle.format_spec.specs.LogReading.{same_log, same_overlay}
+use Rattle.format_spec.specs.LogLaws.{same_log, same_overlay}
 use Rattle.update_spec.specs.View.{IsOverlaidBy, IsView, KeepsView}
 
 -- a file overlaid by a log, or by none, is one list of bytes

@@ -1,6 +1,6 @@
 // The headers of a log and of its frames.
 ghost use Rattle.std.specs.Prelude.{◌≡◌, ◌%◌, true, length};
-ghost use Rattle.format_spec.specs.Log.{pair_of};
+ghost use Rattle.format_spec.specs.Log.{AreWords, pair_of};
 ghost use Rattle.format_spec.specs.Log.{log_header, log_sums, frame_header, frame_sums};
 
 use crate::sums::checksum;
@@ -19,6 +19,7 @@ const FILE_FORMAT: u32 = 3007000;
 pub fn header_bytes(page_size: u32, salt: [u32; 2], into: &mut [u8; 32]) -> [u32; 2]
     ensures header { into.new ≡ log_header true page_size 0 (pair_of salt) }
     ensures sums { pair_of result ≡ log_sums true page_size 0 (pair_of salt) }
+    ensures words { AreWords (pair_of salt) }
 {
     let front = [MAGIC, FILE_FORMAT, page_size, 0, salt[0], salt[1]];
     BigEndian::write_u32_into(&front, &mut into[..24]);

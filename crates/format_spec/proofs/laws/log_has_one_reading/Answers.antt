@@ -1,5 +1,5 @@
-use Rattle.format_spec.specs.LogReading.{same_log}
+use Rattle.format_spec.specs.LogLaws.{same_reading}
 use Rattle.format_spec.proofs.laws.log_has_one_reading.Goals as goal
 
 pub returns : goal.returns
-returns c = same_log
+returns c = λ bytes p q frames others v w. same_reading v w

@@ -1,4 +1,4 @@
-use Rattle.format_spec.specs.LogReading.{same_overlay}
+use Rattle.format_spec.specs.LogLaws.{same_overlay}
 use Rattle.format_spec.proofs.laws.overlay_has_one_result.Goals as goal
 
 pub returns : goal.returns

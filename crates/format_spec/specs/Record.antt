@@ -50,13 +50,14 @@ body format (Blob bytes) = bytes
 abbrev pub header_size_bytes : ℕ → ℕ
 header_size_bytes n =
     if nat_lt (n + 1) (2 ^ 7) then 1 else if nat_lt (n + 2) (2 ^ 14) then 2 else if nat_lt (n + 3) (2 ^ 21) then 3
-    else if nat_lt (n + 4) (2 ^ 28) then 4 else 5
+    else if nat_lt (n + 4) (2 ^ 28) then 4 else if nat_lt (n + 5) (2 ^ 35) then 5 else if nat_lt (n + 6) (2 ^ 42) then 6
+    else if nat_lt (n + 7) (2 ^ 49) then 7 else if nat_lt (n + 8) (2 ^ 56) then 8 else 9
 
 -- the serial types of the canonical record
 abbrev pub serial_types : ℕ → List Value → List ℕ
 serial_types format = flat_map (λ value. varint (serial_type format value))
 
--- the header of the canonical record, of fewer than 2 ^ 35 bytes
+-- the header of the canonical record
 abbrev pub record_header : ℕ → List Value → List ℕ
 record_header format values =
     let types = serial_types format values in

@@ -1,5 +1,5 @@
 -- What follows from the definition of records alone: crates above cite these facts in their proofs.
-use Rattle.std.proofs.Common.{◌≡◌, ℕ, ◌+◌, ◌*◌, ◌^◌, ◌<◌, ◌≤◌, ◌&&◌, ℤ, pos, negsuc, ltb, eqb, List, [], ◌∷◌, ◌++◌, length, inl, inr, refl, sym, ◌∙◌, ap, subst, append_assoc, length-append, arith, FitsSigned}
+use Rattle.std.proofs.Common.{◌≡◌, ℕ, ◌+◌, ◌*◌, ◌^◌, ◌<◌, ◌≤◌, ◌&&◌, ℤ, pos, negsuc, cond, ltb, eqb, List, [], ◌∷◌, ◌++◌, length, inl, inr, refl, sym, ◌∙◌, ap, subst, append_assoc, length-append, arith, FitsSigned}
 use Rattle.std.proofs.lemmas.Bool.{cond_both, and_parts, ltb-true, ltb-false}
 use Rattle.std.proofs.lemmas.Bool.Decides.{nat_tests}
 use Rattle.std.proofs.lemmas.List.{append_cancel_left}
@@ -23,10 +23,10 @@ IsStored (Int z) = FitsSigned w64 z
 IsStored (Text bytes) = 2 * length bytes + 13 < 2 ^ 64
 IsStored (Blob bytes) = 2 * length bytes + 12 < 2 ^ 64
 
--- values that have a record: what they are made of fits, and the header has fewer than 2 ^ 35 bytes
+-- values that have a record: what they are made of fits, and so does the size of the header
 pub record HaveRecord (format : ℕ) (values : List Value) : Type 0 where
   pub stored : AllByRecursion IsStored values
-  pub header : length (record_header format values) < 2 ^ 35
+  pub header : length (record_header format values) < 2 ^ 64
 
 -- how many bytes a field has
 pub field_size : (type : ℕ) (bytes : List ℕ) (value : Value) → IsField type bytes value → length bytes ≡ body_size type
@@ -181,32 +181,48 @@ canonical_fields format (value ∷ values) s = (
   canonical_fields format values s.1,
 )
 
--- how many bytes the size of a header takes
+-- the size of a header takes so many bytes
 SizeTakes : ℕ → ℕ → Type 0
-SizeTakes n k = length (varint (n + k)) + n < 2 ^ 35 → length (varint (n + k)) ≡ k
+SizeTakes n k = length (varint (n + k)) ≡ k
 
-front_between : (x : ℕ) → (x < 2 ^ 7 → varint_front x ≡ 0) × (2 ^ 7 ≤ x → x < 2 ^ 14 → varint_front x ≡ 1) × (2 ^ 14 ≤ x → x < 2 ^ 21 → varint_front x ≡ 2) × (2 ^ 21 ≤ x → x < 2 ^ 28 → varint_front x ≡ 3) × (2 ^ 28 ≤ x → x < 2 ^ 35 → varint_front x ≡ 4) × (2 ^ 28 ≤ x → 4 ≤ varint_front x)
+front_between : (x : ℕ) → (x < 2 ^ 7 → varint_front x ≡ 0) × (2 ^ 7 ≤ x → x < 2 ^ 14 → varint_front x ≡ 1) × (2 ^ 14 ≤ x → x < 2 ^ 21 → varint_front x ≡ 2) × (2 ^ 21 ≤ x → x < 2 ^ 28 → varint_front x ≡ 3) × (2 ^ 28 ≤ x → x < 2 ^ 35 → varint_front x ≡ 4) × (2 ^ 35 ≤ x → x < 2 ^ 42 → varint_front x ≡ 5) × (2 ^ 42 ≤ x → x < 2 ^ 49 → varint_front x ≡ 6) × (2 ^ 49 ≤ x → x < 2 ^ 56 → varint_front x ≡ 7) × (2 ^ 56 ≤ x → varint_front x ≡ 8)
 unfolding varint_front
-front_between x = (λ h. grind (arith, nat_tests), λ h k. grind (arith, nat_tests), λ h k. grind (arith, nat_tests), λ h k. grind (arith, nat_tests), λ h k. grind (arith, nat_tests), λ h. grind (arith, nat_tests))
+front_between x = (λ h. grind (arith, nat_tests), λ h k. grind (arith, nat_tests), λ h k. grind (arith, nat_tests), λ h k. grind (arith, nat_tests), λ h k. grind (arith, nat_tests), λ h k. grind (arith, nat_tests), λ h k. grind (arith, nat_tests), λ h k. grind (arith, nat_tests), λ h. grind (arith, nat_tests))
 
 size_takes : (n : ℕ) → SizeTakes n (header_size_bytes n)
 unfolding SizeTakes
 size_takes n =
-    cond_both (ltb (n + 1) (2 ^ 7)) 1 _ (SizeTakes n) (λ h _. omega (arith, varint_size (n + 1), (front_between (n + 1)).0 (ltb-true (n + 1) (2 ^ 7) h))) (λ h₁.
-    cond_both (ltb (n + 2) (2 ^ 14)) 2 _ (SizeTakes n) (λ h _. omega (arith, varint_size (n + 2), (front_between (n + 2)).1 (omega (arith, ltb-false (n + 1) (2 ^ 7) h₁)) (ltb-true (n + 2) (2 ^ 14) h))) (λ h₂.
-    cond_both (ltb (n + 3) (2 ^ 21)) 3 _ (SizeTakes n) (λ h _. omega (arith, varint_size (n + 3), (front_between (n + 3)).2 (omega (arith, ltb-false (n + 2) (2 ^ 14) h₂)) (ltb-true (n + 3) (2 ^ 21) h))) (λ h₃.
-    cond_both (ltb (n + 4) (2 ^ 28)) 4 5 (SizeTakes n) (λ h _. omega (arith, varint_size (n + 4), (front_between (n + 4)).3 (omega (arith, ltb-false (n + 3) (2 ^ 21) h₃)) (ltb-true (n + 4) (2 ^ 28) h))) (λ h₄ short.
-    let large : 2 ^ 28 ≤ n + 5 = omega (arith, ltb-false (n + 4) (2 ^ 28) h₄) in
-    let least = (front_between (n + 5)).5 large in
-    let most : n + 5 < 2 ^ 35 = omega (arith, short, varint_size (n + 5), least) in
-    omega (arith, varint_size (n + 5), (front_between (n + 5)).4 large most)))))
+    cond_both (ltb (n + 1) (2 ^ 7)) 1 _ (SizeTakes n) (λ h. omega (arith, varint_size (n + 1), (front_between (n + 1)).0 (ltb-true (n + 1) (2 ^ 7) h))) (λ h1.
+    cond_both (ltb (n + 2) (2 ^ 14)) 2 _ (SizeTakes n) (λ h. omega (arith, varint_size (n + 2), (front_between (n + 2)).1 (omega (arith, ltb-false (n + 1) (2 ^ 7) h1)) (ltb-true (n + 2) (2 ^ 14) h))) (λ h2.
+    cond_both (ltb (n + 3) (2 ^ 21)) 3 _ (SizeTakes n) (λ h. omega (arith, varint_size (n + 3), (front_between (n + 3)).2 (omega (arith, ltb-false (n + 2) (2 ^ 14) h2)) (ltb-true (n + 3) (2 ^ 21) h))) (λ h3.
+    cond_both (ltb (n + 4) (2 ^ 28)) 4 _ (SizeTakes n) (λ h. omega (arith, varint_size (n + 4), (front_between (n + 4)).3 (omega (arith, ltb-false (n + 3) (2 ^ 21) h3)) (ltb-true (n + 4) (2 ^ 28) h))) (λ h4.
+    cond_both (ltb (n + 5) (2 ^ 35)) 5 _ (SizeTakes n) (λ h. omega (arith, varint_size (n + 5), (front_between (n + 5)).4 (omega (arith, ltb-false (n + 4) (2 ^ 28) h4)) (ltb-true (n + 5) (2 ^ 35) h))) (λ h5.
+    cond_both (ltb (n + 6) (2 ^ 42)) 6 _ (SizeTakes n) (λ h. omega (arith, varint_size (n + 6), (front_between (n + 6)).5 (omega (arith, ltb-false (n + 5) (2 ^ 35) h5)) (ltb-true (n + 6) (2 ^ 42) h))) (λ h6.
+    cond_both (ltb (n + 7) (2 ^ 49)) 7 _ (SizeTakes n) (λ h. omega (arith, varint_size (n + 7), (front_between (n + 7)).6 (omega (arith, ltb-false (n + 6) (2 ^ 42) h6)) (ltb-true (n + 7) (2 ^ 49) h))) (λ h7.
+    cond_both (ltb (n + 8) (2 ^ 56)) 8 9 (SizeTakes n) (λ h. omega (arith, varint_size (n + 8), (front_between (n + 8)).7 (omega (arith, ltb-false (n + 7) (2 ^ 49) h7)) (ltb-true (n + 8) (2 ^ 56) h))) (λ h8.
+    omega (arith, varint_size (n + 9), (front_between (n + 9)).8 (omega (arith, ltb-false (n + 8) (2 ^ 56) h8)))))))))))
 
--- the size of a header says so, where the serial types take fewer than 2 ^ 34 bytes
-pub header_size : (n : ℕ) → n < 2 ^ 34 → length (varint (n + header_size_bytes n)) ≡ header_size_bytes n
+-- the size of a header says so
+pub header_size : (n : ℕ) → length (varint (n + header_size_bytes n)) ≡ header_size_bytes n
 unfolding SizeTakes
-header_size n h =
-    let most : header_size_bytes n ≤ 5 = grind (arith, nat_tests) in
-    size_takes n (omega (arith, varint_one_to_nine (n + header_size_bytes n) (omega (arith, most))))
+header_size n = size_takes n
+
+-- one more case of a size: that of the longer header is no less, and at least this one
+size_step : (m n k limit a b : ℕ) → m ≤ n → (a ≤ b) × (k + 1 ≤ b) → (cond (ltb (m + k) limit) k a ≤ cond (ltb (n + k) limit) k b) × (k ≤ cond (ltb (n + k) limit) k b)
+size_step m n k limit a b less rest = (grind (arith, nat_tests), grind (arith, nat_tests))
+
+-- more serial types have no shorter size
+pub header_size_bytes-grows : (m n : ℕ) → m ≤ n → header_size_bytes m ≤ header_size_bytes n
+header_size_bytes-grows m n less =
+    (size_step m n 1 (2 ^ 7) _ _ less (
+    size_step m n 2 (2 ^ 14) _ _ less (
+    size_step m n 3 (2 ^ 21) _ _ less (
+    size_step m n 4 (2 ^ 28) _ _ less (
+    size_step m n 5 (2 ^ 35) _ _ less (
+    size_step m n 6 (2 ^ 42) _ _ less (
+    size_step m n 7 (2 ^ 49) _ _ less (
+    size_step m n 8 (2 ^ 56) _ _ less (
+    (omega arith, omega arith)))))))))).0
 
 -- the length of a record
 pub record_size : (format : ℕ) (values : List Value) → length (canonical_record format values)
@@ -219,15 +235,14 @@ record_size format values =
 
 -- the canonical record of values is a record of them
 pub canonical_record_read : (format : ℕ) (values : List Value) → HaveRecord format values → IsRecord (canonical_record format values) values
-unfolding SizeTakes canonical_record
+unfolding canonical_record
 canonical_record_read format values h =
     let types = serial_types format values in
     let n = length types in
     let k = header_size_bytes n in
     let size = varint (n + k) in
-    let whole : length size + n < 2 ^ 35 = omega (arith, h.header, length-append size types) in
-    let takes : length size ≡ k = size_takes n whole in
-    let most : n + k < 2 ^ 64 = omega arith in
+    let takes : length size ≡ k = header_size n in
+    let most : n + k < 2 ^ 64 = omega (arith, h.header, takes, length-append size types) in
     record {
       size = size;
       types = types;
@@ -244,7 +259,7 @@ canonical_apart format a b x y h k e =
     (same.0, append_cancel_left (canonical_record format a) x y (e ∙ ap (λ s. s ++ y) (sym same.1)))
 
 -- the header is shorter than its record
-pub short_record : (format : ℕ) (values : List Value) → AllByRecursion IsStored values → length (canonical_record format values) < 2 ^ 35 → HaveRecord format values
+pub short_record : (format : ℕ) (values : List Value) → AllByRecursion IsStored values → length (canonical_record format values) < 2 ^ 64 → HaveRecord format values
 unfolding canonical_record
 short_record format values s h =
     record {

@@ -4,7 +4,7 @@ ghost use Rattle.rbu_value.specs.declared.value.Value.{Value};
 ghost use Rattle.format_spec.specs.Record.{IsRecord, canonical_record};
 ghost use Rattle.record_codec.specs.RecordLaws.{HaveRecord};
 
-/// The canonical record of values is a record of them, where integers and lengths fit 64 bits and the header has fewer than 2^35 bytes.
+/// The canonical record of values is a record of them, where integers, lengths and the size of the header fit 64 bits.
 #[tactic(auto, using(crate::specs::RecordLaws::canonical_record_read))]
 pub fn canonical_record_is_read()
     ensures { (format : ℕ) (values : List Value) → HaveRecord format values → IsRecord (canonical_record format values) values }

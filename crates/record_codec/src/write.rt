@@ -88,7 +88,11 @@ fn header_size_bytes(types: usize) -> usize
         0x7f..=0x3ffd => 2,
         0x3ffe..=0x1f_fffc => 3,
         0x1f_fffd..=0xfff_fffb => 4,
-        _ => 5,
+        0xfff_fffc..=0x7_ffff_fffa => 5,
+        0x7_ffff_fffb..=0x3ff_ffff_fff9 => 6,
+        0x3ff_ffff_fffa..=0x1_ffff_ffff_fff8 => 7,
+        0x1_ffff_ffff_fff9..=0xff_ffff_ffff_fff7 => 8,
+        _ => 9,
     }
 }
 
@@ -133,11 +137,9 @@ fn push_body(value: &Value, format: u32, into: &mut Vec<u8>) -> Result<(), Alloc
     }
 }
 
-/// Writes the canonical record of values under schema format 1 to 4 (types 8 and 9 are of format 4 alone).
+/// Writes the canonical record of values under a schema format: serial types 8 and 9 are of format 4 alone (Database File Format, section 2.1).
 #[tactic(auto, unfolding(format_spec::specs::Record::canonical_record))]
 pub fn write_record(alloc: Global, values: &[Value], format: u32) -> Result<Vec<u8>, AllocError>
-    requires least { 1 ≤ format }
-    requires most { format ≤ 4 }
     ensures { IfOk result (λ written. written.items ≡ canonical_record format values.now) }
 {
     let mut record = Vec::new(alloc);

@@ -21,7 +21,7 @@ use Rattle.format_spec.specs.Page.{IsPage, packed_leaf}
 use Rattle.cell_codec.specs.Cells.{whole_cell}
 use Rattle.cell_codec.specs.VarintLaws.{varint_size}
 use Rattle.cell_codec.specs.CellLaws.{whole_cell_read, whole_cell_payload, cell_parts, local_at_bounds, local_size_room}
-use Rattle.record_codec.specs.RecordLaws.{header_size, record_size}
+use Rattle.record_codec.specs.RecordLaws.{header_size, header_size_bytes-grows, record_size}
 use Rattle.update_spec.specs.declared.TargetRow.{TargetRow}
 use Rattle.update_spec.specs.declared.PreparedRow.{PreparedRow}
 use Rattle.update_spec.specs.SmallFile.{IsSmallHeader, IsSmall, IsSmallTarget, IsSmallRbu, IsRowCell, IsTargetRow, IsPreparedRow}
@@ -39,10 +39,6 @@ record_within cell rowid values row =
     let within = local_size_room TableLeaf 4096 row.view.payload (omega arith) in
     let local = row.is_cell.local in
     omega (arith, ap length row.record_is, length-take row.view.local (drop row.view.local_at cell), within, local)
-
--- more serial types have no shorter size
-size_grows : (m n : ℕ) → m ≤ n → header_size_bytes m ≤ header_size_bytes n
-size_grows m n h = grind (arith, nat_tests)
 
 zero_byte : length (varint 0) ≡ 1
 unfolding varint_front
@@ -71,7 +67,7 @@ shorter_record x value z small =
       zero_byte,
     ) in
     let most : three ≤ 4096 = omega (arith, other, small) in
-    omega (arith, one, other, bodies, types, header_size two (omega arith), header_size three (omega arith), size_grows two three types)
+    omega (arith, one, other, bodies, types, header_size two, header_size three, header_size_bytes-grows two three types)
 
 -- a row that a prepared insert makes
 inserted_row : (cell : List ℕ) (row : PreparedRow) → FitsSigned w64 row.key → IsPreparedRow cell row → IsTargetRow (inserted row)

@@ -8,6 +8,7 @@ ghost use Rattle.format_spec.specs.declared.CellView.{CellView};
 ghost use Rattle.format_spec.specs.declared.PageKind.{PageKind};
 ghost use Rattle.format_spec.specs.declared.PageKind.TheVariants.{IndexInterior, TableInterior, IndexLeaf, TableLeaf};
 ghost use Rattle.format_spec.specs.Cell.{IsCell, IsTableInteriorCell, IsIndexCell, payload_limit, max_local as local_limit, local_size as local_bytes, child_size as child_bytes, overflow_size as overflow_bytes, cell_bytes, index_cell_bytes, table_leaf_cell};
+ghost use Rattle.format_spec.specs.Sizes.{IsUsable};
 ghost use Rattle.format_spec.specs.Varint.{IsVarint, varint};
 ghost use Rattle.cell_codec.specs.Cells.{BeginsWithCell, BeginsWithLengthOver, HasCellFault, part_size, IsLocalPart, IsWritable, whole_cell, interior_cell, whole_index_cell};
 
@@ -29,8 +30,7 @@ pub enum CellFault {
 
 // The longest payload that lies in a cell whole.
 fn max_local(kind: PageKind, usable: u32) -> u32
-    requires least { 480 ≤ usable }
-    requires most { usable ≤ 32768 }
+    requires { IsUsable usable }
     ensures value { result ≡ local_limit kind usable }
 {
     match kind {
@@ -39,11 +39,10 @@ fn max_local(kind: PageKind, usable: u32) -> u32
     }
 }
 
-/// How many bytes of a payload its cell keeps, on pages of 480 to 32768 usable bytes (Database File Format, section 1.6). The rest fills overflow pages.
+/// How many bytes of a payload its cell keeps, on pages of 480 to 65536 usable bytes (Database File Format, section 1.6). The rest fills overflow pages.
 #[tactic(auto, using(crate::specs::CellLaws::local_size_within, crate::specs::CellLaws::local_size_room))]
 pub fn local_size(kind: PageKind, usable: u32, payload: u64) -> u32
-    requires least { 480 ≤ usable }
-    requires most { usable ≤ 32768 }
+    requires { IsUsable usable }
     ensures value { result ≡ local_bytes kind usable payload }
     ensures within { result ≤ payload }
     ensures room { result + 35 ≤ usable }
@@ -116,8 +115,7 @@ struct LocalPart {
 
 // The local part of a payload at the front of the bytes, or `None` where they end inside it.
 fn read_local_part(kind: PageKind, usable: u32, payload: u64, bytes: &[u8]) -> Option<LocalPart>
-    requires least { 480 ≤ usable }
-    requires most { usable ≤ 32768 }
+    requires { IsUsable usable }
     ensures found { IfSome result (IsLocalPart kind usable payload bytes.now) }
     ensures none { IsNone result ↔ (length bytes.now < part_size kind usable payload) }
 {
@@ -135,8 +133,7 @@ fn read_local_part(kind: PageKind, usable: u32, payload: u64, bytes: &[u8]) -> O
 }
 
 fn read_table_leaf_cell(usable: u32, bytes: &[u8]) -> Result<CellView, CellFault>
-    requires least { 480 ≤ usable }
-    requires most { usable ≤ 32768 }
+    requires { IsUsable usable }
     ensures found { IfOk result (BeginsWithCell TableLeaf usable bytes.now) }
     ensures only { (cell : CellView) → BeginsWithCell TableLeaf usable bytes.now cell → result ≡ Ok cell }
     ensures over { (result ≡ Err CellFault.SizeOverLimit) ↔ BeginsWithLengthOver bytes.now }
@@ -180,8 +177,7 @@ fn read_table_interior_cell(bytes: &[u8]) -> Result<CellView, CellFault>
 }
 
 fn read_index_cell(kind: PageKind, usable: u32, bytes: &[u8]) -> Result<CellView, CellFault>
-    requires least { 480 ≤ usable }
-    requires most { usable ≤ 32768 }
+    requires { IsUsable usable }
     ensures found { IfOk result (λ cell. (cell.size ≤ length bytes.now) × IsIndexCell kind usable (take cell.size bytes.now) cell) }
     ensures only { (cell : CellView) → (cell.size ≤ length bytes.now) × IsIndexCell kind usable (take cell.size bytes.now) cell → result ≡ Ok cell }
     ensures over { (result ≡ Err CellFault.SizeOverLimit) ↔ BeginsWithLengthOver (drop (child_bytes kind) bytes.now) }
@@ -206,10 +202,9 @@ fn read_index_cell(kind: PageKind, usable: u32, bytes: &[u8]) -> Result<CellView
     })
 }
 
-/// Reads the cell at the front of the bytes, on pages of 480 to 32768 usable bytes. Where the payload is longer than the limit, that is the fault, also where the bytes end behind its length.
+/// Reads the cell at the front of the bytes, on pages of 480 to 65536 usable bytes. Where the payload is longer than the limit, that is the fault, also where the bytes end behind its length.
 pub fn read_cell(kind: PageKind, usable: u32, bytes: &[u8]) -> Result<CellView, CellFault>
-    requires least { 480 ≤ usable }
-    requires most { usable ≤ 32768 }
+    requires { IsUsable usable }
     ensures { Reads (OrFault (BeginsWithCell kind usable bytes.now) (HasCellFault kind usable bytes.now)) result }
 {
     match kind {

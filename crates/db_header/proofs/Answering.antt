@@ -3,7 +3,7 @@ use Rattle.std.proofs.Common.{◌≡◌, ℕ, ◌*◌, ◌^◌, ◌<◌, ◌≤�
 use Rattle.std.proofs.lemmas.Bool.Decides.{nat_tests}
 use Rattle.common_spec.specs.Reading.{Reads, OrFault}
 use Rattle.common_spec.specs.ReadingLaws.{Reads-one}
-use Rattle.format_spec.specs.Header.{page_size}
+use Rattle.format_spec.specs.Header.{page_bytes}
 use Rattle.db_header.specs.declared.fields.Header.{Header}
 use Rattle.db_header.specs.declared.fields.HeaderFault.{HeaderFault}
 use Rattle.db_header.specs.declared.fields.HeaderFault.TheVariants.{SizeMismatch}
@@ -21,15 +21,15 @@ reads bytes file_len result = Reads-one (Answers bytes file_len) result (one_ans
 abbrev pub HasPages : ℕ → ℕ → ℕ → Type 0
 HasPages pages size file_len = (0 < pages) × (pages ≤ 2 ^ 24) × (pages * size ≤ file_len)
 
-pub has_its_pages : (bytes : List ℕ) (file_len pages size : ℕ) → pages ≡ counted_pages bytes file_len → size ≡ page_size bytes → HasPages pages size file_len → HasItsPages bytes file_len
+pub has_its_pages : (bytes : List ℕ) (file_len pages size : ℕ) → pages ≡ counted_pages bytes file_len → size ≡ page_bytes bytes → HasPages pages size file_len → HasItsPages bytes file_len
 has_its_pages bytes file_len pages size pages_is size_is has =
-    let product : pages * size ≡ counted_pages bytes file_len * page_size bytes = ap₂ (λ (a b : ℕ). a * b) pages_is size_is in
+    let product : pages * size ≡ counted_pages bytes file_len * page_bytes bytes = ap₂ (λ (a b : ℕ). a * b) pages_is size_is in
     record { some = omega (arith, has.0); limit = omega (arith, has.1); long = omega (arith, has.2) }
 
-pub no_pages : (bytes : List ℕ) (file_len pages size : ℕ) → pages ≡ counted_pages bytes file_len → size ≡ page_size bytes
+pub no_pages : (bytes : List ℕ) (file_len pages size : ℕ) → pages ≡ counted_pages bytes file_len → size ≡ page_bytes bytes
     → IsSupported bytes → (HasPages pages size file_len → ⊥) → IsFirstFault bytes file_len (SizeMismatch pages file_len)
 no_pages bytes file_len pages size pages_is size_is ok lacks =
-    let product : pages * size ≡ counted_pages bytes file_len * page_size bytes = ap₂ (λ (a b : ℕ). a * b) pages_is size_is in
+    let product : pages * size ≡ counted_pages bytes file_len * page_bytes bytes = ap₂ (λ (a b : ℕ). a * b) pages_is size_is in
     let first : IsFirstFault bytes file_len (SizeMismatch (counted_pages bytes file_len) file_len) =
     first-size_mismatch bytes file_len ok (λ has. lacks (omega (arith, has.some), omega (arith, has.limit), omega (arith, has.long))) in
     let P : ℕ → Type 0 = λ n. IsFirstFault bytes file_len (SizeMismatch n file_len) in

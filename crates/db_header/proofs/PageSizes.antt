@@ -1,54 +1,40 @@
--- The powers of two from 512 to 32768, one by one.
-use Rattle.std.proofs.Common.{◌≡◌, ℕ, ◌^◌, ◌≤◌, ◌⊎◌, inl, inr, arith, ap, ◌∙◌}
+-- The powers of two from 512 to 65536, one by one.
+use Rattle.std.proofs.Common.{◌≡◌, ℕ, zero, suc, ◌+◌, ◌^◌, ◌<◌, ◌≤◌, ◌⊎◌, inl, inr, arith, ap, ◌∙◌}
 use Rattle.std.proofs.Math.Nat.{pow-le-pow_right}
-use Rattle.db_header.specs.Reading.{IsPageSize}
+use Rattle.std.proofs.lemmas.Bool.{cases_lt}
+use Rattle.format_spec.specs.Sizes.{IsPageSize}
 
-abbrev pub IsOneOfSizes : ℕ → Type 0
-IsOneOfSizes size = (size ≡ 512) ⊎ ((size ≡ 1024) ⊎ ((size ≡ 2048) ⊎ ((size ≡ 4096) ⊎ ((size ≡ 8192) ⊎ ((size ≡ 16384) ⊎ (size ≡ 32768))))))
+-- the size is 2 ^ k or one of the n powers above it
+abbrev pub IsPowerFrom : ℕ → ℕ → ℕ → Type 0
+IsPowerFrom zero k size = size ≡ 2 ^ k
+IsPowerFrom (suc n) k size = (size ≡ 2 ^ k) ⊎ IsPowerFrom n (k + 1) size
 
--- an exponent is none from 9 to 15, or one of these
-exponents : (k : ℕ) → (k ≤ 8) ⊎ ((16 ≤ k) ⊎ ((k ≡ 9) ⊎ ((k ≡ 10) ⊎ ((k ≡ 11) ⊎ ((k ≡ 12) ⊎ ((k ≡ 13) ⊎ ((k ≡ 14) ⊎ (k ≡ 15))))))))
-exponents k = grind arith
-
-power_sizes : (k size : ℕ) → size ≡ 2 ^ k → 512 ≤ size → size ≤ 32768 → IsOneOfSizes size
-power_sizes k size e low high =
-    elim (exponents k) [
-      | inl below ↦ let h : 2 ^ k ≤ 2 ^ 8 = pow-le-pow_right (omega arith) below in absurd (omega arith)
-      | inr more ↦ elim more [
-        | inl above ↦ let h : 2 ^ 16 ≤ 2 ^ k = pow-le-pow_right (omega arith) above in absurd (omega arith)
-        | inr more ↦ elim more [
-          | inl k_is ↦ inl (e ∙ ap (λ (n : ℕ). 2 ^ n) k_is)
-          | inr more ↦ elim more [
-            | inl k_is ↦ inr (inl (e ∙ ap (λ (n : ℕ). 2 ^ n) k_is))
-            | inr more ↦ elim more [
-              | inl k_is ↦ inr (inr (inl (e ∙ ap (λ (n : ℕ). 2 ^ n) k_is)))
-              | inr more ↦ elim more [
-                | inl k_is ↦ inr (inr (inr (inl (e ∙ ap (λ (n : ℕ). 2 ^ n) k_is))))
-                | inr more ↦ elim more [
-                  | inl k_is ↦ inr (inr (inr (inr (inl (e ∙ ap (λ (n : ℕ). 2 ^ n) k_is)))))
-                  | inr more ↦ elim more [
-                    | inl k_is ↦ inr (inr (inr (inr (inr (inl (e ∙ ap (λ (n : ℕ). 2 ^ n) k_is))))))
-                    | inr k_is ↦ inr (inr (inr (inr (inr (inr (e ∙ ap (λ (n : ℕ). 2 ^ n) k_is))))))
-                  ]
-                ]
-              ]
-            ]
-          ]
-        ]
-      ]
+power_from : (n k j size : ℕ) → size ≡ 2 ^ j → k ≤ j → j ≤ k + n → IsPowerFrom n k size
+power_from zero k j size e low high = let same : j ≡ k = omega arith in e ∙ ap (λ (i : ℕ). 2 ^ i) same
+power_from (suc n) k j size e low high =
+    elim (cases_lt k j) [
+      | inl above ↦ inr (power_from n (k + 1) j size e (omega arith) (omega arith))
+      | inr least ↦ let same : j ≡ k = omega arith in inl (e ∙ ap (λ (i : ℕ). 2 ^ i) same)
     ]
 
-pub one_of_sizes : (size : ℕ) → IsPageSize size → IsOneOfSizes size
-one_of_sizes size h = power_sizes h.power.0 size h.power.1 h.least h.most
+power_le : (j k : ℕ) → j ≤ k → 2 ^ j ≤ 2 ^ k
+power_le j k h = pow-le-pow_right (omega arith) h
 
-page_size_at : (k : ℕ) (size : ℕ) → size ≡ 2 ^ k → 512 ≤ size → size ≤ 32768 → IsPageSize size
-page_size_at k size e low high = record { power = (k, e); least = low; most = high }
+pub one_of_sizes : (size : ℕ) → IsPageSize size → IsPowerFrom 7 9 size
+one_of_sizes size h =
+    let k : ℕ = h.power.0 in
+    let is : size ≡ 2 ^ k = h.power.1 in
+    let least : 512 ≤ size = h.least in
+    let most : size ≤ 65536 = h.most in
+    let low : 9 ≤ k = elim (cases_lt k 9) [ inl below ↦ absurd (omega (arith, power_le k 8 (omega arith))) | inr enough ↦ enough ] in
+    let high : k ≤ 16 = elim (cases_lt 16 k) [ inl above ↦ absurd (omega (arith, power_le 17 k (omega arith))) | inr within ↦ within ] in
+    power_from 7 9 k size is low high
 
-pub page_size_of_one : (size : ℕ) → IsOneOfSizes size → IsPageSize size
-page_size_of_one size (inl e) = page_size_at 9 size e (omega arith) (omega arith)
-page_size_of_one size (inr (inl e)) = page_size_at 10 size e (omega arith) (omega arith)
-page_size_of_one size (inr (inr (inl e))) = page_size_at 11 size e (omega arith) (omega arith)
-page_size_of_one size (inr (inr (inr (inl e)))) = page_size_at 12 size e (omega arith) (omega arith)
-page_size_of_one size (inr (inr (inr (inr (inl e))))) = page_size_at 13 size e (omega arith) (omega arith)
-page_size_of_one size (inr (inr (inr (inr (inr (inl e)))))) = page_size_at 14 size e (omega arith) (omega arith)
-page_size_of_one size (inr (inr (inr (inr (inr (inr e)))))) = page_size_at 15 size e (omega arith) (omega arith)
+-- and each of these is the size of a page
+page_size_from : (n k size : ℕ) → 9 ≤ k → k + n ≤ 16 → IsPowerFrom n k size → IsPageSize size
+page_size_from zero k size low high e = record { power = (k, e); least = omega (arith, power_le 9 k low); most = omega (arith, power_le k 16 (omega arith)) }
+page_size_from (suc n) k size low high (inl e) = record { power = (k, e); least = omega (arith, power_le 9 k low); most = omega (arith, power_le k 16 (omega arith)) }
+page_size_from (suc n) k size low high (inr more) = page_size_from n (k + 1) size (omega arith) (omega arith) more
+
+pub page_size_of_one : (size : ℕ) → IsPowerFrom 7 9 size → IsPageSize size
+page_size_of_one size = page_size_from 7 9 size (omega arith) (omega arith)

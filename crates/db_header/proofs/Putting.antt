@@ -1,11 +1,12 @@
 -- The writes of a header, one after the other.
 use Rattle.std.proofs.Common.{◌≡◌, ℕ, List, ap, ◌∙◌}
 use Rattle.byte_fields.specs.Numbers.{with_number_at}
+use Rattle.format_spec.specs.Sizes.{size_field}
 use Rattle.db_header.specs.declared.fields.Header.{Header}
 use Rattle.db_header.specs.Writing.{header_written}
 
 pub header_written-steps : (header : Header) (page a b c d e f g h i : List ℕ)
-    → a ≡ with_number_at 16 2 header.page_size page
+    → a ≡ with_number_at 16 2 (size_field header.page_size) page
     → b ≡ with_number_at 20 1 header.reserved a
     → c ≡ with_number_at 24 4 header.change_counter b
     → d ≡ with_number_at 28 4 header.pages c

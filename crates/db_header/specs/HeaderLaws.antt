@@ -3,7 +3,8 @@ use Rattle.std.proofs.Common.{slice_index, ◌/◌, ◌≤◌, ◌==◌, ◌&&�
 use Rattle.std.proofs.lemmas.Bool.Decides.{nat_tests}
 use Rattle.byte_fields.specs.NumbersLaws.{number_at-lt}
 use Rattle.byte_fields.specs.Numbers.{number_at}
-use Rattle.format_spec.specs.Header.{page_size, reserved, change_counter, pages, version_valid_for, largest_root, text_encoding, schema_format}
+use Rattle.format_spec.specs.Sizes.{IsPageSize, size_field, size_from_field}
+use Rattle.format_spec.specs.Header.{page_bytes, reserved, change_counter, pages, version_valid_for, largest_root, text_encoding, schema_format}
 use Rattle.byte_fields.specs.Fields.{Field, AllUpTo, AllFit, number_of}
 use Rattle.byte_fields.specs.FieldsLaws.{number_at-with_fields, length-with_fields, take-with_fields, drop-with_fields}
 use Rattle.common_spec.specs.Reading.{OrFault}
@@ -13,14 +14,14 @@ use Rattle.std.proofs.lemmas.Bool.{cases_lt}
 use Rattle.db_header.specs.declared.fields.Header.{Header}
 use Rattle.db_header.specs.declared.fields.HeaderFault.{HeaderFault}
 use Rattle.db_header.specs.declared.fields.HeaderFault.TheVariants.{NotADatabase, PageSize, WalMode, Encoding, AutoVacuum, SizeMismatch, ReservedSpace, SchemaFormat}
-use Rattle.db_header.specs.Reading.{IsDatabase, HasRollbackVersions, read_format, IsPageSize, IsSupported, HasItsPages, HasFault, fault_order, IsHeaderOf, IsFirstFault, counted_pages}
+use Rattle.db_header.specs.Reading.{IsDatabase, HasRollbackVersions, read_format, IsSupported, HasItsPages, HasFault, fault_order, IsHeaderOf, IsFirstFault, counted_pages}
 
 -- a header that can be read has no fault but that of its size
 pub supported-no_fault : (bytes : List ℕ) (file_len : ℕ) (fault : HeaderFault) → IsSupported bytes → fault_order fault < 7 → ¬ HasFault bytes file_len fault
 supported-no_fault bytes file_len NotADatabase ok early fault = fault ok.database
-supported-no_fault bytes file_len (PageSize value) ok early fault = let P : ℕ → Type 0 = IsPageSize in fault.1 (subst P (sym fault.0) ok.size)
+supported-no_fault bytes file_len (PageSize value) ok early fault = fault.1 ok.size
 supported-no_fault bytes file_len WalMode ok early fault = fault ok.versions
-supported-no_fault bytes file_len (ReservedSpace value) ok early fault = omega (arith, fault.0, fault.1, ok.usable)
+supported-no_fault bytes file_len (ReservedSpace value) ok early fault = omega (arith, fault.0, fault.1, ok.usable.least)
 supported-no_fault bytes file_len (SchemaFormat value) ok early fault = omega (arith, fault.0, fault.1, ok.known_format)
 supported-no_fault bytes file_len (Encoding value) ok early fault = omega (arith, fault.0, fault.1, ok.utf8)
 supported-no_fault bytes file_len (AutoVacuum value) ok early fault = omega (arith, fault.0, fault.1, ok.no_auto_vacuum)
@@ -89,12 +90,20 @@ header_fields header =
     ∷ record { at = 28; size = 4; value = header.pages }
     ∷ record { at = 24; size = 4; value = header.change_counter }
     ∷ record { at = 20; size = 1; value = header.reserved }
-    ∷ record { at = 16; size = 2; value = header.page_size }
+    ∷ record { at = 16; size = 2; value = size_field header.page_size }
     ∷ []
 
 -- the fields lie in the first 100 bytes
 header_fields_inside : (header : Header) (long : ℕ) → 100 ≤ long → AllUpTo long (header_fields header)
 header_fields_inside header long room = (omega arith, (omega arith, (omega arith, (omega arith, (omega arith, (omega arith, (omega arith, (omega arith, (omega arith, tt)))))))))
+
+-- a page size has a field of two bytes
+size_field-fits : (size : ℕ) → size ≤ 65536 → size_field size < 65536
+size_field-fits size most = grind (arith, nat_tests)
+
+-- the field of a page size says it
+size_from_field-size_field : (size : ℕ) → 512 ≤ size → size_from_field (size_field size) ≡ size
+size_from_field-size_field size least = grind (arith, nat_tests)
 
 -- the fields' numbers fit their sizes
 header_fields_fit : (header : Header) → IsHeader header → AllFit (header_fields header)
@@ -115,7 +124,7 @@ header_fields_fit header ok = (
               (
                 ok.reserved,
                 (
-                  omega (arith, ok.size.most),
+                  size_field-fits header.page_size ok.size.most,
                   tt,
                 ),
               ),
@@ -176,7 +185,7 @@ pub reads-header_written : (header : Header) (bytes : List ℕ) (file_len : ℕ)
 reads-header_written header bytes file_len database versions utf8 no_auto_vacuum ok long =
     let new = header_written header bytes in
     let stays = λ (place size : ℕ). number_at-header_written place size header bytes ok database.long in
-    let page_size_is : page_size new ≡ header.page_size = stays 16 2 in
+    let page_size_is : page_bytes new ≡ header.page_size = ap size_from_field (stays 16 2) ∙ size_from_field-size_field header.page_size ok.size.least in
     let reserved_is : reserved new ≡ header.reserved = stays 20 1 in
     let change_counter_is : change_counter new ≡ header.change_counter = stays 24 4 in
     let pages_is : pages new ≡ header.pages = stays 28 4 in
@@ -184,8 +193,8 @@ reads-header_written header bytes file_len database versions utf8 no_auto_vacuum
     let valid : version_valid_for new ≡ header.change_counter = stays 92 4 in
     let encoding_is : text_encoding new ≡ text_encoding bytes = stays 56 4 in
     let counted : counted_pages new file_len ≡ header.pages =
-    counted-valid (pages new) (version_valid_for new) (change_counter new) (file_len / page_size new) (omega (arith, ok.some_page)) (valid ∙ sym change_counter_is) ∙ pages_is in
-    let product : counted_pages new file_len * page_size new ≡ header.pages * header.page_size = ap₂ (λ (a b : ℕ). a * b) counted page_size_is in
+    counted-valid (pages new) (version_valid_for new) (change_counter new) (file_len / page_bytes new) (omega (arith, ok.some_page)) (valid ∙ sym change_counter_is) ∙ pages_is in
+    let product : counted_pages new file_len * page_bytes new ≡ header.pages * header.page_size = ap₂ (λ (a b : ℕ). a * b) counted page_size_is in
     let P : ℕ → Type 0 = IsPageSize in
     record {
       supported = record {
@@ -198,7 +207,7 @@ reads-header_written header bytes file_len database versions utf8 no_auto_vacuum
         };
         size = subst P (sym page_size_is) ok.size;
         versions = record { write = stays 18 1 ∙ versions.write; read = stays 19 1 ∙ versions.read };
-        usable = omega (arith, ok.usable);
+        usable = record { least = omega (arith, ok.usable.least); most = omega (arith, ok.usable.most) };
         known_format = omega (arith, ok.most_format);
         utf8 = omega arith;
         no_auto_vacuum = stays 52 4 ∙ no_auto_vacuum;
@@ -230,7 +239,7 @@ is_header-read bytes file_len header each reads =
     record {
       size = subst P (sym reads.page_size_is) reads.supported.size;
       reserved = omega (arith, reads.reserved_is, number_at-lt 20 1 bytes each);
-      usable = omega (arith, reads.page_size_is, reads.reserved_is, reads.supported.usable);
+      usable = record { least = omega (arith, reads.page_size_is, reads.reserved_is, reads.supported.usable.least); most = omega (arith, reads.page_size_is, reads.reserved_is, reads.supported.usable.most) };
       change_counter = omega (arith, reads.change_counter_is, number_at-lt 24 4 bytes each);
       some_page = omega (arith, reads.pages_is, reads.whole.some);
       page_limit = omega (arith, reads.pages_is, reads.whole.limit);

@@ -2,7 +2,7 @@
 use Rattle.std.specs.Prelude.{ℕ, ◌-◌, ◌^◌, ◌<◌, ◌≤◌, List}
 use Rattle.byte_fields.specs.Numbers.{with_number_at}
 use Rattle.db_header.specs.declared.fields.Header.{Header}
-use Rattle.db_header.specs.Reading.{IsPageSize}
+use Rattle.format_spec.specs.Sizes.{IsPageSize, IsUsable, size_field}
 
 -- The bytes with the header's fields at their places. The change counter also stands at offset 92, so that the size is valid.
 unfoldable pub header_written : Header → List ℕ → List ℕ
@@ -15,13 +15,13 @@ header_written header bytes =
     (with_number_at 28 4 header.pages
     (with_number_at 24 4 header.change_counter
     (with_number_at 20 1 header.reserved
-    (with_number_at 16 2 header.page_size bytes))))))))
+    (with_number_at 16 2 (size_field header.page_size) bytes))))))))
 
 -- the header is one that a file can have
 pub record IsHeader (header : Header) : Type 0 where
   pub size : IsPageSize header.page_size
   pub reserved : header.reserved < 2 ^ 8
-  pub usable : 480 ≤ header.page_size - header.reserved
+  pub usable : IsUsable (header.page_size - header.reserved)
   pub change_counter : header.change_counter < 2 ^ 32
   pub some_page : 0 < header.pages
   pub page_limit : header.pages ≤ 2 ^ 24

@@ -3,7 +3,7 @@
 /// The fields of the database header that change, or that the pages are read by.
 #[derive(Clone, Copy, Debug, PartialEq, Eq)]
 pub struct Header {
-    /// The size of a page in bytes: a power of two from 512 to 32768.
+    /// The size of a page in bytes: a power of two from 512 to 65536.
     pub page_size: u32,
     /// The unused bytes at the end of each page.
     pub reserved: u8,
@@ -26,7 +26,7 @@ pub struct Header {
 pub enum HeaderFault {
     /// The file is shorter than 100 bytes, or does not begin as a database does: refusal 30.
     NotADatabase,
-    /// The page size is no power of two from 512 to 32768: refusal 31. The value 1 stands for 65536.
+    /// The field of the page size is neither 1, which stands for 65536, nor a power of two from 512 to 32768: refusal 31.
     PageSize { value: u64 },
     /// The write or the read version is not that of a rollback journal: refusal 32.
     WalMode,

@@ -1,14 +1,18 @@
 // Reading the header.
 ghost use Rattle.std.specs.Prelude.{◌≡◌, ℕ, ◌+◌, ◌-◌, ◌<◌, ◌≤◌, ◌^◌, ◌↔◌, ◌*◌, length, IsTrue, MatchResult};
-ghost use Rattle.format_spec.specs.Header.{HasMagic, page_size as page_size_of, max_fraction, min_fraction, leaf_fraction};
+ghost use Rattle.format_spec.specs.Sizes.{IsPageSize};
+ghost use Rattle.format_spec.specs.Header.{HasMagic, page_bytes as page_bytes_of, max_fraction, min_fraction, leaf_fraction};
 ghost use Rattle.common_spec.specs.Reading.{Reads, OrFault};
-ghost use Rattle.db_header.specs.Reading.{IsDatabase, IsPageSize, HasRollbackVersions, counted_pages as counted, IsSupported, IsHeaderOf, IsFirstFault};
+ghost use Rattle.db_header.specs.Reading.{IsDatabase, HasRollbackVersions, counted_pages as counted, IsSupported, IsHeaderOf, IsFirstFault};
 
 use crate::fields::{Header, HeaderFault};
 use byte_fields::{u8_at, u16_at, u32_at};
 
 // What each database begins with.
 const MAGIC: &[u8; 16] = b"SQLite format 3\0";
+
+// The fewest bytes of a page that cells may lie in.
+const LEAST_USABLE: u64 = 480;
 
 // The most pages that a file may have.
 const PAGE_LIMIT: u64 = 1 << 24;
@@ -35,11 +39,25 @@ fn is_database(bytes: &[u8]) -> bool
     bytes.len() >= 100 && has_magic(bytes) && has_fractions(bytes)
 }
 
+// How many bytes each page has.
+fn page_bytes(bytes: &[u8]) -> u32
+    requires { 100 ≤ length bytes.now }
+    ensures { result ≡ page_bytes_of bytes.now }
+{
+    match u16_at(bytes, 16) {
+        1 => 65536,
+        size => u32::from(size),
+    }
+}
+
 // Whether pages may have this size.
-fn is_page_size(size: u64) -> bool
+fn is_page_size(size: u32) -> bool
     ensures { IsTrue result ↔ IsPageSize size }
 {
-    matches!(size, 512 | 1024 | 2048 | 4096 | 8192 | 16384 | 32768)
+    matches!(
+        size,
+        512 | 1024 | 2048 | 4096 | 8192 | 16384 | 32768 | 65536
+    )
 }
 
 // Whether the file is written and read with a rollback journal.
@@ -54,7 +72,7 @@ fn has_rollback_versions(bytes: &[u8]) -> bool
 fn counted_pages(bytes: &[u8], page_size: u32, file_len: u64) -> u64
     requires long { 100 ≤ length bytes.now }
     requires some { 0 < page_size }
-    requires size { page_size ≡ page_size_of bytes.now }
+    requires size { page_size ≡ page_bytes_of bytes.now }
     ensures { result ≡ counted bytes.now file_len }
 {
     let pages = u32_at(bytes, 28);
@@ -79,15 +97,17 @@ fn check_supported(bytes: &[u8]) -> Result<(), HeaderFault>
     if !is_database(bytes) {
         return Err(HeaderFault::NotADatabase);
     }
-    let page_size = u64::from(u16_at(bytes, 16));
+    let page_size = page_bytes(bytes);
     if !is_page_size(page_size) {
-        return Err(HeaderFault::PageSize { value: page_size });
+        return Err(HeaderFault::PageSize {
+            value: u64::from(u16_at(bytes, 16)),
+        });
     }
     if !has_rollback_versions(bytes) {
         return Err(HeaderFault::WalMode);
     }
     let reserved = u64::from(u8_at(bytes, 20));
-    if page_size - reserved < 480 {
+    if u64::from(page_size) - reserved < LEAST_USABLE {
         return Err(HeaderFault::ReservedSpace { value: reserved });
     }
     let format = u64::from(u32_at(bytes, 44));
@@ -115,7 +135,7 @@ pub fn read_header(bytes: &[u8], file_len: u64) -> Result<Header, HeaderFault>
     ensures { Reads (OrFault (IsHeaderOf bytes.now file_len) (IsFirstFault bytes.now file_len)) result }
 {
     check_supported(bytes)?;
-    let page_size = u32::from(u16_at(bytes, 16));
+    let page_size = page_bytes(bytes);
     let pages = counted_pages(bytes, page_size, file_len);
     if !has_pages(pages, page_size, file_len) {
         return Err(HeaderFault::SizeMismatch {

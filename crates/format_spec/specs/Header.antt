@@ -1,14 +1,19 @@
 -- The fields of the database header (Database File Format, section 1.3), as numbers at a place in the file's first bytes.
 use Rattle.std.specs.Prelude.{◌≡◌, ℕ, List, [], ◌∷◌, ◌++◌, take, codes}
 use Rattle.byte_fields.specs.Numbers.{number_at}
+use Rattle.format_spec.specs.Sizes.{size_from_field}
 
 -- `SQLite format 3` and a zero byte (section 1.3.1)
 abbrev pub HasMagic : List ℕ → Type 0
 HasMagic bytes = take 16 bytes ≡ codes "SQLite format 3" ++ 0 ∷ []
 
--- the page size; 1 stands for 65536 (section 1.3.2)
+-- the field of the page size (section 1.3.2)
 abbrev pub page_size : List ℕ → ℕ
 page_size = number_at 16 2
+
+-- how many bytes each page has
+abbrev pub page_bytes : List ℕ → ℕ
+page_bytes bytes = size_from_field (page_size bytes)
 
 -- 1 where the file is written with a rollback journal, 2 with a write-ahead log (section 1.3.3)
 abbrev pub write_version : List ℕ → ℕ

@@ -1,3 +1,4 @@
+pub mod Sizes
 pub mod Varint
 pub mod Record
 pub mod Cell

@@ -81,11 +81,14 @@ abbrev pub stacked : List (List ℕ) → List ℕ
 stacked [] = []
 stacked (cell ∷ cells) = stacked cells ++ cell
 
--- The table leaf of `size` bytes whose cells lie from its end downwards in order, without gaps. It has no freeblock and no fragment, and its unused bytes are zero.
+-- the header of a table leaf of `size` bytes whose cells fill its end: no freeblock, no fragment; the start of the content is written modulo 65536
+abbrev pub packed_header : ℕ → List (List ℕ) → List ℕ
+packed_header size cells = 13 ∷ (big_bytes 2 0 ++ (big_bytes 2 (length cells) ++ (big_bytes 2 (size - sum_by length cells) ++ 0 ∷ [])))
+
+-- The table leaf of `size` bytes whose cells lie from its end downwards in order, without gaps. Its unused bytes are zero.
 unfoldable pub packed_leaf : ℕ → List (List ℕ) → List ℕ
 packed_leaf size cells =
-    let content = sum_by length cells in
-    (13 ∷ (big_bytes 2 0 ++ (big_bytes 2 (length cells) ++ (big_bytes 2 (size - content) ++ 0 ∷ []))))
+    packed_header size cells
     ++ (flat_map (big_bytes 2) (places_below size cells)
-    ++ (replicate (size - (8 + 2 * length cells + content)) 0
+    ++ (replicate (size - (8 + 2 * length cells + sum_by length cells)) 0
     ++ stacked cells))

@@ -2,6 +2,7 @@
 //!
 //! A crate of definitions. Crates above cite, from `specs/`:
 //!
+//! - `Sizes`: the sizes that pages may have, and how many of their bytes may be used (sections 1.3.2 and 1.3.4);
 //! - `Varint`: variable-length integers (section 1.6);
 //! - `Record`: records and the canonical record of a list of values (section 2.1);
 //! - `Cell`: the cells of b-tree pages, and how much of a payload they keep (section 1.6);
@@ -56,6 +57,7 @@ pub use sqlite_rows::{
     worked_log, worked_overlay, worked_spellings, worked_table_leaf,
 };
 pub use worked::{
-    worked_cell, worked_log_header, worked_other_cells, worked_page, worked_record, worked_sizes,
-    worked_varints,
+    worked_cell, worked_empty_leaf, worked_greatest_log_header, worked_header_sizes,
+    worked_log_header, worked_other_cells, worked_page, worked_page_sizes, worked_record,
+    worked_sizes, worked_varints,
 };

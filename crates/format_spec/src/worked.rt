@@ -1,11 +1,12 @@
 // The definitions, computed on rows that were worked out apart from them.
-ghost use Rattle.std.specs.Prelude.{◌≡◌, pos, [], ◌∷◌, ◌++◌, true};
+ghost use Rattle.std.specs.Prelude.{◌≡◌, ◌-◌, ◌^◌, ◌≤◌, pos, [], ◌∷◌, ◌++◌, take, drop, true};
 ghost use Rattle.rbu_value.specs.declared.value.Value.TheVariants.{Null, Int, Text};
 ghost use Rattle.format_spec.specs.declared.PageKind.TheVariants.{IndexInterior, TableInterior, IndexLeaf, TableLeaf};
+ghost use Rattle.format_spec.specs.Sizes.{size_field, size_from_field};
 ghost use Rattle.format_spec.specs.Varint.{varint};
-ghost use Rattle.format_spec.specs.Record.{canonical_record};
-ghost use Rattle.format_spec.specs.Cell.{local_size, cell_bytes, table_leaf_cell};
-ghost use Rattle.format_spec.specs.Page.{packed_leaf};
+ghost use Rattle.format_spec.specs.Record.{canonical_record, header_size_bytes};
+ghost use Rattle.format_spec.specs.Cell.{local_size, overflow_size, cell_bytes, table_leaf_cell};
+ghost use Rattle.format_spec.specs.Page.{packed_header, packed_leaf};
 ghost use Rattle.format_spec.specs.Log.{log_header};
 
 /// The shortest varints at the edges of their sizes.
@@ -44,7 +45,7 @@ pub fn worked_other_cells()
         ≡ 0x00 ∷ 0x00 ∷ 0x00 ∷ 0x07 ∷ 0x05 ∷ 0x01 ∷ 0x02 ∷ 0x03 ∷ 0x04 ∷ 0x05 ∷ [] }
 {}
 
-/// How much of a payload a table leaf and the pages of an index keep, at 512 bytes.
+/// How much of a payload a table leaf and the pages of an index keep, at 512 bytes, and a table leaf at 65536.
 pub fn worked_sizes()
     ensures whole { local_size TableLeaf 512 477 ≡ 477 }
     ensures least { local_size TableLeaf 512 478 ≡ 39 }
@@ -53,6 +54,10 @@ pub fn worked_sizes()
     ensures index_least { local_size IndexLeaf 512 103 ≡ 39 }
     ensures index_most { local_size IndexInterior 512 610 ≡ 102 }
     ensures index_over { local_size IndexInterior 512 611 ≡ 39 }
+    ensures greatest_whole { local_size TableLeaf 65536 65501 ≡ 65501 }
+    ensures greatest_over { local_size TableLeaf 65536 65502 ≡ 8199 }
+    ensures one_overflow_page { overflow_size 8199 65502 ≡ 4 }
+    ensures fits_that_page { 65502 - 8199 ≤ 65536 - 4 }
 {}
 
 /// The log's header for pages of 4096 bytes and the salt 1, 2.
@@ -61,6 +66,35 @@ pub fn worked_log_header()
     ensures { log_header true 4096 0 (1, 2) ≡
         0x37 ∷ 0x7f ∷ 0x06 ∷ 0x83 ∷ 0x00 ∷ 0x2d ∷ 0xe2 ∷ 0x18 ∷ 0x00 ∷ 0x00 ∷ 0x10 ∷ 0x00 ∷ 0x00 ∷ 0x00 ∷ 0x00 ∷ 0x00 ∷
         0x00 ∷ 0x00 ∷ 0x00 ∷ 0x01 ∷ 0x00 ∷ 0x00 ∷ 0x00 ∷ 0x02 ∷ 0x16 ∷ 0x04 ∷ 0xe6 ∷ 0xd8 ∷ 0xbc ∷ 0xdd ∷ 0xce ∷ 0x93 ∷ [] }
+{}
+
+/// The log's header says the greatest page size in its four bytes.
+#[tactic(auto, unfolding(crate::specs::Log::log_header))]
+pub fn worked_greatest_log_header()
+    ensures { take 4 (drop 8 (log_header true 65536 0 (1, 2))) ≡ 0x00 ∷ 0x01 ∷ 0x00 ∷ 0x00 ∷ [] }
+{}
+
+/// The field of the page size, for the greatest size and another.
+pub fn worked_page_sizes()
+    ensures greatest { size_from_field 1 ≡ 65536 }
+    ensures other { size_from_field 4096 ≡ 4096 }
+    ensures field_of_greatest { size_field 65536 ≡ 1 }
+    ensures field_of_other { size_field 4096 ≡ 4096 }
+{}
+
+/// How many bytes the size of a record's header takes, at the edges.
+pub fn worked_header_sizes()
+    ensures one { header_size_bytes 126 ≡ 1 }
+    ensures two { header_size_bytes 127 ≡ 2 }
+    ensures five { header_size_bytes (2 ^ 35 - 6) ≡ 5 }
+    ensures six { header_size_bytes (2 ^ 35 - 5) ≡ 6 }
+    ensures eight { header_size_bytes (2 ^ 56 - 9) ≡ 8 }
+    ensures nine { header_size_bytes (2 ^ 56 - 8) ≡ 9 }
+{}
+
+/// An empty table leaf of the greatest size: its content starts at 65536, which is written as 0.
+pub fn worked_empty_leaf()
+    ensures { packed_header 65536 [] ≡ 0x0d ∷ 0 ∷ 0 ∷ 0 ∷ 0 ∷ 0 ∷ 0 ∷ 0 ∷ [] }
 {}
 
 /// A table leaf of 32 bytes with cells of four and five bytes.

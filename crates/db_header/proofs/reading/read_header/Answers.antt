@@ -11,14 +11,14 @@ returns-in_err-check_supported c =
 
 pub returns-then-not-has_pages : goal.returns-then-not-has_pages
 returns-then-not-has_pages c =
-    let lacks : HasPages c.counted_pages-pages.result c.from-page_size.result c.args.file_len → ⊥ = search rules in
-    let answer = no_pages c.args.bytes.now c.args.file_len c.counted_pages-pages.result c.from-page_size.result c.counted_pages-pages.ensures (cc) c.in_ok-check_supported.ensures lacks in
+    let lacks : HasPages c.counted_pages-pages.result c.page_bytes-page_size.result c.args.file_len → ⊥ = search rules in
+    let answer = no_pages c.args.bytes.now c.args.file_len c.counted_pages-pages.result c.page_bytes-page_size.result c.counted_pages-pages.ensures (cc) c.in_ok-check_supported.ensures lacks in
     reads c.args.bytes.now c.args.file_len _ answer
 
 pub returns : goal.returns
 returns c = reads c.args.bytes.now c.args.file_len _ (record {
   supported = c.in_ok-check_supported.ensures;
-  whole = has_its_pages c.args.bytes.now c.args.file_len c.counted_pages-pages.result c.from-page_size.result c.counted_pages-pages.ensures (cc) (search rules);
+  whole = has_its_pages c.args.bytes.now c.args.file_len c.counted_pages-pages.result c.page_bytes-page_size.result c.counted_pages-pages.ensures (cc) (c.has_pages.ensures.0 c.if-not-has_pages.false);
   page_size_is = cc;
   reserved_is = cc;
   change_counter_is = cc;

@@ -1,0 +1,4 @@
+pub mod Pages
+pub mod Chains
+pub mod Freelists
+pub mod Rooms

@@ -1,0 +1,15 @@
+//! Numbered pages as relations between bytes and what they stand for.
+//!
+//! A crate of definitions. Crates above cite, from `specs/`:
+//!
+//! - `Pages`: pages by their numbers, the lock-byte page, and the numbers that a link may name (Database File Format, section 1.5);
+//! - `Chains`: overflow chains, their bytes, and where one breaks (section 1.6);
+//! - `Freelists`: the freelist as a list of trunks with their leaf pages (section 1.5);
+//! - `Rooms`: the room of cells in a page, its free bytes, and pages as they are written (section 1.6).
+//!
+//! The functions without parameters promise that the definitions compute on worked rows.
+#![tactic(auto)]
+
+mod worked;
+
+pub use worked::{worked_chain, worked_freelist, worked_lock_byte_pages, worked_rooms};

@@ -1,5 +1,5 @@
 -- The freelist (Database File Format, section 1.5).
-use Rattle.std.specs.Prelude.{◌≡◌, ℕ, ◌+◌, ◌-◌, ◌*◌, ◌/◌, ◌<◌, ◌≤◌, ◌==◌, Bool, List, [], ◌∷◌, length, slice_index}
+use Rattle.std.specs.Prelude.{◌≡◌, ℕ, ◌+◌, ◌-◌, ◌*◌, ◌/◌, ◌<◌, ◌≤◌, ◌==◌, List, [], ◌∷◌, length, slice_index}
 use Rattle.std.specs.List.{flat_map, IsDistinct, All}
 use Rattle.byte_fields.specs.Numbers.{number_at}
 use Rattle.format_spec.specs.Header.{freelist_trunk, freelist_pages}

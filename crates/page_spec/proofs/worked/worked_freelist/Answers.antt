@@ -1,7 +1,7 @@
-use Rattle.std.proofs.Common.{◌≡◌, ℕ, zero, suc, ◌<◌, List, [], ◌∷◌, ◌++◌, replicate, slice_index, ◌==◌, refl, arith, rules}
+use Rattle.std.proofs.Common.{◌≡◌, ℕ, zero, suc, ◌<◌, [], ◌∷◌, ◌++◌, replicate, slice_index, ◌==◌, refl, arith, rules}
 use Rattle.std.specs.List.{IsDistinct, All}
 use Rattle.page_spec.specs.Pages.{Pages, IsInRange, with_page}
-use Rattle.page_spec.specs.Freelists.{IsTrunk, Trunk, leaf_at, free_pages}
+use Rattle.page_spec.specs.Freelists.{IsTrunk, leaf_at}
 use Rattle.page_spec.proofs.worked.worked_freelist.Goals as goal
 
 abbrev pages : Pages

@@ -2,85 +2,165 @@ use super::*;
 use std::process::Abort;
 use std::test::Fail;
 
-// Cells as SQLite wrote them for the record of (NULL, 'one'), at the edges of the rowid's varint.
-const CELLS: [(i64, &[u8]); 19] = [
-    (1, b"\x06\x01\x03\x00\x13one"),
-    (127, b"\x06\x7f\x03\x00\x13one"),
-    (128, b"\x06\x81\x00\x03\x00\x13one"),
-    (16383, b"\x06\xff\x7f\x03\x00\x13one"),
-    (16384, b"\x06\x81\x80\x00\x03\x00\x13one"),
-    (2097151, b"\x06\xff\xff\x7f\x03\x00\x13one"),
-    (2097152, b"\x06\x81\x80\x80\x00\x03\x00\x13one"),
-    (268435455, b"\x06\xff\xff\xff\x7f\x03\x00\x13one"),
-    (268435456, b"\x06\x81\x80\x80\x80\x00\x03\x00\x13one"),
-    (34359738367, b"\x06\xff\xff\xff\xff\x7f\x03\x00\x13one"),
-    (34359738368, b"\x06\x81\x80\x80\x80\x80\x00\x03\x00\x13one"),
-    (
-        4398046511104,
-        b"\x06\x81\x80\x80\x80\x80\x80\x00\x03\x00\x13one",
-    ),
-    (
-        562949953421312,
-        b"\x06\x81\x80\x80\x80\x80\x80\x80\x00\x03\x00\x13one",
-    ),
-    (
-        72057594037927935,
-        b"\x06\xff\xff\xff\xff\xff\xff\xff\x7f\x03\x00\x13one",
-    ),
+// Numbers and their shortest spellings.
+const VARINTS: [(u64, &[u8]); 3] = [
+    (7, b"\x07"),
+    (300, b"\x82\x2c"),
+    (u64::MAX, b"\xff\xff\xff\xff\xff\xff\xff\xff\xff"),
+];
+
+// A view whose fields are those of a table leaf's cell with its payload at the end.
+const LEAF: CellView = CellView {
+    size: 8,
+    rowid: 1,
+    child: 0,
+    payload: 6,
+    local_at: 2,
+    local: 6,
+    overflow: 0,
+};
+
+// The record of (NULL, 'one'), as SQLite wrote it.
+const RECORD: &[u8] = b"\x03\x00\x13one";
+
+// The cells of that record as SQLite wrote them, at edges of the rowid's varint, with the place of the record.
+const CELLS: [(i64, u32, &[u8]); 6] = [
+    (1, 2, b"\x06\x01\x03\x00\x13one"),
+    (128, 3, b"\x06\x81\x00\x03\x00\x13one"),
     (
         72057594037927936,
+        10,
         b"\x06\x80\xc0\x80\x80\x80\x80\x80\x80\x00\x03\x00\x13one",
     ),
     (
         i64::MAX,
+        10,
         b"\x06\xbf\xff\xff\xff\xff\xff\xff\xff\xff\x03\x00\x13one",
     ),
-    (0, b"\x06\x00\x03\x00\x13one"),
     (
         -1,
+        10,
         b"\x06\xff\xff\xff\xff\xff\xff\xff\xff\xff\x03\x00\x13one",
     ),
     (
         i64::MIN,
+        10,
         b"\x06\xc0\x80\x80\x80\x80\x80\x80\x80\x00\x03\x00\x13one",
     ),
 ];
 
-#[test]
-fn varints_are_written_and_read(rt: HostRuntime) {
-    let mut spelling = [0; 9];
-    assert_eq!(rt; varint_length(300), 2);
-    assert_eq!(rt; write_varint(300, &mut spelling), 2);
-    assert_eq!(rt; spelling, [0x82, 0x2c, 0, 0, 0, 0, 0, 0, 0]);
-    assert_eq!(rt; write_varint(u64::MAX, &mut spelling), 9);
-    assert_eq!(rt; spelling, [0xff; 9]);
-    assert_eq!(rt; read_varint(&[0xff; 9]), Some((u64::MAX, 9)));
-    assert_eq!(rt; read_varint(b"\x82\x2c\x07"), Some((300, 2)));
-}
+// Cells of each kind: the view, the payload, and the bytes.
+const KINDS: [(PageKind, CellView, &[u8], &[u8]); 4] = [
+    (
+        PageKind::TableLeaf,
+        CellView {
+            size: 10,
+            payload: 8,
+            local: 8,
+            ..LEAF
+        },
+        b"\x04\x00\x13\x01one\x0a",
+        b"\x08\x01\x04\x00\x13\x01one\x0a",
+    ),
+    (
+        PageKind::TableInterior,
+        CellView {
+            size: 6,
+            rowid: 300,
+            child: 5,
+            payload: 0,
+            local_at: 0,
+            local: 0,
+            overflow: 0,
+        },
+        b"",
+        b"\x00\x00\x00\x05\x82\x2c",
+    ),
+    (
+        PageKind::IndexLeaf,
+        CellView {
+            size: 6,
+            rowid: 0,
+            payload: 5,
+            local_at: 1,
+            local: 5,
+            ..LEAF
+        },
+        b"\x01\x02\x03\x04\x05",
+        b"\x05\x01\x02\x03\x04\x05",
+    ),
+    (
+        PageKind::IndexInterior,
+        CellView {
+            size: 10,
+            rowid: 0,
+            child: 7,
+            payload: 5,
+            local_at: 5,
+            local: 5,
+            overflow: 0,
+        },
+        b"\x01\x02\x03\x04\x05",
+        b"\x00\x00\x00\x07\x05\x01\x02\x03\x04\x05",
+    ),
+];
 
-#[test]
-fn varints_are_appended(rt: HostRuntime) -> Result<(), Fail> {
-    let mut bytes = Vec::new(rt.alloc());
-    push_varint(300, &mut bytes)?;
-    push_varint(7, &mut bytes)?;
-    assert_eq!(rt; bytes.as_slice(), b"\x82\x2c\x07".as_slice());
-    Ok(())
-}
+// Bytes that begin with no cell.
+const FAULTS: [(PageKind, &[u8], CellFault); 9] = [
+    (
+        PageKind::TableLeaf,
+        b"\x06\x01\x03\x00\x13on",
+        CellFault::ShortCell,
+    ),
+    (PageKind::TableLeaf, b"\x06\x81", CellFault::ShortCell),
+    (
+        PageKind::TableLeaf,
+        b"\x87\xff\xff\xff\x7f",
+        CellFault::ShortCell,
+    ),
+    (
+        PageKind::TableLeaf,
+        b"\x88\x80\x80\x80\x00",
+        CellFault::SizeOverLimit,
+    ),
+    (
+        PageKind::TableInterior,
+        b"\x00\x00\x00\x05\x82",
+        CellFault::ShortCell,
+    ),
+    (
+        PageKind::IndexLeaf,
+        b"\x05\x01\x02\x03\x04",
+        CellFault::ShortCell,
+    ),
+    (
+        PageKind::IndexLeaf,
+        b"\x88\x80\x80\x80\x00",
+        CellFault::SizeOverLimit,
+    ),
+    (
+        PageKind::IndexInterior,
+        b"\x00\x00\x00",
+        CellFault::ShortCell,
+    ),
+    (
+        PageKind::IndexInterior,
+        b"\x00\x00\x00\x07\x88\x80\x80\x80\x00",
+        CellFault::SizeOverLimit,
+    ),
+];
 
-#[test]
-fn longer_spellings_are_read(rt: HostRuntime) {
-    assert_eq!(rt; read_varint(b"\x80\x01"), Some((1, 2)));
-    assert_eq!(rt;
-        read_varint(b"\x80\x80\x80\x80\x80\x80\x80\x80\x01"),
-        Some((1, 9))
-    );
-}
-
-#[test]
-fn varints_that_are_cut_off_are_not_read(rt: HostRuntime) {
-    assert_eq!(rt; read_varint(b""), None);
-    assert_eq!(rt; read_varint(b"\xff\xff\xff\xff\xff\xff\xff\xff"), None);
-}
+// How much of a payload cells keep: the kind, the usable bytes, the payload, and the local part.
+const SIZES: [(PageKind, u32, u64, u32); 8] = [
+    (PageKind::TableLeaf, 512, 477, 477),
+    (PageKind::TableLeaf, 512, 478, 39),
+    (PageKind::TableLeaf, 512, 1048576, 64),
+    (PageKind::IndexLeaf, 512, 102, 102),
+    (PageKind::IndexLeaf, 512, 103, 39),
+    (PageKind::IndexInterior, 512, 610, 102),
+    (PageKind::TableLeaf, 65536, 65501, 65501),
+    (PageKind::TableLeaf, 65536, 65502, 8199),
+];
 
 fn check_cell(rt: &impl Abort, kind: PageKind, cell: &CellView, local: &[u8], bytes: &[u8]) {
     assert!(rt; local.len() == cell.local as usize && bytes.len() <= 16);
@@ -92,165 +172,61 @@ fn check_cell(rt: &impl Abort, kind: PageKind, cell: &CellView, local: &[u8], by
     assert_eq!(rt; &written[..bytes.len()], bytes);
 }
 
-fn check_leaf_cell(rt: &impl Abort, rowid: i64, bytes: &[u8]) {
-    assert!(rt; 6 <= bytes.len() && bytes.len() <= 16);
-    let size = bytes.len() as u32;
-    let cell = CellView {
-        size,
-        rowid,
-        child: 0,
-        payload: 6,
-        local_at: size - 6,
-        local: 6,
-        overflow: 0,
-    };
-    check_cell(rt, PageKind::TableLeaf, &cell, b"\x03\x00\x13one", bytes);
-}
-
 #[test]
-fn cells_of_sqlite_are_written_and_read(rt: HostRuntime) {
-    for (rowid, bytes) in CELLS {
-        check_leaf_cell(&rt, rowid, bytes);
+fn varints_are_written_and_read(rt: HostRuntime) -> Result<(), Fail> {
+    let alloc = rt.alloc();
+    for (value, bytes) in VARINTS {
+        let mut spelling = [0; 9];
+        assert_eq!(rt; varint_length(value), bytes.len());
+        assert_eq!(rt; write_varint(value, &mut spelling), bytes.len());
+        assert!(rt; spelling.starts_with(bytes));
+        assert_eq!(rt; read_varint(bytes), Some((value, bytes.len())));
+        let mut pushed = Vec::new(alloc);
+        push_varint(value, &mut pushed)?;
+        assert_eq!(rt; pushed.as_slice(), bytes);
     }
-}
-
-#[test]
-fn a_child_and_a_rowid_are_written_and_read(rt: HostRuntime) {
-    let cell = CellView {
-        size: 6,
-        rowid: 300,
-        child: 5,
-        payload: 0,
-        local_at: 0,
-        local: 0,
-        overflow: 0,
-    };
-    check_cell(
-        &rt,
-        PageKind::TableInterior,
-        &cell,
-        b"",
-        b"\x00\x00\x00\x05\x82\x2c",
+    assert_eq!(rt; read_varint(b"\x80\x01\x07"), Some((1, 2)));
+    assert_eq!(rt;
+        read_varint(b"\x80\x80\x80\x80\x80\x80\x80\x80\x01"),
+        Some((1, 9))
     );
+    assert_eq!(rt; read_varint(b""), None);
+    assert_eq!(rt; read_varint(b"\xff\xff\xff\xff\xff\xff\xff\xff"), None);
+    Ok(())
 }
 
 #[test]
-fn cells_of_an_index_are_written_and_read(rt: HostRuntime) {
-    let payload = b"\x01\x02\x03\x04\x05";
-    let leaf = CellView {
-        size: 6,
-        rowid: 0,
-        child: 0,
-        payload: 5,
-        local_at: 1,
-        local: 5,
-        overflow: 0,
-    };
-    check_cell(
-        &rt,
-        PageKind::IndexLeaf,
-        &leaf,
-        payload,
-        b"\x05\x01\x02\x03\x04\x05",
-    );
-
-    let interior = CellView {
-        size: 10,
-        child: 7,
-        local_at: 5,
-        ..leaf
-    };
-    let bytes = b"\x00\x00\x00\x07\x05\x01\x02\x03\x04\x05";
-    check_cell(&rt, PageKind::IndexInterior, &interior, payload, bytes);
-}
-
-#[test]
-fn payloads_of_512_byte_pages_keep_their_local_size(rt: HostRuntime) {
-    assert_eq!(rt; local_size(PageKind::TableLeaf, 512, 477), 477);
-    assert_eq!(rt; local_size(PageKind::TableLeaf, 512, 478), 39);
-    assert_eq!(rt; local_size(PageKind::TableLeaf, 512, 1048576), 64);
-    assert_eq!(rt; local_size(PageKind::IndexLeaf, 512, 102), 102);
-    assert_eq!(rt; local_size(PageKind::IndexLeaf, 512, 103), 39);
-    assert_eq!(rt; local_size(PageKind::IndexInterior, 512, 610), 102);
-}
-
-#[test]
-fn long_payloads_go_on_in_overflow_pages(rt: HostRuntime) {
+fn cells_are_written_and_read(rt: HostRuntime) {
+    for (rowid, local_at, bytes) in CELLS {
+        let size = bytes.len() as u32;
+        let cell = CellView {
+            size,
+            rowid,
+            local_at,
+            ..LEAF
+        };
+        check_cell(&rt, PageKind::TableLeaf, &cell, RECORD, bytes);
+    }
+    for (kind, cell, local, bytes) in KINDS {
+        check_cell(&rt, kind, &cell, local, bytes);
+    }
+    for (kind, bytes, fault) in FAULTS {
+        assert_eq!(rt; read_cell(kind, 4096, bytes), Err(fault));
+    }
+    for (kind, usable, payload, local) in SIZES {
+        assert!(rt; usable == 512 || usable == 65536);
+        assert_eq!(rt; local_size(kind, usable, payload), local);
+    }
     let mut bytes = [1; 48];
     bytes[0] = 0x83;
     bytes[1] = 0x5e;
-    bytes[2] = 5;
-    bytes[45] = 7;
     let cell = CellView {
         size: 46,
-        rowid: 5,
-        child: 0,
         payload: 478,
         local_at: 3,
         local: 39,
-        overflow: 0x0101_0107,
+        overflow: 0x0101_0101,
+        ..LEAF
     };
     assert_eq!(rt; read_cell(PageKind::TableLeaf, 512, &bytes), Ok(cell));
-    assert_eq!(rt;
-        read_cell(PageKind::TableLeaf, 512, &bytes[..45]),
-        Err(CellFault::ShortCell)
-    );
-}
-
-#[test]
-fn long_payloads_of_an_index_go_on_in_overflow_pages(rt: HostRuntime) {
-    let mut bytes = [1; 50];
-    bytes[4] = 0x67;
-    bytes[47] = 9;
-    let cell = CellView {
-        size: 48,
-        rowid: 0,
-        child: 0x0101_0101,
-        payload: 103,
-        local_at: 5,
-        local: 39,
-        overflow: 0x0101_0109,
-    };
-    assert_eq!(rt; read_cell(PageKind::IndexInterior, 512, &bytes), Ok(cell));
-}
-
-#[test]
-fn bytes_that_are_no_cell_are_refused(rt: HostRuntime) {
-    let read = |bytes: &[u8]| read_cell(PageKind::TableLeaf, 4096, bytes);
-    assert_eq!(rt; read(b"\x06\x01\x03\x00\x13on"), Err(CellFault::ShortCell));
-    assert_eq!(rt; read(b"\x06\x81"), Err(CellFault::ShortCell));
-    assert_eq!(rt; read(b"\x87\xff\xff\xff\x7f"), Err(CellFault::ShortCell));
-    assert_eq!(rt;
-        read(b"\x88\x80\x80\x80\x00"),
-        Err(CellFault::SizeOverLimit)
-    );
-}
-
-#[test]
-fn bytes_that_are_no_cell_of_another_kind_are_refused(rt: HostRuntime) {
-    let read = |kind: PageKind, bytes: &[u8]| read_cell(kind, 4096, bytes).map(|cell| cell.size);
-    let interior = PageKind::TableInterior;
-    assert_eq!(rt;
-        read(interior, b"\x00\x00\x00\x05\x82"),
-        Err(CellFault::ShortCell)
-    );
-    assert_eq!(rt;
-        read(interior, b"\x00\x00\x00\x05\x88\x80\x80\x80\x00"),
-        Ok(9)
-    );
-    let leaf = PageKind::IndexLeaf;
-    assert_eq!(rt;
-        read(leaf, b"\x05\x01\x02\x03\x04"),
-        Err(CellFault::ShortCell)
-    );
-    assert_eq!(rt;
-        read(leaf, b"\x88\x80\x80\x80\x00"),
-        Err(CellFault::SizeOverLimit)
-    );
-    let interior = PageKind::IndexInterior;
-    assert_eq!(rt; read(interior, b"\x00\x00\x00"), Err(CellFault::ShortCell));
-    assert_eq!(rt;
-        read(interior, b"\x00\x00\x00\x07\x88\x80\x80\x80\x00"),
-        Err(CellFault::SizeOverLimit)
-    );
 }

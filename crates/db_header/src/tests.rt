@@ -28,100 +28,96 @@ fn changed(changes: &[(usize, u8)]) -> [u8; 100] {
     bytes
 }
 
-// The answer to the vector's header with these changes, in a file of two pages.
-fn answer_to(changes: &[(usize, u8)]) -> Result<Header, HeaderFault> {
-    read_header(&changed(changes), 8192)
-}
+// Headers that are read in a file of so many bytes: the changes to the vector, the length, and what is read.
+const READ: [(&[(usize, u8)], u64, Header); 5] = [
+    (&[], 8192, SMALL),
+    (&[(47, 0), (59, 0)], 8192, Header { format: 1, ..SMALL }),
+    (&[(95, 6)], 12388, Header { pages: 3, ..SMALL }),
+    (&[(31, 0)], 12388, Header { pages: 3, ..SMALL }),
+    (
+        &[(16, 0), (17, 1)],
+        131072,
+        Header {
+            page_size: 65536,
+            ..SMALL
+        },
+    ),
+];
+
+// Headers that are refused, with their first fault.
+const REFUSED: [(&[(usize, u8)], u64, HeaderFault); 14] = [
+    (&[(15, 1)], 8192, HeaderFault::NotADatabase),
+    (&[(22, 33)], 8192, HeaderFault::NotADatabase),
+    (&[(16, 1)], 8192, HeaderFault::PageSize { value: 256 }),
+    (
+        &[(16, 0), (17, 2)],
+        8192,
+        HeaderFault::PageSize { value: 2 },
+    ),
+    (&[(19, 2)], 8192, HeaderFault::WalMode),
+    (&[(16, 2), (20, 33), (18, 2)], 8192, HeaderFault::WalMode),
+    (
+        &[(16, 2), (20, 33)],
+        8192,
+        HeaderFault::ReservedSpace { value: 33 },
+    ),
+    (
+        &[(47, 5), (59, 2)],
+        8192,
+        HeaderFault::SchemaFormat { value: 5 },
+    ),
+    (
+        &[(59, 2), (55, 3)],
+        8192,
+        HeaderFault::Encoding { value: 2 },
+    ),
+    (&[(55, 3)], 8192, HeaderFault::AutoVacuum { value: 3 }),
+    (
+        &[],
+        8191,
+        HeaderFault::SizeMismatch {
+            pages: 2,
+            length: 8191,
+        },
+    ),
+    (
+        &[(95, 6)],
+        4095,
+        HeaderFault::SizeMismatch {
+            pages: 0,
+            length: 4095,
+        },
+    ),
+    (
+        &[(28, 1), (31, 1)],
+        68719480832,
+        HeaderFault::SizeMismatch {
+            pages: 16777217,
+            length: 68719480832,
+        },
+    ),
+    (
+        &[(16, 0), (17, 1)],
+        131071,
+        HeaderFault::SizeMismatch {
+            pages: 2,
+            length: 131071,
+        },
+    ),
+];
 
 #[test]
-fn header_of_a_small_database_is_read(rt: HostRuntime) {
-    assert_eq!(rt; read_header(VECTOR, 8192), Ok(SMALL));
-    header_has_one_reading();
-}
-
-#[test]
-fn each_fault_is_answered_with_its_value(rt: HostRuntime) {
-    let not_a_database = Err(HeaderFault::NotADatabase);
-    assert_eq!(rt; read_header(&VECTOR[..50], 50), not_a_database);
-    assert_eq!(rt; answer_to(&[(15, 1)]), not_a_database);
-    assert_eq!(rt; answer_to(&[(22, 33)]), not_a_database);
+fn headers_are_read_or_refused(rt: HostRuntime) {
+    for (changes, file_len, header) in READ {
+        assert_eq!(rt; read_header(&changed(changes), file_len), Ok(header));
+    }
+    for (changes, file_len, fault) in REFUSED {
+        assert_eq!(rt; read_header(&changed(changes), file_len), Err(fault));
+    }
     assert_eq!(rt;
-        answer_to(&[(16, 1)]),
-        Err(HeaderFault::PageSize { value: 256 })
+        read_header(&VECTOR[..50], 50),
+        Err(HeaderFault::NotADatabase)
     );
-    assert_eq!(rt;
-        answer_to(&[(16, 0), (17, 1)]),
-        Err(HeaderFault::PageSize { value: 1 })
-    );
-    assert_eq!(rt; answer_to(&[(19, 2)]), Err(HeaderFault::WalMode));
-    assert_eq!(rt;
-        answer_to(&[(16, 2), (20, 33)]),
-        Err(HeaderFault::ReservedSpace { value: 33 })
-    );
-    assert_eq!(rt;
-        answer_to(&[(47, 5)]),
-        Err(HeaderFault::SchemaFormat { value: 5 })
-    );
-    assert_eq!(rt;
-        answer_to(&[(59, 2)]),
-        Err(HeaderFault::Encoding { value: 2 })
-    );
-    assert_eq!(rt;
-        answer_to(&[(55, 3)]),
-        Err(HeaderFault::AutoVacuum { value: 3 })
-    );
-}
-
-#[test]
-fn size_that_the_file_does_not_have_is_refused(rt: HostRuntime) {
-    let short = HeaderFault::SizeMismatch {
-        pages: 2,
-        length: 8191,
-    };
-    assert_eq!(rt; read_header(VECTOR, 8191), Err(short));
-    let no_whole_page = HeaderFault::SizeMismatch {
-        pages: 0,
-        length: 4095,
-    };
-    assert_eq!(rt; read_header(&changed(&[(95, 6)]), 4095), Err(no_whole_page));
-    let over_limit = HeaderFault::SizeMismatch {
-        pages: 16777217,
-        length: 68719480832,
-    };
-    assert_eq!(rt;
-        read_header(&changed(&[(28, 1), (31, 1)]), 68719480832),
-        Err(over_limit)
-    );
-}
-
-#[test]
-fn first_of_two_faults_is_answered(rt: HostRuntime) {
-    assert_eq!(rt;
-        answer_to(&[(16, 2), (20, 33), (18, 2)]),
-        Err(HeaderFault::WalMode)
-    );
-    assert_eq!(rt;
-        answer_to(&[(47, 5), (59, 2)]),
-        Err(HeaderFault::SchemaFormat { value: 5 })
-    );
-    assert_eq!(rt;
-        answer_to(&[(59, 2), (55, 3)]),
-        Err(HeaderFault::Encoding { value: 2 })
-    );
-}
-
-#[test]
-fn format_and_encoding_of_zero_read_as_one(rt: HostRuntime) {
-    let first_format = Header { format: 1, ..SMALL };
-    assert_eq!(rt; answer_to(&[(47, 0), (59, 0)]), Ok(first_format));
-}
-
-#[test]
-fn length_counts_where_the_size_is_not_valid(rt: HostRuntime) {
-    let three = Header { pages: 3, ..SMALL };
-    assert_eq!(rt; read_header(&changed(&[(95, 6)]), 12388), Ok(three));
-    let none_noted = changed(&[(31, 0)]);
-    assert_eq!(rt; read_header(&none_noted, 12388), Ok(three));
 }
 
 #[test]
@@ -142,6 +138,10 @@ fn header_is_written_at_its_places_alone(rt: HostRuntime) {
         page1,
         *b"\xa5\xa5\xa5\xa5\xa5\xa5\xa5\xa5\xa5\xa5\xa5\xa5\xa5\xa5\xa5\xa5\x02\0\xa5\xa5\x0c\xa5\xa5\xa5\x01\x02\x03\x04\0\0\0\x05\0\0\0\x06\0\0\0\x07\x08\x09\x0a\x0b\0\0\0\x04\xa5\xa5\xa5\xa5\xa5\xa5\xa5\xa5\xa5\xa5\xa5\xa5\xa5\xa5\xa5\xa5\xa5\xa5\xa5\xa5\xa5\xa5\xa5\xa5\xa5\xa5\xa5\xa5\xa5\xa5\xa5\xa5\xa5\xa5\xa5\xa5\xa5\xa5\xa5\xa5\xa5\xa5\xa5\xa5\x01\x02\x03\x04\xa5\xa5\xa5\xa5\xa5\xa5\xa5\xa5"
     );
-    read_header_can_be_written();
-    written_header_is_read();
+    let greatest = Header {
+        page_size: 65536,
+        ..header
+    };
+    write_header(&greatest, &mut page1);
+    assert_eq!(rt; [page1[16], page1[17]], [0, 1]);
 }

@@ -3,16 +3,6 @@ use std::alloc::{AllocError, Global};
 use std::process::Abort;
 use std::test::Fail;
 
-#[test]
-fn bytes_keep_what_they_were_made_of(rt: HostRuntime) -> Result<(), Fail> {
-    let alloc = rt.alloc();
-    let bytes = Bytes::of(alloc, b"one")?;
-    assert_eq!(rt; bytes.as_slice(), b"one".as_slice());
-    let again = Bytes::from_vec(bytes.into_vec());
-    assert_eq!(rt; again.as_slice(), b"one".as_slice());
-    Ok(())
-}
-
 // The texts of the order below with their places under a collation; texts at one place are equal.
 type Places = [(u8, &'static str); 24];
 
@@ -140,15 +130,16 @@ fn compares_by(
 
 #[test]
 fn values_compare_as_in_sqlite(rt: HostRuntime) -> Result<(), Fail> {
-    values_are_ordered();
     let alloc = rt.alloc();
+    let bytes = Bytes::from_vec(Bytes::of(alloc, b"one")?.into_vec());
+    assert_eq!(rt; bytes.as_slice(), b"one".as_slice());
     compares_by(&rt, alloc, Collation::Binary, &BINARY)?;
     compares_by(&rt, alloc, Collation::NoCase, &NOCASE)?;
     compares_by(&rt, alloc, Collation::RTrim, &RTRIM)
 }
 
 #[test]
-fn declared_types_have_the_affinity_of_sqlite(rt: HostRuntime) -> Result<(), Fail> {
+fn affinities_and_numeric_texts_are_those_of_sqlite(rt: HostRuntime) -> Result<(), Fail> {
     let types = [
         ("", Affinity::Blob),
         ("INT", Affinity::Integer),
@@ -181,11 +172,6 @@ fn declared_types_have_the_affinity_of_sqlite(rt: HostRuntime) -> Result<(), Fai
     for (type_text, affinity) in types {
         assert_eq!(rt; affinity_of(type_text.as_bytes()), affinity);
     }
-    Ok(())
-}
-
-#[test]
-fn numeric_texts_are_those_of_sqlite(rt: HostRuntime) -> Result<(), Fail> {
     let texts = [
         ("", false),
         (" ", false),

@@ -16,73 +16,27 @@ enum Lent {
 }
 
 // Records of one value as SQLite wrote them in schema format 4.
-const RECORDS: [(&[u8], Lent); 55] = [
+const RECORDS: [(&[u8], Lent); 24] = [
     (b"\x02\x06\x80\x00\x00\x00\x00\x00\x00\x00", Int(i64::MIN)),
-    (
-        b"\x02\x06\x80\x00\x00\x00\x00\x00\x00\x01",
-        Int(-9223372036854775807),
-    ),
-    (
-        b"\x02\x06\xff\xff\x7f\xff\xff\xff\xff\xfe",
-        Int(-140737488355330),
-    ),
     (
         b"\x02\x06\xff\xff\x7f\xff\xff\xff\xff\xff",
         Int(-140737488355329),
     ),
     (b"\x02\x05\x80\x00\x00\x00\x00\x00", Int(-140737488355328)),
-    (b"\x02\x05\x80\x00\x00\x00\x00\x01", Int(-140737488355327)),
-    (b"\x02\x05\xff\xff\x7f\xff\xff\xfe", Int(-2147483650)),
     (b"\x02\x05\xff\xff\x7f\xff\xff\xff", Int(-2147483649)),
     (b"\x02\x04\x80\x00\x00\x00", Int(-2147483648)),
-    (b"\x02\x04\x80\x00\x00\x01", Int(-2147483647)),
-    (b"\x02\x04\xff\x7f\xff\xfe", Int(-8388610)),
-    (b"\x02\x04\xff\x7f\xff\xff", Int(-8388609)),
     (b"\x02\x03\x80\x00\x00", Int(-8388608)),
-    (b"\x02\x03\x80\x00\x01", Int(-8388607)),
-    (b"\x02\x03\xff\x7f\xfe", Int(-32770)),
-    (b"\x02\x03\xff\x7f\xff", Int(-32769)),
     (b"\x02\x02\x80\x00", Int(-32768)),
-    (b"\x02\x02\x80\x01", Int(-32767)),
-    (b"\x02\x02\xff\x7e", Int(-130)),
     (b"\x02\x02\xff\x7f", Int(-129)),
     (b"\x02\x01\x80", Int(-128)),
-    (b"\x02\x01\x81", Int(-127)),
-    (b"\x02\x01\xfe", Int(-2)),
     (b"\x02\x01\xff", Int(-1)),
     (b"\x02\x08", Int(0)),
     (b"\x02\x09", Int(1)),
-    (b"\x02\x01\x02", Int(2)),
-    (b"\x02\x01\x7e", Int(126)),
     (b"\x02\x01\x7f", Int(127)),
     (b"\x02\x02\x00\x80", Int(128)),
-    (b"\x02\x02\x00\x81", Int(129)),
-    (b"\x02\x02\x7f\xfe", Int(32766)),
-    (b"\x02\x02\x7f\xff", Int(32767)),
     (b"\x02\x03\x00\x80\x00", Int(32768)),
-    (b"\x02\x03\x00\x80\x01", Int(32769)),
-    (b"\x02\x03\x7f\xff\xfe", Int(8388606)),
-    (b"\x02\x03\x7f\xff\xff", Int(8388607)),
     (b"\x02\x04\x00\x80\x00\x00", Int(8388608)),
-    (b"\x02\x04\x00\x80\x00\x01", Int(8388609)),
-    (b"\x02\x04\x7f\xff\xff\xfe", Int(2147483646)),
-    (b"\x02\x04\x7f\xff\xff\xff", Int(2147483647)),
     (b"\x02\x05\x00\x00\x80\x00\x00\x00", Int(2147483648)),
-    (b"\x02\x05\x00\x00\x80\x00\x00\x01", Int(2147483649)),
-    (b"\x02\x05\x7f\xff\xff\xff\xff\xfe", Int(140737488355326)),
-    (b"\x02\x05\x7f\xff\xff\xff\xff\xff", Int(140737488355327)),
-    (
-        b"\x02\x06\x00\x00\x80\x00\x00\x00\x00\x00",
-        Int(140737488355328),
-    ),
-    (
-        b"\x02\x06\x00\x00\x80\x00\x00\x00\x00\x01",
-        Int(140737488355329),
-    ),
-    (
-        b"\x02\x06\x7f\xff\xff\xff\xff\xff\xff\xfe",
-        Int(9223372036854775806),
-    ),
     (b"\x02\x06\x7f\xff\xff\xff\xff\xff\xff\xff", Int(i64::MAX)),
     (b"\x02\x00", Null),
     (b"\x02\x0d", Text(b"")),
@@ -93,14 +47,8 @@ const RECORDS: [(&[u8], Lent); 55] = [
 ];
 
 // Records of several values as SQLite wrote them in schema format 4.
-const ROWS: [(&[u8], &[Lent]); 5] = [
+const ROWS: [(&[u8], &[Lent]); 2] = [
     (b"\x04\x00\x13\x01one\x0a", &[Null, Text(b"one"), Int(10)]),
-    (b"\x04\x09\x08\x01\x02", &[Int(1), Int(0), Int(2)]),
-    (b"\x05\x00\x00\x00\x00", &[Null, Null, Null, Null]),
-    (
-        b"\x06\x0c\x0d\x08\x09\x01\xff",
-        &[Blob(b""), Text(b""), Int(0), Int(1), Int(-1)],
-    ),
     (
         b"\x04\x06\x06\x13\x7f\xff\xff\xff\xff\xff\xff\xff\x80\x00\x00\x00\x00\x00\x00\x00end",
         &[Int(i64::MAX), Int(i64::MIN), Text(b"end")],
@@ -164,83 +112,8 @@ fn check_both(rt: &impl Abort, alloc: Global, record: &[u8], values: &[Value]) -
     check_read(rt, alloc, record, values)
 }
 
-// A byte, so many times.
-fn repeated(alloc: Global, byte: u8, count: usize) -> Result<Bytes, AllocError> {
-    let mut bytes = Vec::new(alloc);
-    for _ in 0..count {
-        bytes.push(byte)?;
-    }
-    Ok(Bytes::from_vec(bytes))
-}
-
-// The record of a text or a blob has this header.
-fn check_header(rt: &impl Abort, alloc: Global, header: &[u8], value: Value) -> Result<(), Fail> {
-    let mut record = header.to_vec(alloc)?;
-    if let Value::Text(bytes) | Value::Blob(bytes) = &value {
-        record.extend_from_slice(bytes.as_slice())?;
-    }
-    let values = vec![in alloc; value]?;
-    check_both(rt, alloc, &record, &values)
-}
-
-#[test]
-fn records_of_one_value_as_sqlite_wrote_them(rt: HostRuntime) -> Result<(), Fail> {
-    let alloc = rt.alloc();
-    for (record, lent) in RECORDS {
-        let values = vec![in alloc; owned(alloc, lent)?]?;
-        check_both(&rt, alloc, record, &values)?;
-    }
-    Ok(())
-}
-
-#[test]
-fn records_of_several_values_as_sqlite_wrote_them(rt: HostRuntime) -> Result<(), Fail> {
-    let alloc = rt.alloc();
-    for (record, row) in ROWS {
-        let mut values = Vec::new(alloc);
-        for lent in row {
-            values.push(owned(alloc, *lent)?)?;
-        }
-        check_both(&rt, alloc, record, &values)?;
-    }
-    Ok(())
-}
-
-#[test]
-fn long_texts_and_blobs_as_sqlite_wrote_them(rt: HostRuntime) -> Result<(), Fail> {
-    let alloc = rt.alloc();
-    let value = Value::Text(repeated(alloc, b'x', 56)?);
-    check_header(&rt, alloc, b"\x02\x7d", value)?;
-    let value = Value::Text(repeated(alloc, b'x', 57)?);
-    check_header(&rt, alloc, b"\x02\x7f", value)?;
-    let value = Value::Blob(repeated(alloc, b'y', 57)?);
-    check_header(&rt, alloc, b"\x02\x7e", value)?;
-    let value = Value::Blob(repeated(alloc, b'y', 58)?);
-    check_header(&rt, alloc, b"\x03\x81\x00", value)?;
-    let value = Value::Text(repeated(alloc, b'z', 300)?);
-    check_header(&rt, alloc, b"\x03\x84\x65", value)
-}
-
-#[test]
-fn a_header_of_one_byte_of_size_as_sqlite_wrote_it(rt: HostRuntime) -> Result<(), Fail> {
-    let alloc = rt.alloc();
-    let mut record = b"\x79\x08\x09".to_vec(alloc)?;
-    let mut values = Vec::new(alloc);
-    values.push(Value::Int(0))?;
-    values.push(Value::Int(1))?;
-    for _ in 2..120 {
-        record.push(1)?;
-    }
-    for number in 2..120u8 {
-        record.push(number)?;
-        values.push(Value::Int(i64::from(number)))?;
-    }
-    check_both(&rt, alloc, &record, &values)
-}
-
-#[test]
-fn a_header_of_two_bytes_of_size_as_sqlite_wrote_it(rt: HostRuntime) -> Result<(), Fail> {
-    let alloc = rt.alloc();
+// A record whose header has a size of two bytes, as SQLite wrote it.
+fn check_wide_header(rt: &impl Abort, alloc: Global) -> Result<(), Fail> {
     let mut record = b"\x81\x04".to_vec(alloc)?;
     let mut values = Vec::new(alloc);
     for _ in 0..130 {
@@ -250,38 +123,39 @@ fn a_header_of_two_bytes_of_size_as_sqlite_wrote_it(rt: HostRuntime) -> Result<(
     for _ in 0..130 {
         record.push(b'w')?;
     }
-    check_both(&rt, alloc, &record, &values)
+    check_both(rt, alloc, &record, &values)
 }
 
 #[test]
-fn longer_spellings_are_read(rt: HostRuntime) -> Result<(), Fail> {
+fn records_of_sqlite_are_written_and_read(rt: HostRuntime) -> Result<(), Fail> {
+    let alloc = rt.alloc();
+    for (record, lent) in RECORDS {
+        let values = vec![in alloc; owned(alloc, lent)?]?;
+        check_both(&rt, alloc, record, &values)?;
+    }
+    for (record, row) in ROWS {
+        let mut values = Vec::new(alloc);
+        for lent in row {
+            values.push(owned(alloc, *lent)?)?;
+        }
+        check_both(&rt, alloc, record, &values)?;
+    }
+    check_wide_header(&rt, alloc)?;
+    let zero = vec![in alloc; Value::Int(0)]?;
+    let written = write_record(alloc, &zero, 1)?;
+    assert_eq!(rt; written.as_slice(), b"\x02\x01\x00".as_slice());
+    Ok(())
+}
+
+#[test]
+fn longer_spellings_are_read_and_other_bytes_refused(rt: HostRuntime) -> Result<(), Fail> {
     let alloc = rt.alloc();
     for (record, lent) in LONGER {
         let values = vec![in alloc; owned(alloc, lent)?]?;
         check_read(&rt, alloc, record, &values)?;
     }
-    Ok(())
-}
-
-#[test]
-fn bytes_that_are_no_record_have_their_first_fault(rt: HostRuntime) {
-    let alloc = rt.alloc();
     for (bytes, fault) in FAULTS {
         assert!(rt; read_record(alloc, bytes).is_err_and(|other| other == fault));
     }
-}
-
-#[test]
-fn zero_has_a_byte_in_schema_format_1(rt: HostRuntime) -> Result<(), Fail> {
-    let alloc = rt.alloc();
-    let values = vec![in alloc; Value::Int(0)]?;
-    assert_eq!(rt;
-        write_record(alloc, &values, 1)?.as_slice(),
-        b"\x02\x01\x00".as_slice()
-    );
-    assert_eq!(rt;
-        write_record(alloc, &values, 4)?.as_slice(),
-        b"\x02\x08".as_slice()
-    );
     Ok(())
 }

@@ -19,7 +19,7 @@ use Rattle.frame_pool.specs.declared.view.View.{View}
 use Rattle.frame_pool.specs.Bits.{mask, stands}
 use Rattle.frame_pool.specs.Claims.{Has, without}
 use Rattle.frame_pool.specs.Rule.{Slot, Lies, Filled, Known, KeptAt, Kept}
-use Rattle.frame_pool.specs.Steps.{Sat, Tried, Claims, Settles, Reopens, Releases}
+use Rattle.frame_pool.specs.Steps.{Seated, Tried, Claims, Settles, Reopens, Releases}
 use Rattle.frame_pool.specs.Tries.{Stood}
 use Rattle.frame_pool.specs.Views.{view, starts, fresh, with_parts, whole, total, spent}
 
@@ -149,9 +149,9 @@ parts_two (x ∷ xs) (suc i) zero u v ne e f = let a = ap (λ (y : View). y.part
 parts_two (x ∷ xs) (suc i) (suc j) u v ne e f = let h = parts_two xs i j u v (λ g. ne (ap suc g)) e f in omega (arith, h)
 
 -- what a seat knows after the three steps of a release
-pub released : (m a b n : Sat) (k : ℕ) (f : Frame) → a ≡ (view m.0.size m.0.parts m.0.claimed (Some k) m.0.tries, (k, None) ∷ []) → b ≡ (a.0, (k, Some f) ∷ rest a.1)
+pub released : (m a b n : Seated) (k : ℕ) (f : Frame) → a ≡ (view m.0.size m.0.parts m.0.claimed (Some k) m.0.tries, (k, None) ∷ []) → b ≡ (a.0, (k, Some f) ∷ rest a.1)
     → IfSome b.0.out (λ j. n ≡ (view b.0.size b.0.parts (without j b.0.claimed) None b.0.tries, [])) → n ≡ (view m.0.size m.0.parts (without k m.0.claimed) None m.0.tries, [])
-released m a b n k f took put told = subst (λ (x : Sat). IfSome x.0.out (λ j. n ≡ (view x.0.size x.0.parts (without j x.0.claimed) None x.0.tries, []))) (put ∙ ap (λ (x : Sat). (x.0, (k, Some f) ∷ rest x.1)) took) told
+released m a b n k f took put told = subst (λ (x : Seated). IfSome x.0.out (λ j. n ≡ (view x.0.size x.0.parts (without j x.0.claimed) None x.0.tries, []))) (put ∙ ap (λ (x : Seated). (x.0, (k, Some f) ∷ rest x.1)) took) told
 
 module _ (size : ℕ) where
   other_known : (ws ws' : List ℕ) (hs hs' : Homes) (u : View) → length hs' ≡ length hs → Known size ws hs u
@@ -218,7 +218,7 @@ module _ (size : ℕ) where
       let ws : List ℕ = set s.words (k / 64) (bit_or n (mask k)) in
       let here : stands ws k ≡ 1 = stands_here s.words k (bit_or n (mask k)) 1 room (bit_at_set_same w64 n (k % 64) (small k)) in
       let beside : (j : ℕ) → j ≢ k → stands ws j ≡ stands s.words j = stands_else s.words k (bit_or n (mask k)) room (λ i _ ne. bit_at_set_other w64 n (k % 64) (small k) i ne) in
-      let told : (r : ℕ) (m : Sat) → Tried (v, []) r m k → Claims (step slots (k / 64) (mask k) 0 none) (v, []) r m = λ r m t j e f. subst (λ (x : ℕ). Tried (v, []) r m x) (same_place k j e (mask_place k j f)) t in
+      let told : (r : ℕ) (m : Seated) → Tried (v, []) r m k → Claims (step slots (k / 64) (mask k) 0 none) (v, []) r m = λ r m t j e f. subst (λ (x : ℕ). Tried (v, []) r m x) (same_place k j e (mask_place k j f)) t in
       ⊎_elim
       (λ (off : stands s.words k ≡ 0).
       let w : View = view own parts (k ∷ claimed) (Some k) (tries ++ n ∷ []) in
@@ -271,9 +271,9 @@ module _ (size : ℕ) where
       (bit_cases n (k % 64))
 
   -- the same at a seat that is known by its parts
-  pub claims_bit_as : (slots id : ℕ) (m : Sat) (k : ℕ) → 0 < m.0.parts → k < slots → m ≡ (view m.0.size m.0.parts m.0.claimed None m.0.tries, [])
+  pub claims_bit_as : (slots id : ℕ) (m : Seated) (k : ℕ) → 0 < m.0.parts → k < slots → m ≡ (view m.0.size m.0.parts m.0.claimed None m.0.tries, [])
       → Allows (Kept size) slots id m (k / 64) (λ n. bit_or n (mask k)) (Claims (step slots (k / 64) (mask k) 0 none) m)
-  claims_bit_as slots id m k pos inside e = subst (λ (x : Sat). Allows (Kept size) slots id x (k / 64) (λ n. bit_or n (mask k)) (Claims (step slots (k / 64) (mask k) 0 none) x)) (sym e)
+  claims_bit_as slots id m k pos inside e = subst (λ (x : Seated). Allows (Kept size) slots id x (k / 64) (λ n. bit_or n (mask k)) (Claims (step slots (k / 64) (mask k) 0 none) x)) (sym e)
       (claims_bit slots id m.0.size m.0.parts m.0.claimed m.0.tries k pos inside)
 
   -- what a step of one claimed frame needs to know of the other seats
@@ -384,24 +384,24 @@ module _ (size : ℕ) where
       (total_same s.views id v w me refl whole kp.shared) in
       (w, gives, tt, kept, refl)
 
-  pub settles_slot_as : (slots id : ℕ) (m : Sat) (own parts : ℕ) (claimed tries : List ℕ) (k i : ℕ) → Has claimed k → m ≡ (view own parts claimed (Some k) tries, (k, None) ∷ [])
+  pub settles_slot_as : (slots id : ℕ) (m : Seated) (own parts : ℕ) (claimed tries : List ℕ) (k i : ℕ) → Has claimed k → m ≡ (view own parts claimed (Some k) tries, (k, None) ∷ [])
       → Allows (Kept size) slots id m i (λ n. n) (Settles (step slots i 0 0 none) m)
-  settles_slot_as slots id m own parts claimed tries k i has e = subst (λ (x : Sat). Allows (Kept size) slots id x i (λ n. n) (Settles (step slots i 0 0 none) x)) (sym e)
+  settles_slot_as slots id m own parts claimed tries k i has e = subst (λ (x : Seated). Allows (Kept size) slots id x i (λ n. n) (Settles (step slots i 0 0 none) x)) (sym e)
       (settles_slot slots id own parts claimed tries k i has)
 
-  pub reopens_slot_as : (slots id : ℕ) (m : Sat) (k : ℕ) → Has m.0.claimed k → m ≡ (view m.0.size m.0.parts m.0.claimed None m.0.tries, [])
+  pub reopens_slot_as : (slots id : ℕ) (m : Seated) (k : ℕ) → Has m.0.claimed k → m ≡ (view m.0.size m.0.parts m.0.claimed None m.0.tries, [])
       → Allows (Kept size) slots id m 0 (λ n. either (eqb n k) k n) (Reopens (step slots 0 k k none) m)
-  reopens_slot_as slots id m k has e = subst (λ (x : Sat). Allows (Kept size) slots id x 0 (λ n. either (eqb n k) k n) (Reopens (step slots 0 k k none) x)) (sym e)
+  reopens_slot_as slots id m k has e = subst (λ (x : Seated). Allows (Kept size) slots id x 0 (λ n. either (eqb n k) k n) (Reopens (step slots 0 k k none) x)) (sym e)
       (reopens_slot slots id m.0.size m.0.parts m.0.claimed m.0.tries k has)
 
-  pub releases_bit_as : (slots id : ℕ) (m : Sat) (own parts : ℕ) (claimed tries : List ℕ) (k : ℕ) (f : Frame) → Has claimed k → f.number ≡ k → length f.bytes.items ≡ own
+  pub releases_bit_as : (slots id : ℕ) (m : Seated) (own parts : ℕ) (claimed tries : List ℕ) (k : ℕ) (f : Frame) → Has claimed k → f.number ≡ k → length f.bytes.items ≡ own
       → m ≡ (view own parts claimed (Some k) tries, (k, Some f) ∷ [])
       → Allows (Kept size) slots id m (k / 64) (λ n. bit_and n (bit_not w64 (mask k))) (Releases (step slots (k / 64) (bit_not w64 (mask k)) 0 none) m)
   releases_bit_as slots id m own parts claimed tries k f has named sized e =
-      subst (λ (x : Sat). Allows (Kept size) slots id x (k / 64) (λ n. bit_and n (bit_not w64 (mask k))) (Releases (step slots (k / 64) (bit_not w64 (mask k)) 0 none) x)) (sym e)
+      subst (λ (x : Seated). Allows (Kept size) slots id x (k / 64) (λ n. bit_and n (bit_not w64 (mask k))) (Releases (step slots (k / 64) (bit_not w64 (mask k)) 0 none) x)) (sym e)
       (releases_bit slots id own parts claimed tries k f has named sized)
 
-  pub splits_seat : (id : ℕ) (m : Sat) → 1 < m.0.parts → Splits (Kept size) id m.0 (with_parts m.0 (m.0.parts - 1)) (fresh m.0.size 1)
+  pub splits_seat : (id : ℕ) (m : Seated) → 1 < m.0.parts → Splits (Kept size) id m.0 (with_parts m.0 (m.0.parts - 1)) (fresh m.0.size 1)
   splits_seat id m many s kp me =
       let v : View = m.0 in
       let known = kp.each id v me in

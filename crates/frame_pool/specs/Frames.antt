@@ -17,4 +17,4 @@ size_of f = length f.bytes.items
 -- the size of the first of some frames
 abbrev pub first_size : List Frame → ℕ
 first_size [] = 0
-first_size (f ∷ fs) = length f.bytes.items
+first_size (f ∷ fs) = size_of f

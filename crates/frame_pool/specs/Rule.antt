@@ -8,6 +8,7 @@ use Rattle.frame_pool.specs.declared.frame.Frame.{Frame}
 use Rattle.frame_pool.specs.declared.view.View.{View}
 use Rattle.frame_pool.specs.Bits.{stands}
 use Rattle.frame_pool.specs.Claims.{Has}
+use Rattle.frame_pool.specs.Frames.{number_of, size_of}
 use Rattle.frame_pool.specs.Views.{whole, total}
 
 -- what a slot holds
@@ -16,11 +17,11 @@ Slot = Option Frame
 
 -- the frame k is at home
 abbrev pub Lies : ℕ → List (maybe.Option Slot) → ℕ → Type 0
-Lies size homes k = (f : Frame) × (get_elem? homes k ≡ some (some (Some f))) × (f.number ≡ k) × (length f.bytes.items ≡ size)
+Lies size homes k = (f : Frame) × (get_elem? homes k ≡ some (some (Some f))) × (number_of f ≡ k) × (size_of f ≡ size)
 
 -- each slot has the frame of its number
 abbrev pub Filled : ℕ → List Slot → Type 0
-Filled size slots = (k : ℕ) → k < length slots → (f : Frame) × (get_elem? slots k ≡ some (Some f)) × (f.number ≡ k) × (length f.bytes.items ≡ size)
+Filled size slots = (k : ℕ) → k < length slots → (f : Frame) × (get_elem? slots k ≡ some (Some f)) × (number_of f ≡ k) × (size_of f ≡ size)
 
 -- some seat has claimed the frame k
 abbrev pub IsLent : List View → ℕ → Type 0

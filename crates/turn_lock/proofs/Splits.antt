@@ -1,5 +1,5 @@
 -- A new seat, and a seat that takes another in, keep the rule.
-use Rattle.std.proofs.Common.{◌≢◌, ℕ, ◌+◌, ◌≤◌, Bool, true, false, true≢false, List, [], ◌∷◌, length, get_or, set, sym, refl, ap, ◌∙◌, subst, ⊎_elim, arith, Option, Some, None, ltb, ltb-true, ltb-false, ◌≡◌, if◌then◌else◌}
+use Rattle.std.proofs.Common.{◌≢◌, ℕ, ◌+◌, ◌≤◌, Bool, true, false, List, [], ◌∷◌, length, get_or, set, sym, refl, ap, ◌∙◌, subst, ⊎_elim, arith, Option, Some, None, ltb, ltb-true, ltb-false, ◌≡◌, if◌then◌else◌}
 use mathlib.Core.Option.{some, none}
 use mathlib.Core.Option as maybe
 use mathlib.Core.List.{IsPrefix}
@@ -9,29 +9,17 @@ use Rattle.atomic_table.proofs.Lists.{at_longer, at_set, set_else}
 use Rattle.turn_lock.specs.declared.view.Past.{Past}
 use Rattle.turn_lock.specs.declared.view.View.{View}
 use Rattle.turn_lock.specs.declared.story.Story.{Ghosts}
-use Rattle.turn_lock.specs.Lists.{times, longer, shorter, greater}
+use Rattle.turn_lock.specs.Lists.{times, longer, shorter}
 use Rattle.turn_lock.specs.Rule.{Facts, Fits, Kept}
-use Rattle.turn_lock.specs.Steps.{Sat, guest, meeting, cut, newcomer, gathered}
-use Rattle.turn_lock.specs.Views.{Lives, view, rests, spent}
-use Rattle.turn_lock.proofs.Lists.{turn_set, opened_of, one_of_said, prefix_self, at_end, total_set, total_end, times_append}
+use Rattle.turn_lock.specs.Steps.{Seated, guest, meeting, cut, newcomer, gathered}
+use Rattle.turn_lock.specs.Views.{Lives, gave, new_past, view, rests, spent}
+use Rattle.turn_lock.proofs.Steps.{off, rested}
+use Rattle.turn_lock.proofs.Lists.{turn_set, opened_of, one_of_said, at_end, total_set, total_end, times_append}
 
-off : false ≡ true → ⊥
-off e = true≢false (sym e)
-
--- the longer of two beginnings is a beginning
-longer_prefix : {E : Type 0} (xs ys zs : List E) → IsPrefix xs zs → IsPrefix ys zs → IsPrefix (longer xs ys) zs
-longer_prefix xs ys zs p q = pick (ltb (length xs) (length ys))
-  where
-    pick : (b : Bool) → IsPrefix (if b then ys else xs) zs
-    pick true = q
-    pick false = p
-
-shorter_prefix : {E : Type 0} (xs ys zs : List E) → IsPrefix xs zs → IsPrefix ys zs → IsPrefix (shorter xs ys) zs
-shorter_prefix xs ys zs p q = pick (ltb (length xs) (length ys))
-  where
-    pick : (b : Bool) → IsPrefix (if b then xs else ys) zs
-    pick true = p
-    pick false = q
+-- each of two beginnings is a beginning
+either_prefix : {E : Type 0} (b : Bool) (xs ys zs : List E) → IsPrefix xs zs → IsPrefix ys zs → IsPrefix (if b then ys else xs) zs
+either_prefix true xs ys zs p q = q
+either_prefix false xs ys zs p q = p
 
 pub shorter_less : {E : Type 0} (xs ys : List E) → length (shorter xs ys) ≤ length (longer xs ys)
 shorter_less {E} xs ys = pick (ltb (length xs) (length ys)) refl
@@ -40,23 +28,8 @@ shorter_less {E} xs ys = pick (ltb (length xs) (length ys)) refl
     pick true e = let h = ltb-true (length xs) (length ys) e in omega (arith, h)
     pick false e = let h = ltb-false (length xs) (length ys) e in omega (arith, h)
 
--- where the shorter begins the longer, each of the two does
-pub both_begin : {E : Type 0} (xs ys : List E) → IsPrefix (shorter xs ys) (longer xs ys) → IsPrefix xs (longer xs ys) × IsPrefix ys (longer xs ys)
-both_begin {E} xs ys = pick (ltb (length xs) (length ys))
-  where
-    pick : (b : Bool) → IsPrefix (if b then xs else ys) (if b then ys else xs) → IsPrefix xs (if b then ys else xs) × IsPrefix ys (if b then ys else xs)
-    pick true h = (h, prefix_self ys)
-    pick false h = (prefix_self xs, h)
-
-pub joined_shape : {W E : Type 0} (a b m : Sat W E) → a ≡ guest a.0.past → m ≡ (gathered a.0 b.0, a.1) → m ≡ guest (meeting a.0.past b.0.past)
-joined_shape {W} {E} a b m e is = is ∙ ap (λ (x : Sat W E). (view (meeting a.0.past b.0.past) x.0.turn, x.1)) e
-
-greater_most : (m n most : ℕ) → m ≤ most → n ≤ most → greater m n ≤ most
-greater_most m n most p q = pick (ltb m n)
-  where
-    pick : (b : Bool) → (if b then n else m) ≤ most
-    pick true = q
-    pick false = p
+pub joined_shape : {W E : Type 0} (a b m : Seated W E) → a ≡ guest a.0.past → m ≡ (gathered a.0 b.0, a.1) → m ≡ guest (meeting a.0.past b.0.past)
+joined_shape {W} {E} a b m e is = is ∙ ap (λ (x : Seated W E). (view (meeting a.0.past b.0.past) x.0.turn, x.1)) e
 
 module _ {W E : Type 0} (S : Ghosts W E) where
   abbrev V : Type 0
@@ -68,19 +41,27 @@ module _ {W E : Type 0} (S : Ghosts W E) where
   abbrev Fit : W → Facts W E S.Part → ℕ → List (maybe.Option (Option W)) → V → Type 0
   Fit = Fits S
 
+  -- the view that stood at a place before the view of one seat changed
+  stood : (views : List V) (id : ℕ) (v w : V) → get_elem? views id ≡ some v → w.past.opening ≡ v.past.opening → w.past.number ≡ v.past.number → w.turn.has ≡ v.turn.has → (j : ℕ) (u : V) → get_elem? (set views id w) j ≡ some u
+      → (x : V) × (get_elem? views j ≡ some x) × (u.past.opening ≡ x.past.opening) × (u.past.number ≡ x.past.number) × (u.turn.has ≡ x.turn.has)
+  stood views id v w at opening number has j u e = ⊎_elim
+      (λ (t : (j ≡ id) × (w ≡ u)). (v, ap (get_elem? views) t.0 ∙ at, ap (λ (x : V). x.past.opening) (sym t.1) ∙ opening, ap (λ (x : V). x.past.number) (sym t.1) ∙ number, ap (λ (x : V). x.turn.has) (sym t.1) ∙ has))
+      (λ (t : (j ≢ id) × (get_elem? views j ≡ some u)). (u, t.1, refl, refl, refl))
+      (at_set views id j w u e)
+
   pub splits_seat : (o : W) (id : ℕ) (p : Past W E) → Lives p → p.number ≡ 0 → Splits (Rule o) id (view p rests) (cut (view p rests)) (newcomer (view p rests))
   splits_seat o id p lives first s k me =
       let v : V = view p rests in
       let l : V = cut v in
       let r : V = newcomer v in
-      let known = k.each id v me in
+      let known = (k.each id v me).past in
       let live : p.opening ≡ Some o = (let t = opened_of p.opening lives in t.1 ∙ ap Some (known.opens t.0 t.1)) in
       let f = k.f in
       let f' : Facts W E S.Part = record { whole = f.whole; given = f.given + 1; most = f.most; kept = f.kept; turned = f.turned } in
       let given : p.given ≡ f.given = known.counts live first in
       let vs : List V = set s.views id l in
       let turn : ℕ = get_or s.words 0 0 in
-      let left_fits : Fit o f' turn s.homes l = record {
+      let left_fits : Fit o f' turn s.homes l = rested S o f' turn s.homes (gave p) (record {
         opens = known.opens;
         below = λ a. let h = known.below a in omega (arith, h);
         counts = λ _ _. omega (arith, given);
@@ -88,12 +69,10 @@ module _ {W E : Type 0} (S : Ghosts W E) where
         aside = (f.whole, refl);
         meets = known.meets;
         turned = known.turned;
-        has = λ e. absurd (off e);
-        empty = λ e. absurd (off e);
         own = known.own;
         first = known.first;
-      } in
-      let right_fits : Fit o f' turn s.homes r = record {
+      }) in
+      let right_fits : Fit o f' turn s.homes r = rested S o f' turn s.homes (new_past p) (record {
         opens = known.opens;
         below = λ _. omega (arith, given);
         counts = λ _ none. let h = known.below live in absurd (omega (arith, h, given, none));
@@ -101,33 +80,29 @@ module _ {W E : Type 0} (S : Ghosts W E) where
         aside = (f.whole, refl);
         meets = known.meets;
         turned = known.turned;
-        has = λ e. absurd (off e);
-        empty = λ e. absurd (off e);
         own = λ _ i e at is. let h = k.named i e at in absurd (omega (arith, h, given, is));
         first = λ _ none. let h = known.below live in absurd (omega (arith, h, given, none));
+      }) in
+      let others : (j : ℕ) (u : V) → j ≢ id → get_elem? s.views j ≡ some u → Fit o f' turn s.homes u = λ j u other at. let at_home = k.each j u at in let g = at_home.past in record {
+        past = record {
+          opens = g.opens;
+          below = λ a. let h = g.below a in omega (arith, h);
+          counts = λ a none. absurd (other (k.apart j id u v at me a live (none ∙ sym first)));
+          sees = g.sees;
+          aside = g.aside;
+          meets = g.meets;
+          turned = g.turned;
+          own = g.own;
+          first = g.first;
+        };
+        has = at_home.has;
+        empty = at_home.empty;
       } in
-      let others : (j : ℕ) (u : V) → j ≢ id → get_elem? s.views j ≡ some u → Fit o f' turn s.homes u = λ j u other at. let g = k.each j u at in record {
-        opens = g.opens;
-        below = λ a. let h = g.below a in omega (arith, h);
-        counts = λ a none. absurd (other (k.apart j id u v at me a live (none ∙ sym first)));
-        sees = g.sees;
-        aside = g.aside;
-        meets = g.meets;
-        turned = g.turned;
-        has = g.has;
-        empty = g.empty;
-        own = g.own;
-        first = g.first;
-      } in
-      -- what stood where one of the old seats S.stands
-      let was : (j : ℕ) (u : V) → get_elem? vs j ≡ some u → (x : V) × (get_elem? s.views j ≡ some x) × (u.past.opening ≡ x.past.opening) × (u.past.number ≡ x.past.number) × (u.turn.has ≡ x.turn.has) = λ j u e. ⊎_elim
-      (λ (t : (j ≡ id) × (l ≡ u)). (v, ap (λ i. get_elem? s.views i) t.0 ∙ me, ap (λ (x : V). x.past.opening) (sym t.1), ap (λ (x : V). x.past.number) (sym t.1), ap (λ (x : V). x.turn.has) (sym t.1)))
-      (λ (t : (j ≢ id) × (get_elem? s.views j ≡ some u)). (u, t.1, refl, refl, refl))
-      (at_set s.views id j l u e) in
+      let was = stood s.views id v l me refl refl refl in
       let no_turn : (u : V) → r ≡ u → u.turn.has ≡ true → ⊥ = λ u is has. off (ap (λ (x : V). x.turn.has) is ∙ has) in
       let new_number : (j : ℕ) (u x : V) → get_elem? vs j ≡ some u → r ≡ x → u.past.opening ≡ Some o → u.past.number ≡ x.past.number → ⊥ = λ j u x e is a same.
       let y = was j u e in
-      let h = (k.each j y.0 y.1).below (sym y.2 ∙ a) in
+      let h = (k.each j y.0 y.1).past.below (sym y.2 ∙ a) in
       let m = ap (λ (z : V). z.past.number) is in
       let q = y.3 in
       omega (arith, h, given, same, m, q) in
@@ -168,27 +143,25 @@ module _ {W E : Type 0} (S : Ghosts W E) where
       let v : V = view p rests in
       let w : V = view q rests in
       let b : V = gathered v w in
-      let known = k.each id v me in
+      let known = (k.each id v me).past in
       let was_there : get_elem? s.views other ≡ some w = sym (set_else s.views id other b apart) ∙ there in
-      let theirs = k.each other w was_there in
+      let theirs = (k.each other w was_there).past in
       let live : p.opening ≡ Some o = (let t = opened_of p.opening lives in t.1 ∙ ap Some (known.opens t.0 t.1)) in
       let vs : List V = set s.views id b in
       let turn : ℕ = get_or s.words 0 0 in
-      let both_fits : Fit o k.f turn s.homes b = record {
+      let both_fits : Fit o k.f turn s.homes b = rested S o k.f turn s.homes (meeting p q) (record {
         opens = known.opens;
         below = known.below;
         counts = known.counts;
-        sees = longer_prefix p.seen q.seen k.f.whole known.sees theirs.sees;
-        aside = shorter_prefix p.seen q.seen k.f.whole known.sees theirs.sees;
-        meets = greater_most p.most q.most k.f.most known.meets theirs.meets;
+        sees = either_prefix (ltb (length p.seen) (length q.seen)) p.seen q.seen k.f.whole known.sees theirs.sees;
+        aside = either_prefix (ltb (length p.seen) (length q.seen)) q.seen p.seen k.f.whole theirs.sees known.sees;
+        meets = let a = known.meets in let b = theirs.meets in omega (arith, a, b);
         turned = one_of_said p.turned q.turned k.f.turned known.turned theirs.turned;
-        has = λ e. absurd (off e);
-        empty = λ e. absurd (off e);
         own = λ a i e at is. let h = known.own a i e at is in let t = times_append i p.places q.places in omega (arith, h, t);
         first = known.first;
-      } in
+      }) in
       let none_opened : None ≡ Some o → ⊥ = λ e. absurd cc in
-      let spent_fits : Fit o k.f turn s.homes spent = record {
+      let spent_fits : Fit o k.f turn s.homes spent = rested S o k.f turn s.homes spent.past (record {
         opens = λ x e. absurd cc;
         below = λ e. absurd (none_opened e);
         counts = λ e. absurd (none_opened e);
@@ -196,16 +169,10 @@ module _ {W E : Type 0} (S : Ghosts W E) where
         aside = (k.f.whole, refl);
         meets = omega arith;
         turned = λ x e. absurd cc;
-        has = λ e. absurd (off e);
-        empty = λ e. absurd (off e);
         own = λ e. absurd (none_opened e);
         first = λ e. absurd (none_opened e);
-      } in
-      -- what stood where a seat S.stands that has the turn or a number
-      let first : (j : ℕ) (u : V) → get_elem? vs j ≡ some u → (x : V) × (get_elem? s.views j ≡ some x) × (u.past.opening ≡ x.past.opening) × (u.past.number ≡ x.past.number) × (u.turn.has ≡ x.turn.has) = λ j u e. ⊎_elim
-      (λ (t : (j ≡ id) × (b ≡ u)). (v, ap (λ i. get_elem? s.views i) t.0 ∙ me, ap (λ (x : V). x.past.opening) (sym t.1), ap (λ (x : V). x.past.number) (sym t.1), ap (λ (x : V). x.turn.has) (sym t.1)))
-      (λ (t : (j ≢ id) × (get_elem? s.views j ≡ some u)). (u, t.1, refl, refl, refl))
-      (at_set s.views id j b u e) in
+      }) in
+      let first = stood s.views id v b me refl refl refl in
       record {
         f = k.f;
         two = k.two;
@@ -243,8 +210,8 @@ module _ {W E : Type 0} (S : Ghosts W E) where
         named = k.named;
       }
 
-  pub splits_seat_as : (o : W) (id : ℕ) (m : Sat W E) → m ≡ guest m.0.past → Lives m.0.past → m.0.past.number ≡ 0 → Splits (Rule o) id m.0 (cut m.0) (newcomer m.0)
-  splits_seat_as o id m e lives first = subst (λ (x : V). Splits (Rule o) id x (cut x) (newcomer x)) (sym (ap (λ (y : Sat W E). y.0) e)) (splits_seat o id m.0.past lives first)
+  pub splits_seat_as : (o : W) (id : ℕ) (m : Seated W E) → m ≡ guest m.0.past → Lives m.0.past → m.0.past.number ≡ 0 → Splits (Rule o) id m.0 (cut m.0) (newcomer m.0)
+  splits_seat_as o id m e lives first = subst (λ (x : V). Splits (Rule o) id x (cut x) (newcomer x)) (sym (ap (λ (y : Seated W E). y.0) e)) (splits_seat o id m.0.past lives first)
 
-  pub joins_seats_as : (o : W) (id other : ℕ) (m n : Sat W E) → m ≡ guest m.0.past → n ≡ guest n.0.past → Lives m.0.past → Joins (Rule o) id m.0 other n.0 (gathered m.0 n.0) spent
-  joins_seats_as o id other m n e f lives = subst (λ (x : V × V). Joins (Rule o) id x.0 other x.1 (gathered x.0 x.1) spent) (λ i. (sym (ap (λ (y : Sat W E). y.0) e) i, sym (ap (λ (y : Sat W E). y.0) f) i)) (joins_seats o id other m.0.past n.0.past lives)
+  pub joins_seats_as : (o : W) (id other : ℕ) (m n : Seated W E) → m ≡ guest m.0.past → n ≡ guest n.0.past → Lives m.0.past → Joins (Rule o) id m.0 other n.0 (gathered m.0 n.0) spent
+  joins_seats_as o id other m n e f lives = subst (λ (x : V × V). Joins (Rule o) id x.0 other x.1 (gathered x.0 x.1) spent) (λ i. (sym (ap (λ (y : Seated W E). y.0) e) i, sym (ap (λ (y : Seated W E). y.0) f) i)) (joins_seats o id other m.0.past n.0.past lives)

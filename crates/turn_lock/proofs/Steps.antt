@@ -15,12 +15,12 @@ use Rattle.turn_lock.specs.declared.view.View.{View}
 use Rattle.turn_lock.specs.declared.story.Story.{Ghosts}
 use Rattle.turn_lock.specs.Lists.{times, once_below}
 use Rattle.turn_lock.specs.Meeting.{Meets}
-use Rattle.turn_lock.specs.Rule.{Facts, Fits, IsHeld, Kept, Lies}
-use Rattle.turn_lock.specs.Steps.{Sat, holder, guest, Compares, joined, Opens, Shuts, Takes, Notes, Leaves}
+use Rattle.turn_lock.specs.Rule.{Facts, Fits, IsHeld, Kept, Knows, Lies}
+use Rattle.turn_lock.specs.Steps.{Seated, holder, guest, Compares, joined, Opens, Shuts, Takes, Notes, Leaves}
 use Rattle.turn_lock.specs.Views.{Lives, view, turn, rests, holds, starts, told, turned_after, missed, noted, left}
 use Rattle.turn_lock.proofs.Lists.{turn_set, at_some, one_of_first, one_of_again, opened_of, prefix_self, prefix_shorter, prefix_more, at_end, at_below, total_set, total_most, times_append, times_end, one_if}
 
-off : false ≡ true → ⊥
+pub off : false ≡ true → ⊥
 off e = true≢false (sym e)
 
 hit : (n : ℕ) → n ≡ 0 → either (eqb n 0) 1 n ≡ 1
@@ -112,20 +112,27 @@ module _ {W E : Type 0} (S : Ghosts W E) where
   held_alone : (o : W) (s : St) (k : Rule o s) (id : ℕ) (v : V) → get_elem? s.views id ≡ some v → v.turn.has ≡ true → Only s id
   held_alone o s k id v me has j u other at hu = other (k.alone j id u v at me hu has)
 
+  -- a seat that does not have the turn
+  pub rested : (o : W) (f : Facts W E S.Part) (word : ℕ) (hs : Homes W) (p : Past W E) → Knows S o f p → Fit o f word hs (view p rests)
+  rested o f word hs p known = record { past = known; has = λ e. absurd (off e); empty = λ e. absurd (off e) }
+
   -- another view, which has no turn
-  still : (o : W) (f : Facts W E S.Part) (turn turn' : ℕ) (hs hs' : Homes W) (u : V) → Fit o f turn hs u → (u.turn.has ≡ true → ⊥) → Fit o f turn' hs' u
-  still o f turn turn' hs hs' u k nobody = record {
-    opens = k.opens;
-    below = k.below;
-    counts = k.counts;
-    sees = k.sees;
-    aside = k.aside;
-    meets = k.meets;
-    turned = k.turned;
-    has = λ has. absurd (nobody has);
-    empty = λ fresh. absurd (nobody (k.empty fresh).0);
-    own = k.own;
-    first = k.first;
+  still : (o : W) (f : Facts W E S.Part) (word word' : ℕ) (hs hs' : Homes W) (u : V) → Fit o f word hs u → (u.turn.has ≡ true → ⊥) → Fit o f word' hs' u
+  still o f word word' hs hs' u k nobody = record { past = k.past; has = λ has. absurd (nobody has); empty = λ fresh. absurd (nobody (k.empty fresh).0) }
+
+  -- the rule does not look at lost tries
+  as_told : (o : W) (f : Facts W E S.Part) (p : Past W E) (lost : ℕ) (turned : Option W) (beside : List E) → ((x : W) → turned ≡ Some x → f.turned ≡ Some x) → IsPrefix beside f.whole → Knows S o f p
+      → Knows S o f (record { opening = p.opening; number = p.number; given = p.given; seen = p.seen; most = p.most; lost = lost; places = p.places; left = p.left; put = p.put; turned = turned; beside = beside })
+  as_told o f p lost turned beside agrees begins known = record {
+    opens = known.opens;
+    below = known.below;
+    counts = known.counts;
+    sees = known.sees;
+    aside = begins;
+    meets = known.meets;
+    turned = agrees;
+    own = known.own;
+    first = known.first;
   }
 
   pub begins : (o : W) → Rule o (opening (1 ∷ 0 ∷ []) (replicate 1 None) (starts o))
@@ -148,17 +155,19 @@ module _ {W E : Type 0} (S : Ghosts W E) where
 
       first : (j : ℕ) (v : V) → get_elem? (starts o ∷ []) j ≡ some v → Fit o start 1 (some None ∷ []) v
       first zero v e = subst (Fit o start 1 (some None ∷ [])) (some-injective _ _ e) (record {
-        opens = λ x is. sym (cc is);
-        below = λ _. omega arith;
-        counts = λ _ _. refl;
-        sees = prefix_self [];
-        aside = prefix_self [];
-        meets = omega arith;
-        turned = λ x is. is;
+        past = record {
+          opens = λ x is. sym (cc is);
+          below = λ _. omega arith;
+          counts = λ _ _. refl;
+          sees = prefix_self [];
+          aside = prefix_self [];
+          meets = omega arith;
+          turned = λ x is. is;
+          own = λ _ n e at. absurd (some-ne-none e (sym at));
+          first = λ _ _. (o, refl, refl);
+        };
         has = λ _. (refl, refl, refl, (o, refl, refl, refl));
         empty = λ _. (refl, refl);
-        own = λ _ n e at. absurd (some-ne-none e (sym at));
-        first = λ _ _. (o, refl, refl);
       })
       first (suc j) v e = absurd (some-ne-none v (sym e))
 
@@ -171,7 +180,7 @@ module _ {W E : Type 0} (S : Ghosts W E) where
   takes_turn o id p lives s k wide me small =
       let v : V = view p rests in
       let f = k.f in
-      let known = k.each id v me in
+      let known = (k.each id v me).past in
       let live : p.opening ≡ Some o = (let t = opened_of p.opening lives in t.1 ∙ ap Some (known.opens t.0 t.1)) in
       let n : ℕ = get_or s.words 0 0 in
       dite (ℕ_discrete n 0)
@@ -184,17 +193,9 @@ module _ {W E : Type 0} (S : Ghosts W E) where
       (λ zero-now. absurd (let one = get_or-set_same s.words 0 1 0 (omega (arith, k.two)) in omega (arith, one, zero-now)))
       (λ _. (id, w, set_here s.views id w (at_below s.views v id me), refl))
       (record {
-        opens = known.opens;
-        below = known.below;
-        counts = known.counts;
-        sees = known.sees;
-        aside = known.aside;
-        meets = known.meets;
-        turned = λ x is. is;
+        past = as_told o f p p.lost f.turned p.beside (λ x is. is) known.aside known;
         has = λ _. (get_or-set_same s.words 0 1 0 (omega (arith, k.two)), t.1.history, refl, (t.0, refl, t.1.count, t.1.part));
         empty = λ e. absurd (off e);
-        own = known.own;
-        first = known.first;
       })
       (λ j u other at. still o f n (get_or (set s.words 0 1) 0 0) s.homes (set s.homes 0 none) u (k.each j u at) (none_has j u at))
       (λ _ j u other at. none_has j u at)
@@ -220,19 +221,7 @@ module _ {W E : Type 0} (S : Ghosts W E) where
       let w : V = view (missed p) rests in
       let kept = renewed o s k id v w s.words s.homes f me refl refl k.two k.one k.size k.free
       (λ ne. turn_set s.views id v w me (λ e. absurd (off e)) (k.held ne))
-      (record {
-        opens = known.opens;
-        below = known.below;
-        counts = known.counts;
-        sees = known.sees;
-        aside = known.aside;
-        meets = known.meets;
-        turned = known.turned;
-        has = λ e. absurd (off e);
-        empty = λ e. absurd (off e);
-        own = known.own;
-        first = known.first;
-      })
+      (rested o f n s.homes (missed p) (as_told o f p (p.lost + 1) p.turned p.beside known.turned known.aside known))
       (λ j u other at. k.each j u at)
       (λ e. absurd (off e))
       (λ _. refl)
@@ -255,17 +244,9 @@ module _ {W E : Type 0} (S : Ghosts W E) where
       (λ zero-now. absurd (omega (arith, one, zero-now)))
       (λ _. (id, w, set_here s.views id w (at_below s.views v id me), refl))
       (record {
-        opens = known.opens;
-        below = known.below;
-        counts = known.counts;
-        sees = known.sees;
-        aside = known.aside;
-        meets = known.meets;
-        turned = known.turned;
+        past = known.past;
         has = known.has;
         empty = λ e. absurd (off e);
-        own = known.own;
-        first = known.first;
       })
       (λ j u other at. still o k.f (get_or s.words 0 0) (get_or s.words 0 0) s.homes (set s.homes 0 none) u (k.each j u at) (only j u other at))
       (λ _. only)
@@ -278,9 +259,10 @@ module _ {W E : Type 0} (S : Ghosts W E) where
   notes_entry o id p w₀ whole taken e lives more by room s k wide me small =
       let v : V = view p (holds whole taken) in
       let f = k.f in
-      let known = k.each id v me in
+      let at_turn = k.each id v me in
+      let known = at_turn.past in
       let live : p.opening ≡ Some o = (let t = opened_of p.opening lives in t.1 ∙ ap Some (known.opens t.0 t.1)) in
-      let mine = known.has refl in
+      let mine = at_turn.has refl in
       let is : whole ≡ f.whole = mine.1 in
       let one = mine.0 in
       let only = held_alone o s k id v me refl in
@@ -298,36 +280,40 @@ module _ {W E : Type 0} (S : Ghosts W E) where
       (λ zero-now. absurd (omega (arith, one, turn, zero-now)))
       (λ _. (id, w, set_here s.views id w (at_below s.views v id me), refl))
       (record {
-        opens = known.opens;
-        below = known.below;
-        counts = known.counts;
-        sees = longer p.seen known.sees;
-        aside = (S.history w₀, refl);
-        meets = known.meets;
-        turned = known.turned;
+        past = record {
+          opens = known.opens;
+          below = known.below;
+          counts = known.counts;
+          sees = longer p.seen known.sees;
+          aside = (S.history w₀, refl);
+          meets = known.meets;
+          turned = known.turned;
+          own = λ l i x at num. ⊎_elim
+              (λ old. let h = known.own l i x old num in let t = times_append i p.places (length whole ∷ []) in omega (arith, h, t))
+              (λ (t : (i ≡ length f.whole) × (e ≡ x)). subst (λ j. 0 < times j (p.places ++ length whole ∷ [])) (sym (t.0 ∙ sym (ap length is))) (times_end p.places (length whole)))
+              (split i x at);
+          first = known.first;
+        };
         has = λ _. (turn ∙ one, refl, mine.2, mine.3);
         empty = λ e. absurd (off e);
-        own = λ l i x at num. ⊎_elim
-            (λ old. let h = known.own l i x old num in let t = times_append i p.places (length whole ∷ []) in omega (arith, h, t))
-            (λ (t : (i ≡ length f.whole) × (e ≡ x)). subst (λ j. 0 < times j (p.places ++ length whole ∷ [])) (sym (t.0 ∙ sym (ap length is))) (times_end p.places (length whole)))
-            (split i x at);
-        first = known.first;
       })
-      (λ j u other at. let g = k.each j u at in let nobody = only j u other at in record {
-        opens = g.opens;
-        below = g.below;
-        counts = g.counts;
-        sees = longer u.past.seen g.sees;
-        aside = longer u.past.beside g.aside;
-        meets = g.meets;
-        turned = g.turned;
+      (λ j u other at. let at_home = k.each j u at in let g = at_home.past in let nobody = only j u other at in record {
+        past = record {
+          opens = g.opens;
+          below = g.below;
+          counts = g.counts;
+          sees = longer u.past.seen g.sees;
+          aside = longer u.past.beside g.aside;
+          meets = g.meets;
+          turned = g.turned;
+          own = λ l i x there num. ⊎_elim
+              (λ old. g.own l i x old num)
+              (λ (t : (i ≡ length f.whole) × (e ≡ x)). absurd (other (k.apart j id u v at me l live (sym num ∙ (ap S.actor (sym t.1) ∙ by)))))
+              (split i x there);
+          first = g.first;
+        };
         has = λ has. absurd (nobody has);
-        empty = λ fresh. absurd (nobody (g.empty fresh).0);
-        own = λ l i x there num. ⊎_elim
-            (λ old. g.own l i x old num)
-            (λ (t : (i ≡ length f.whole) × (e ≡ x)). absurd (other (k.apart j id u v at me l live (sym num ∙ (ap S.actor (sym t.1) ∙ by)))))
-            (split i x there);
-        first = g.first;
+        empty = λ fresh. absurd (nobody (at_home.empty fresh).0);
       })
       (λ _. only)
       (λ i. let t = times_append i p.places (length whole ∷ []) in let a = ap (once_below i) size in let b = ap (λ (l : List E). one_if (eqb (length l) i)) is in omega (arith, t, a, b))
@@ -339,8 +325,9 @@ module _ {W E : Type 0} (S : Ghosts W E) where
   leaves_turn o id p w₀ whole taken lives same stays follows s k wide me small =
       let v : V = view p (holds whole taken) in
       let f = k.f in
-      let known = k.each id v me in
-      let mine = known.has refl in
+      let at_turn = k.each id v me in
+      let known = at_turn.past in
+      let mine = at_turn.has refl in
       let is : whole ≡ f.whole = mine.1 in
       let first_turned : p.turned ≡ f.turned = mine.2 in
       let x = mine.3 in
@@ -368,30 +355,34 @@ module _ {W E : Type 0} (S : Ghosts W E) where
       ))
       (λ ne. absurd (ne (get_or-set_same s.words 0 0 0 (omega (arith, k.two)))))
       (record {
-        opens = known.opens;
-        below = known.below;
-        counts = known.counts;
-        sees = subst (IsPrefix whole) is (prefix_self whole);
-        aside = (f.whole, refl);
-        meets = omega arith;
-        turned = λ y e. sym now ∙ e;
+        past = record {
+          opens = known.opens;
+          below = known.below;
+          counts = known.counts;
+          sees = subst (IsPrefix whole) is (prefix_self whole);
+          aside = (f.whole, refl);
+          meets = omega arith;
+          turned = λ y e. sym now ∙ e;
+          own = known.own;
+          first = λ _ _. (w₀, refl, refl);
+        };
         has = λ e. absurd (off e);
         empty = λ e. absurd (off e);
-        own = known.own;
-        first = λ _ _. (w₀, refl, refl);
       })
-      (λ j u other at. let g = k.each j u at in let nobody = only j u other at in record {
-        opens = g.opens;
-        below = g.below;
-        counts = g.counts;
-        sees = g.sees;
-        aside = g.aside;
-        meets = let a = g.meets in omega (arith, a, rises);
-        turned = λ y e. later y (g.turned y e);
+      (λ j u other at. let at_home = k.each j u at in let g = at_home.past in let nobody = only j u other at in record {
+        past = record {
+          opens = g.opens;
+          below = g.below;
+          counts = g.counts;
+          sees = g.sees;
+          aside = g.aside;
+          meets = let a = g.meets in omega (arith, a, rises);
+          turned = λ y e. later y (g.turned y e);
+          own = g.own;
+          first = λ l zero-number. let a = g.first l zero-number in (a.0, a.1, a.2 ∙ (sym x.3 ∙ sym (may.1 (λ mine-zero. other (k.apart j id u v at me l live (zero-number ∙ sym mine-zero))))));
+        };
         has = λ has. absurd (nobody has);
-        empty = λ fresh. absurd (nobody (g.empty fresh).0);
-        own = g.own;
-        first = λ l zero-number. let a = g.first l zero-number in (a.0, a.1, a.2 ∙ (sym x.3 ∙ sym (may.1 (λ mine-zero. other (k.apart j id u v at me l live (zero-number ∙ sym mine-zero))))));
+        empty = λ fresh. absurd (nobody (at_home.empty fresh).0);
       })
       (λ e. absurd (off e))
       (λ _. refl)
@@ -410,17 +401,9 @@ module _ {W E : Type 0} (S : Ghosts W E) where
       (λ zero-now. absurd (omega (arith, one, zero-now)))
       (λ _. (id, w, set_here s.views id w (at_below s.views v id me), refl))
       (record {
-        opens = known.opens;
-        below = known.below;
-        counts = known.counts;
-        sees = known.sees;
-        aside = known.aside;
-        meets = known.meets;
-        turned = known.turned;
+        past = known.past;
         has = known.has;
         empty = λ _. (refl, set_here s.homes 0 (some None) (omega (arith, k.one)));
-        own = known.own;
-        first = known.first;
       })
       (λ j u other at. still o k.f (get_or s.words 0 0) (get_or s.words 0 0) s.homes hs u (k.each j u at) (only j u other at))
       (λ _. only)
@@ -431,53 +414,41 @@ module _ {W E : Type 0} (S : Ghosts W E) where
   pub compares_seen : (o : W) (id : ℕ) (p : Past W E) → length p.beside ≤ length p.seen → Allows (Rule o) 1 id (guest p) 0 (λ n. n) (Compares (step 1 0 0 0 none) (guest p))
   compares_seen o id p less s k wide me small =
       let v : V = view p rests in
-      let known = k.each id v me in
+      let known = (k.each id v me).past in
       let w : V = view (joined p) rests in
       let kept = renewed o s k id v w s.words s.homes k.f me refl refl k.two k.one k.size k.free
       (λ ne. turn_set s.views id v w me (λ e. absurd (off e)) (k.held ne))
-      (record {
-        opens = known.opens;
-        below = known.below;
-        counts = known.counts;
-        sees = known.sees;
-        aside = (k.f.whole, refl);
-        meets = known.meets;
-        turned = known.turned;
-        has = λ e. absurd (off e);
-        empty = λ e. absurd (off e);
-        own = known.own;
-        first = known.first;
-      })
+      (rested o k.f (get_or s.words 0 0) s.homes (joined p) (as_told o k.f p p.lost p.turned [] known.turned (k.f.whole, refl) known))
       (λ j u other at. k.each j u at)
       (λ e. absurd (off e))
       (λ _. refl)
       k.named in
       (w, keeps, tt, subst (λ ws. Rule o record { words = ws; homes = s.homes; views = set s.views id w }) (sym (set-get_or s.words 0 0)) kept, (refl, prefix_shorter p.beside p.seen k.f.whole known.aside known.sees less))
 
-  pub compares_seen_as : (o : W) (slots id : ℕ) (m : Sat W E) (p : Past W E) → slots ≡ 1 → m ≡ guest p → length p.beside ≤ length p.seen → Allows (Rule o) slots id m 0 (λ n. n) (Compares (step slots 0 0 0 none) m)
+  pub compares_seen_as : (o : W) (slots id : ℕ) (m : Seated W E) (p : Past W E) → slots ≡ 1 → m ≡ guest p → length p.beside ≤ length p.seen → Allows (Rule o) slots id m 0 (λ n. n) (Compares (step slots 0 0 0 none) m)
   compares_seen_as o slots id m p wide e less = subst (λ (x : ℕ). Allows (Rule o) x id m 0 (λ n. n) (Compares (step x 0 0 0 none) m)) (sym wide)
-      (subst (λ (x : Sat W E). Allows (Rule o) 1 id x 0 (λ n. n) (Compares (step 1 0 0 0 none) x)) (sym e) (compares_seen o id p less))
+      (subst (λ (x : Seated W E). Allows (Rule o) 1 id x 0 (λ n. n) (Compares (step 1 0 0 0 none) x)) (sym e) (compares_seen o id p less))
 
   -- the same at a seat that is known by its parts
-  pub takes_turn_as : (o : W) (slots id : ℕ) (m : Sat W E) → slots ≡ 1 → m ≡ guest m.0.past → Lives m.0.past
+  pub takes_turn_as : (o : W) (slots id : ℕ) (m : Seated W E) → slots ≡ 1 → m ≡ guest m.0.past → Lives m.0.past
       → Allows (Rule o) slots id m 0 (λ n. either (eqb n 0) 1 n) (Takes S (step slots 0 0 1 none) m)
   takes_turn_as o slots id m wide e lives = subst (λ (x : ℕ). Allows (Rule o) x id m 0 (λ n. either (eqb n 0) 1 n) (Takes S (step x 0 0 1 none) m)) (sym wide)
-      (subst (λ (x : Sat W E). Allows (Rule o) 1 id x 0 (λ n. either (eqb n 0) 1 n) (Takes S (step 1 0 0 1 none) x)) (sym e) (takes_turn o id m.0.past lives))
+      (subst (λ (x : Seated W E). Allows (Rule o) 1 id x 0 (λ n. either (eqb n 0) 1 n) (Takes S (step 1 0 0 1 none) x)) (sym e) (takes_turn o id m.0.past lives))
 
-  pub opens_slot_as : (o : W) (slots id : ℕ) (m : Sat W E) (opened : W) → slots ≡ 1 → m ≡ (starts opened, []) → Allows (Rule o) slots id m 0 (λ n. n) (Opens (step slots 0 0 0 none) m)
+  pub opens_slot_as : (o : W) (slots id : ℕ) (m : Seated W E) (opened : W) → slots ≡ 1 → m ≡ (starts opened, []) → Allows (Rule o) slots id m 0 (λ n. n) (Opens (step slots 0 0 0 none) m)
   opens_slot_as o slots id m opened wide e = subst (λ (x : ℕ). Allows (Rule o) x id m 0 (λ n. n) (Opens (step x 0 0 0 none) m)) (sym wide)
-      (subst (λ (x : Sat W E). Allows (Rule o) 1 id x 0 (λ n. n) (Opens (step 1 0 0 0 none) x)) (sym e) (opens_slot o id opened))
+      (subst (λ (x : Seated W E). Allows (Rule o) 1 id x 0 (λ n. n) (Opens (step 1 0 0 0 none) x)) (sym e) (opens_slot o id opened))
 
-  pub shuts_slot_as : (o : W) (slots id : ℕ) (m : Sat W E) → slots ≡ 1 → m ≡ holder m.0.past m.0.turn.whole m.0.turn.taken None → Allows (Rule o) slots id m 0 (λ n. n) (Shuts (step slots 0 0 0 none) m)
+  pub shuts_slot_as : (o : W) (slots id : ℕ) (m : Seated W E) → slots ≡ 1 → m ≡ holder m.0.past m.0.turn.whole m.0.turn.taken None → Allows (Rule o) slots id m 0 (λ n. n) (Shuts (step slots 0 0 0 none) m)
   shuts_slot_as o slots id m wide e = subst (λ (x : ℕ). Allows (Rule o) x id m 0 (λ n. n) (Shuts (step x 0 0 0 none) m)) (sym wide)
-      (subst (λ (x : Sat W E). Allows (Rule o) 1 id x 0 (λ n. n) (Shuts (step 1 0 0 0 none) x)) (sym e) (shuts_slot o id m.0.past m.0.turn.whole m.0.turn.taken))
+      (subst (λ (x : Seated W E). Allows (Rule o) 1 id x 0 (λ n. n) (Shuts (step 1 0 0 0 none) x)) (sym e) (shuts_slot o id m.0.past m.0.turn.whole m.0.turn.taken))
 
-  pub notes_entry_as : (o : W) (slots id : ℕ) (m : Sat W E) (w₀ : W) (e : E) → slots ≡ 1 → m ≡ holder m.0.past m.0.turn.whole m.0.turn.taken (Some w₀) → S.history w₀ ≡ m.0.turn.whole ++ e ∷ [] → S.actor e ≡ m.0.past.number → Lives m.0.past
+  pub notes_entry_as : (o : W) (slots id : ℕ) (m : Seated W E) (w₀ : W) (e : E) → slots ≡ 1 → m ≡ holder m.0.past m.0.turn.whole m.0.turn.taken (Some w₀) → S.history w₀ ≡ m.0.turn.whole ++ e ∷ [] → S.actor e ≡ m.0.past.number → Lives m.0.past
       → length m.0.turn.whole < 2 ^ 64 - 1 → Allows (Rule o) slots id m 1 (λ n. (n + 1) % 2 ^ 64) (Notes S (step slots 1 1 0 none) m)
   notes_entry_as o slots id m w₀ e wide is more by lives room = subst (λ (x : ℕ). Allows (Rule o) x id m 1 (λ n. (n + 1) % 2 ^ 64) (Notes S (step x 1 1 0 none) m)) (sym wide)
-      (subst (λ (x : Sat W E). Allows (Rule o) 1 id x 1 (λ n. (n + 1) % 2 ^ 64) (Notes S (step 1 1 1 0 none) x)) (sym is) (notes_entry o id m.0.past w₀ m.0.turn.whole m.0.turn.taken e lives more by room))
+      (subst (λ (x : Seated W E). Allows (Rule o) 1 id x 1 (λ n. (n + 1) % 2 ^ 64) (Notes S (step 1 1 1 0 none) x)) (sym is) (notes_entry o id m.0.past w₀ m.0.turn.whole m.0.turn.taken e lives more by room))
 
-  pub leaves_turn_as : (o : W) (slots id : ℕ) (m : Sat W E) (w₀ : W) → slots ≡ 1 → m ≡ holder m.0.past m.0.turn.whole m.0.turn.taken (Some w₀) → Lives m.0.past → S.history w₀ ≡ m.0.turn.whole → Stays m.0.past w₀ → Follows m.0 w₀
+  pub leaves_turn_as : (o : W) (slots id : ℕ) (m : Seated W E) (w₀ : W) → slots ≡ 1 → m ≡ holder m.0.past m.0.turn.whole m.0.turn.taken (Some w₀) → Lives m.0.past → S.history w₀ ≡ m.0.turn.whole → Stays m.0.past w₀ → Follows m.0 w₀
       → Allows (Rule o) slots id m 0 (λ _. 0) (λ _. Leaves S (step slots 0 0 0 none) m 0)
   leaves_turn_as o slots id m w₀ wide is lives same stays follows = subst (λ (x : ℕ). Allows (Rule o) x id m 0 (λ _. 0) (λ _. Leaves S (step x 0 0 0 none) m 0)) (sym wide)
-      (subst (λ (x : Sat W E). Allows (Rule o) 1 id x 0 (λ _. 0) (λ _. Leaves S (step 1 0 0 0 none) x 0)) (sym is) (leaves_turn o id m.0.past w₀ m.0.turn.whole m.0.turn.taken lives same stays follows))
+      (subst (λ (x : Seated W E). Allows (Rule o) 1 id x 0 (λ _. 0) (λ _. Leaves S (step 1 0 0 0 none) x 0)) (sym is) (leaves_turn o id m.0.past w₀ m.0.turn.whole m.0.turn.taken lives same stays follows))

@@ -23,7 +23,3 @@ longer xs ys = if ltb (length xs) (length ys) then ys else xs
 -- the other one
 abbrev pub shorter : {E : Type 0} → List E → List E → List E
 shorter xs ys = if ltb (length xs) (length ys) then xs else ys
-
--- the greater of two numbers
-abbrev pub greater : ℕ → ℕ → ℕ
-greater m n = if ltb m n then n else m

@@ -1,10 +1,10 @@
 -- What a seat knows, and what becomes of it.
-use Rattle.std.specs.Prelude.{◌≢◌, ℕ, ◌+◌, if◌then◌else◌, Bool, true, false, List, [], ◌∷◌, ◌++◌, Option, Some, None}
+use Rattle.std.specs.Prelude.{◌≢◌, ℕ, ◌+◌, if◌then◌else◌, Bool, true, false, List, [], ◌∷◌, ◌++◌, max, Option, Some, None}
 use Rattle.turn_lock.specs.declared.story.Story.{Ghosts}
 use Rattle.turn_lock.specs.declared.view.Past.{Past}
 use Rattle.turn_lock.specs.declared.view.Turn.{Turn}
 use Rattle.turn_lock.specs.declared.view.View.{View}
-use Rattle.turn_lock.specs.Lists.{longer, greater}
+use Rattle.turn_lock.specs.Lists.{longer}
 
 -- the first of two that is there
 abbrev pub one_of : {W : Type 0} → Option W → Option W → Option W
@@ -87,4 +87,4 @@ module _ {W E : Type 0} where
 
   -- what a seat knows that has taken another in: all that either has seen, and the places of both
   abbrev pub both_pasts : Past W E → Past W E → Past W E
-  both_pasts p q = past p.opening p.number p.given (longer p.seen q.seen) (greater p.most q.most) p.lost (p.places ++ q.places) p.left p.put (one_of p.turned q.turned)
+  both_pasts p q = past p.opening p.number p.given (longer p.seen q.seen) (max p.most q.most) p.lost (p.places ++ q.places) p.left p.put (one_of p.turned q.turned)

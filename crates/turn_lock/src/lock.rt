@@ -13,8 +13,8 @@ use atomic_table::Table;
 use std::alloc::{AllocError, Global};
 use std::sync::Wait;
 
-/// A value that one seat has at a time. Where it dwells is a table of two words and a slot: the first word is 1 while
-/// a seat has the turn, and the second counts the history.
+/// A value that one seat has at a time. It lies in the one slot of a table of two words: the first is 1 while a seat
+/// has the turn, and the second counts the history.
 #[derive(Drop)]
 pub struct TurnLock<W: Story> {
     table: Table<Option<W>, View<W, W::Entry>, W, Turns<W>, Global>,

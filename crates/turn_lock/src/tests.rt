@@ -1,5 +1,5 @@
 // One seat at a time, and two threads that write into one history.
-ghost use Rattle.std.specs.Prelude.{◌≡◌, false};
+ghost use Rattle.std.specs.Prelude.{◌≡◌, ◌≤◌, ℕ, nat_le, IfSome};
 ghost use Rattle.turn_lock.specs.Seats.{IsSeatOf, Rests, number_of};
 
 use super::*;
@@ -14,8 +14,10 @@ struct Line {
     nth: u32,
 }
 
+// It turns at its thousandth hold. The title is the first seat's.
 #[derive(Drop)]
 struct Diary {
+    title: u32,
     lines: Vec<Line>,
     holds: u64,
 }
@@ -29,13 +31,25 @@ impl Story for Diary {
 
     ghost actor = { λ line. line.by };
 
-    ghost Part = { Unit {0} };
+    ghost Part = { ℕ };
 
-    ghost part = { λ d. tt };
+    ghost part = { λ d. d.title };
 
-    ghost has_turned = { λ d. false };
+    ghost has_turned = { λ d. nat_le 1000 d.holds };
 
-    ghost stands = { λ opening turned d. Unit {0} };
+    ghost stands = { λ opening turned d. (opening.holds ≤ d.holds) × IfSome turned (λ first. first.holds ≤ d.holds) };
+}
+
+// Puts back what it takes, whatever that is.
+fn look<R: Wait, W: Story>(rt: &R, lock: &TurnLock<W>, seat: &mut Seat<W>)
+    requires own { IsSeatOf seat.old lock.now }
+    requires rests { Rests seat.old }
+    ensures own { IsSeatOf seat.new lock.now }
+    ensures rests { Rests seat.new }
+    ensures number { number_of seat.new ≡ number_of seat.old }
+{
+    let value = lock.hold(rt, seat);
+    lock.leave(seat, value, None);
 }
 
 fn write_line<R: Wait>(rt: &R, lock: &TurnLock<Diary>, seat: &mut Seat<Diary>, by: u64, nth: u32)
@@ -77,18 +91,20 @@ fn write_lines<R: Wait>(
 #[test]
 fn second_seat_waits_until_the_first_leaves(rt: HostRuntime) -> Result<(), Fail> {
     let diary = Diary {
+        title: 7,
         lines: Vec::new(rt.alloc()),
-        holds: 7,
+        holds: 0,
     };
     let (lock, mut first) = TurnLock::new(rt.alloc(), diary).ok().expect(&rt, "memory");
     let mut second = lock.split(&mut first);
     let diary = lock.try_hold(&mut first).expect(&rt, "the turn is free");
     assert!(rt; lock.try_hold(&mut second).is_none());
     lock.leave(&mut first, diary, None);
+    look(&rt, &lock, &mut second);
     let diary = lock
         .try_hold(&mut second)
         .expect(&rt, "the turn is free again");
-    assert_eq!(rt; diary.holds, 7);
+    assert_eq!(rt; diary.title, 7);
     lock.close(second);
     Ok(())
 }
@@ -96,11 +112,15 @@ fn second_seat_waits_until_the_first_leaves(rt: HostRuntime) -> Result<(), Fail>
 #[test]
 fn two_threads_write_a_thousand_lines_each(rt: HostRuntime) -> Result<(), Fail> {
     let diary = Diary {
+        title: 0,
         lines: Vec::new(rt.alloc()),
         holds: 0,
     };
     let (lock, mut first) = TurnLock::new(rt.alloc(), diary).ok().expect(&rt, "memory");
     let lock = &lock;
+    let mut diary = lock.hold(&rt, &mut first);
+    diary.title = 5;
+    lock.leave(&mut first, diary, None);
     let one = lock.split(&mut first);
     let two = lock.split(&mut first);
     let (one, two) = join(
@@ -117,7 +137,10 @@ fn two_threads_write_a_thousand_lines_each(rt: HostRuntime) -> Result<(), Fail> 
     lock.join(&mut first, one);
     lock.join(&mut first, two);
     let diary = lock.hold(&rt, &mut first);
-    assert_eq!(rt; (diary.holds, diary.lines.len()), (2000, 2000));
+    assert_eq!(rt;
+        (diary.title, diary.holds, diary.lines.len()),
+        (5, 2000, 2000)
+    );
     for by in [1, 2] {
         let mut next = 0u32;
         for line in diary.lines.as_slice() {

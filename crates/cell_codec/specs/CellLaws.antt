@@ -133,27 +133,6 @@ pub cell_parts : (usable : ℕ) (bytes : List ℕ) (cell : CellView) → IsTable
 cell_parts usable bytes cell v =
     omega (arith, v.size, ap length v.whole, length-append v.payload_bytes (v.rowid_bytes ++ (v.local_bytes ++ v.overflow_bytes)), length-append v.rowid_bytes (v.local_bytes ++ v.overflow_bytes), length-append v.local_bytes v.overflow_bytes, v.local_at, v.local_length, v.overflow_length)
 
--- where the local payload lies
-pub local_bytes_at : (usable : ℕ) (bytes : List ℕ) (cell : CellView) (v : IsTableLeafCell usable bytes cell) → v.local_bytes ≡ take cell.local (drop cell.local_at bytes)
-local_bytes_at usable bytes cell v =
-    let head = v.payload_bytes ++ v.rowid_bytes in
-    let size : length head ≡ cell.local_at = length-append v.payload_bytes v.rowid_bytes ∙ sym v.local_at in
-    let whole : bytes ≡ head ++ (v.local_bytes ++ v.overflow_bytes) = v.whole ∙ sym (append_assoc v.payload_bytes v.rowid_bytes (v.local_bytes ++ v.overflow_bytes)) in
-    sym (ap (λ s. take cell.local (drop cell.local_at s)) whole ∙ ap (take cell.local) (drop_at head (v.local_bytes ++ v.overflow_bytes) cell.local_at size) ∙ take_at v.local_bytes v.overflow_bytes cell.local v.local_length)
-
--- the lengths of the parts of an index page's cell
-pub index_cell_parts : (kind : PageKind) (usable : ℕ) (bytes : List ℕ) (cell : CellView) → IsIndexCell kind usable bytes cell → cell.size ≡ cell.local_at + cell.local + overflow_size cell.local cell.payload
-index_cell_parts kind usable bytes cell v =
-    omega (arith, v.size, ap length v.whole, length-append v.child_bytes (v.payload_bytes ++ (v.local_bytes ++ v.overflow_bytes)), length-append v.payload_bytes (v.local_bytes ++ v.overflow_bytes), length-append v.local_bytes v.overflow_bytes, v.local_at, v.local_length, v.overflow_length)
-
--- where the local payload lies on an index page
-pub index_local_bytes_at : (kind : PageKind) (usable : ℕ) (bytes : List ℕ) (cell : CellView) (v : IsIndexCell kind usable bytes cell) → v.local_bytes ≡ take cell.local (drop cell.local_at bytes)
-index_local_bytes_at kind usable bytes cell v =
-    let head = v.child_bytes ++ v.payload_bytes in
-    let size : length head ≡ cell.local_at = length-append v.child_bytes v.payload_bytes ∙ sym v.local_at in
-    let whole : bytes ≡ head ++ (v.local_bytes ++ v.overflow_bytes) = v.whole ∙ sym (append_assoc v.child_bytes v.payload_bytes (v.local_bytes ++ v.overflow_bytes)) in
-    sym (ap (λ s. take cell.local (drop cell.local_at s)) whole ∙ ap (take cell.local) (drop_at head (v.local_bytes ++ v.overflow_bytes) cell.local_at size) ∙ take_at v.local_bytes v.overflow_bytes cell.local v.local_length)
-
 -- how long the shortest spelling is
 pub cell_bytes_size : (cell : CellView) (local : List ℕ) → length (cell_bytes TableLeaf cell local) ≡ length (varint cell.payload) + length (varint (cast_unsigned w64 cell.rowid)) + length local + overflow_size cell.local cell.payload
 unfolding cell_bytes

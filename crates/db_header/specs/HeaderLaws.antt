@@ -5,11 +5,11 @@ use Rattle.byte_fields.specs.NumbersLaws.{number_at-lt}
 use Rattle.byte_fields.specs.Numbers.{number_at}
 use Rattle.format_spec.specs.Sizes.{IsPageSize, size_field, size_from_field}
 use Rattle.format_spec.specs.Header.{page_bytes, reserved, change_counter, pages, version_valid_for, largest_root, text_encoding, schema_format}
-use Rattle.byte_fields.specs.Fields.{Field, AllUpTo, AllFit, number_of}
+use Rattle.byte_fields.specs.Fields.{AllUpTo, AllFit, number_of}
 use Rattle.byte_fields.specs.FieldsLaws.{number_at-with_fields, length-with_fields, take-with_fields, drop-with_fields}
 use Rattle.common_spec.specs.Reading.{OrFault}
 use Rattle.common_spec.specs.ReadingLaws.{IsOne, OrFault-one, IsFirst-one}
-use Rattle.db_header.specs.Writing.{header_written, IsHeader}
+use Rattle.db_header.specs.Writing.{header_fields, header_written, IsHeader}
 use Rattle.std.proofs.lemmas.Bool.{cases_lt}
 use Rattle.db_header.specs.declared.fields.Header.{Header}
 use Rattle.db_header.specs.declared.fields.HeaderFault.{HeaderFault}
@@ -78,20 +78,6 @@ first-size_mismatch bytes file_len ok wrong = record {
   holds = (refl, refl, wrong);
   first = λ other early has. supported-no_fault bytes file_len other ok early has;
 }
-
--- the fields of a header, the first to be written last
-abbrev pub header_fields : Header → List Field
-header_fields header =
-    record { at = 92; size = 4; value = header.change_counter }
-    ∷ record { at = 44; size = 4; value = header.format }
-    ∷ record { at = 40; size = 4; value = header.schema_cookie }
-    ∷ record { at = 36; size = 4; value = header.freelist_pages }
-    ∷ record { at = 32; size = 4; value = header.freelist_trunk }
-    ∷ record { at = 28; size = 4; value = header.pages }
-    ∷ record { at = 24; size = 4; value = header.change_counter }
-    ∷ record { at = 20; size = 1; value = header.reserved }
-    ∷ record { at = 16; size = 2; value = size_field header.page_size }
-    ∷ []
 
 -- the fields lie in the first 100 bytes
 header_fields_inside : (header : Header) (long : ℕ) → 100 ≤ long → AllUpTo long (header_fields header)

@@ -1,21 +1,26 @@
 -- What a header leaves of the bytes of page 1 (Database File Format, section 1.3).
-use Rattle.std.specs.Prelude.{ℕ, ◌-◌, ◌^◌, ◌<◌, ◌≤◌, List}
-use Rattle.byte_fields.specs.Numbers.{with_number_at}
+use Rattle.std.specs.Prelude.{ℕ, ◌-◌, ◌^◌, ◌<◌, ◌≤◌, List, [], ◌∷◌}
+use Rattle.byte_fields.specs.Fields.{Field, with_fields}
 use Rattle.db_header.specs.declared.fields.Header.{Header}
 use Rattle.format_spec.specs.Sizes.{IsPageSize, IsUsable, size_field}
 
--- The bytes with the header's fields at their places. The change counter also stands at offset 92, so that the size is valid.
+-- The numbers that a header writes at their places. The change counter also stands at offset 92, so that the size is valid.
+abbrev pub header_fields : Header → List Field
+header_fields header =
+    record { at = 92; size = 4; value = header.change_counter }
+    ∷ record { at = 44; size = 4; value = header.format }
+    ∷ record { at = 40; size = 4; value = header.schema_cookie }
+    ∷ record { at = 36; size = 4; value = header.freelist_pages }
+    ∷ record { at = 32; size = 4; value = header.freelist_trunk }
+    ∷ record { at = 28; size = 4; value = header.pages }
+    ∷ record { at = 24; size = 4; value = header.change_counter }
+    ∷ record { at = 20; size = 1; value = header.reserved }
+    ∷ record { at = 16; size = 2; value = size_field header.page_size }
+    ∷ []
+
+-- the bytes with the header's fields at their places
 unfoldable pub header_written : Header → List ℕ → List ℕ
-header_written header bytes =
-    with_number_at 92 4 header.change_counter
-    (with_number_at 44 4 header.format
-    (with_number_at 40 4 header.schema_cookie
-    (with_number_at 36 4 header.freelist_pages
-    (with_number_at 32 4 header.freelist_trunk
-    (with_number_at 28 4 header.pages
-    (with_number_at 24 4 header.change_counter
-    (with_number_at 20 1 header.reserved
-    (with_number_at 16 2 (size_field header.page_size) bytes))))))))
+header_written header bytes = with_fields (header_fields header) bytes
 
 -- the header is one that a file can have
 pub record IsHeader (header : Header) : Type 0 where

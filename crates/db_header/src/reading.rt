@@ -17,8 +17,8 @@ const LEAST_USABLE: u64 = 480;
 // The most pages that a file may have.
 const PAGE_LIMIT: u64 = 1 << 24;
 
-// Whether the bytes begin with the magic text.
-fn has_magic(bytes: &[u8]) -> bool
+/// Whether the bytes begin as each database does: with `SQLite format 3` and a zero byte (Database File Format, section 1.3.1).
+pub fn has_magic(bytes: &[u8]) -> bool
     ensures { IsTrue result ↔ HasMagic bytes.now }
 {
     bytes.starts_with(MAGIC)

@@ -14,19 +14,8 @@ use Rattle.format_spec.specs.Record.{int_type, int_size, int_body, serial_type, 
 use Rattle.cell_codec.specs.VarintLaws.{same_varint, spelling_one_to_nine, varint_size, varint_spells, varint_one_to_nine}
 use Rattle.byte_fields.specs.BytesLaws.{append-same}
 use Rattle.record_codec.specs.Faults.{body_size}
-use Rattle.record_codec.specs.Integers.{IsFormOf, shortest_form, int_body_is, int_body_none}
-
--- an integer fits 64 bits, and so does the serial type of bytes
-abbrev pub IsStored : Value → Type 0
-IsStored Null = Unit {0}
-IsStored (Int z) = FitsSigned w64 z
-IsStored (Text bytes) = 2 * length bytes + 13 < 2 ^ 64
-IsStored (Blob bytes) = 2 * length bytes + 12 < 2 ^ 64
-
--- values that have a record: what they are made of fits, and so does the size of the header
-pub record HaveRecord (format : ℕ) (values : List Value) : Type 0 where
-  pub stored : AllByRecursion IsStored values
-  pub header : length (record_header format values) < 2 ^ 64
+pub use Rattle.record_codec.specs.Records.{IsStored, HaveRecord}
+use Rattle.record_codec.specs.IntegersLaws.{shortest_field, int_body_none}
 
 -- how many bytes a field has
 pub field_size : (type : ℕ) (bytes : List ℕ) (value : Value) → IsField type bytes value → length bytes ≡ body_size type
@@ -133,17 +122,6 @@ same_record a b bytes others x y r s e =
       r.whole ∙ ap (λ t. t ++ (r.types ++ r.bodies)) parts.0 ∙ ap (λ t. s.size ++ (t ++ r.bodies)) parts.1 ∙ ap (λ t. s.size ++ (s.types ++ t)) fields.1 ∙ sym s.whole,
     )
 
--- an integer in its shortest form is a field
-shortest_field : (z : ℤ) (type : ℕ) → IsFormOf z type → IsField type (int_body type z) (Int z)
-shortest_field z type f =
-    let own : int_body type z ≡ big_bytes (int_size type) (low_bytes w64 (int_size type) z) = int_body_is type z (omega (arith, f.most)) in
-    inl (
-      f.least,
-      f.most,
-      ap length own ∙ length-bytes_high_first (int_size type) (low_bytes w64 (int_size type) z),
-      f.back ∙ ap (λ s. twos_complement (int_size type) (big_number (int_size type) s)) (sym own),
-    )
-
 -- 0 and 1 in serial types of their own
 small_field : (n : ℕ) → n < 2 → IsField (8 + n) (int_body (8 + n) (pos n)) (Int (pos n))
 small_field n h = inr (omega arith, omega arith, int_body_none (8 + n) (pos n) (omega arith), ap pos (omega arith))
@@ -154,8 +132,8 @@ canonical_field format Null s = (refl, refl)
 canonical_field format (Int (pos n)) s =
     cond_both (eqb format 4 && ltb n 2) (8 + n) (int_type (pos n)) (λ t. IsField t (int_body t (pos n)) (Int (pos n)))
     (λ h. small_field n (ltb-true n 2 (and_parts (eqb format 4) (ltb n 2) h).1))
-    (λ _. shortest_field (pos n) (int_type (pos n)) (shortest_form (pos n) s))
-canonical_field format (Int (negsuc n)) s = shortest_field (negsuc n) (int_type (negsuc n)) (shortest_form (negsuc n) s)
+    (λ _. shortest_field (pos n) s)
+canonical_field format (Int (negsuc n)) s = shortest_field (negsuc n) s
 canonical_field format (Text bytes) s = (refl, refl)
 canonical_field format (Blob bytes) s = (refl, refl)
 

@@ -2,7 +2,7 @@
 ghost use Rattle.std.specs.Prelude.{◌≡◌, ℕ, ◌++◌, List};
 ghost use Rattle.rbu_value.specs.declared.value.Value.{Value};
 ghost use Rattle.format_spec.specs.Record.{IsRecord, canonical_record};
-ghost use Rattle.record_codec.specs.RecordLaws.{HaveRecord};
+ghost use Rattle.record_codec.specs.Records.{HaveRecord};
 
 /// The canonical record of values is a record of them, where integers, lengths and the size of the header fit 64 bits.
 #[tactic(auto, using(crate::specs::RecordLaws::canonical_record_read))]

@@ -2,7 +2,7 @@
 //!
 //! The layer above reads by `read_record`, which takes longer spellings of varints and integers too, and writes by `write_record`, which writes the canonical record. What a record is, and which one is canonical, is said by `Record` in the `specs/` of `format_spec`.
 //!
-//! This crate's `specs/` have `Faults`, for bytes that are no record, and the laws of records, `RecordLaws`, which proofs above cite. The functions without parameters promise the main ones: `canonical_record_is_read`, `canonical_records_are_apart` and `record_has_one_reading`.
+//! This crate's `specs/` have `Faults`, for bytes that are no record, `Records`, for values that have a canonical one, and the laws of records, `RecordLaws`, which proofs above cite. The functions without parameters promise the main ones: `canonical_record_is_read`, `canonical_records_are_apart` and `record_has_one_reading`.
 #![tactic(auto)]
 
 mod laws;

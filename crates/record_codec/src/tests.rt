@@ -46,15 +46,6 @@ const RECORDS: [(&[u8], Lent); 24] = [
     (b"\x02\x10\x00\xff", Blob(b"\x00\xff")),
 ];
 
-// Records of several values as SQLite wrote them in schema format 4.
-const ROWS: [(&[u8], &[Lent]); 2] = [
-    (b"\x04\x00\x13\x01one\x0a", &[Null, Text(b"one"), Int(10)]),
-    (
-        b"\x04\x06\x06\x13\x7f\xff\xff\xff\xff\xff\xff\xff\x80\x00\x00\x00\x00\x00\x00\x00end",
-        &[Int(i64::MAX), Int(i64::MIN), Text(b"end")],
-    ),
-];
-
 // Bytes that are no record, some for more than one reason.
 const FAULTS: [(&[u8], RecordFault); 14] = [
     (b"", RecordFault::ShortHeader),
@@ -133,13 +124,8 @@ fn records_of_sqlite_are_written_and_read(rt: HostRuntime) -> Result<(), Fail> {
         let values = vec![in alloc; owned(alloc, lent)?]?;
         check_both(&rt, alloc, record, &values)?;
     }
-    for (record, row) in ROWS {
-        let mut values = Vec::new(alloc);
-        for lent in row {
-            values.push(owned(alloc, *lent)?)?;
-        }
-        check_both(&rt, alloc, record, &values)?;
-    }
+    let row = vec![in alloc; Value::Null, owned(alloc, Text(b"one"))?, Value::Int(10)]?;
+    check_both(&rt, alloc, b"\x04\x00\x13\x01one\x0a", &row)?;
     check_wide_header(&rt, alloc)?;
     let zero = vec![in alloc; Value::Int(0)]?;
     let written = write_record(alloc, &zero, 1)?;

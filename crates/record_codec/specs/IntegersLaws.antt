@@ -1,13 +1,14 @@
 -- The bytes of an integer in a record give it back.
-use Rattle.std.proofs.Common.{◌≡◌, ℕ, suc, ◌-◌, ◌*◌, ◌%◌, ◌^◌, ◌<◌, ◌≤◌, ℤ, pos, negsuc, ◌-ℤ◌, cond, ltb, [], refl, sym, ◌∙◌, ap, arith, FitsSigned}
+use Rattle.std.proofs.Common.{◌≡◌, ℕ, suc, ◌-◌, ◌*◌, ◌%◌, ◌^◌, ◌<◌, ◌≤◌, ℤ, pos, negsuc, ◌-ℤ◌, cond, ltb, [], length, inl, refl, sym, ◌∙◌, ap, arith, FitsSigned}
 use Rattle.std.proofs.lemmas.Bool.{ltb-true, cond-true, cond-false, cond_both, lt-ltb, le-ltb}
 use Rattle.std.proofs.lemmas.Int.{ints}
 use Rattle.std.proofs.lemmas.List.{append-nil}
 use Rattle.std.proofs.Math.Nat.{mod-eq_of_lt, mod-lt}
 use Rattle.std.specs.Int.{w64, cast_unsigned}
 use Rattle.byteorder.specs.Endian.{big_bytes, big_number, twos_complement, low_bytes}
-use Rattle.byteorder.specs.Numbers.{big_number-reads_back}
-use Rattle.format_spec.specs.Record.{magnitude, int_type, int_size, int_body}
+use Rattle.byteorder.specs.Numbers.{length-bytes_high_first, big_number-reads_back}
+use Rattle.rbu_value.specs.declared.value.Value.TheVariants.{Int}
+use Rattle.format_spec.specs.Record.{magnitude, int_type, int_size, int_body, IsField}
 
 -- two's complement, with half the range and the whole of it
 signed : ℕ → ℕ → ℕ → ℤ
@@ -43,12 +44,12 @@ back_from n half whole z e₁ e₂ e₃ e₄ p w h =
     ∙ signed_low half whole z e₄ p w h
 
 -- what the serial type of an integer's shortest form says of its bytes
-pub record IsFormOf (z : ℤ) (type : ℕ) : Type 0 where
-  pub least : 1 ≤ type
-  pub most : type ≤ 6
-  pub back : z ≡ twos_complement (int_size type) (big_number (int_size type) (big_bytes (int_size type) (low_bytes w64 (int_size type) z)))
+record IsFormOf (z : ℤ) (type : ℕ) : Type 0 where
+  least : 1 ≤ type
+  most : type ≤ 6
+  back : z ≡ twos_complement (int_size type) (big_number (int_size type) (big_bytes (int_size type) (low_bytes w64 (int_size type) z)))
 
-pub shortest_form : (z : ℤ) → FitsSigned w64 z → IsFormOf z (int_type z)
+shortest_form : (z : ℤ) → FitsSigned w64 z → IsFormOf z (int_type z)
 shortest_form z f =
     let m = magnitude z in
     cond_both (ltb m (2 ^ 7)) 1 _ (IsFormOf z) (λ h. record { least = omega arith; most = omega arith; back = sym (back_from 1 (2 ^ 7) (2 ^ 8) z refl refl refl refl (omega arith) (λ k l. omega arith) (ltb-true m (2 ^ 7) h)) }) (λ _.
@@ -59,9 +60,22 @@ shortest_form z f =
     record { least = omega arith; most = omega arith; back = sym (back_from 8 (2 ^ 63) (2 ^ 64) z refl refl refl refl (omega arith) (λ k l. omega arith) f.sfits) })))))
 
 -- an integer's bytes in that form
-pub int_body_is : (type : ℕ) (z : ℤ) → type < 7 → int_body type z ≡ big_bytes (int_size type) (low_bytes w64 (int_size type) z)
+int_body_is : (type : ℕ) (z : ℤ) → type < 7 → int_body type z ≡ big_bytes (int_size type) (low_bytes w64 (int_size type) z)
 int_body_is type z h = cond-true (ltb type 7) _ _ (lt-ltb type 7 h)
 
 -- types 8 and 9 have none
 pub int_body_none : (type : ℕ) (z : ℤ) → 7 ≤ type → int_body type z ≡ []
 int_body_none type z h = cond-false (ltb type 7) _ _ (le-ltb type 7 h)
+
+-- an integer in its shortest form is a field
+pub shortest_field : (z : ℤ) → FitsSigned w64 z → IsField (int_type z) (int_body (int_type z) z) (Int z)
+shortest_field z fits =
+    let type = int_type z in
+    let f = shortest_form z fits in
+    let own : int_body type z ≡ big_bytes (int_size type) (low_bytes w64 (int_size type) z) = int_body_is type z (omega (arith, f.most)) in
+    inl (
+      f.least,
+      f.most,
+      ap length own ∙ length-bytes_high_first (int_size type) (low_bytes w64 (int_size type) z),
+      f.back ∙ ap (λ s. twos_complement (int_size type) (big_number (int_size type) s)) (sym own),
+    )

@@ -1,78 +1,74 @@
 // Two small databases: a target with the rows (1, 'one') and (2, 'two'), and one prepared row (3, 'drei').
-use std::alloc::{AllocError, Global};
+use disk_memory::MemoryDisk;
+use rbu_disk::{Disk, DiskFault, FileName};
+use std::alloc::Global;
 
-const PAGE_SIZE: usize = 4096;
+// The bytes of a file that differ from zero, each part with its place.
+type Parts = &'static [(u64, &'static [u8])];
 
-/// The cell of the target's schema row.
-const TARGET_SCHEMA: &[u8] =
-    b"\x39\x01\x06\x17\x11\x11\x01\x5ftablet1t1\x02CREATE TABLE t1(a INTEGER PRIMARY KEY, b)";
+// The header and the schema of a target, and of an RBU database.
+const TARGET: Parts = &[
+    (
+        0,
+        b"SQLite format 3\0\x10\x00\x01\x01\x00\x40\x20\x20\x00\x00\x00\x07\x00\x00\x00\x02",
+    ),
+    (43, b"\x01\x00\x00\x00\x04"),
+    (59, b"\x01"),
+    (95, b"\x07\x00\x2d\xe2\x18"),
+    (100, b"\x0d\x00\x00\x00\x01\x0f\xc5\x00\x0f\xc5"),
+    (
+        4037,
+        b"\x39\x01\x06\x17\x11\x11\x01\x5ftablet1t1\x02CREATE TABLE t1(a INTEGER PRIMARY KEY, b)",
+    ),
+];
 
-/// The cell of the RBU database's schema row.
-const RBU_SCHEMA: &[u8] =
-    b"\x41\x01\x06\x17\x1b\x1b\x01\x5btabledata_t1data_t1\x02CREATE TABLE data_t1(a, b, rbu_control)";
+const RBU: Parts = &[
+    (
+        0,
+        b"SQLite format 3\0\x10\x00\x01\x01\x00\x40\x20\x20\x00\x00\x00\x01\x00\x00\x00\x02",
+    ),
+    (43, b"\x01\x00\x00\x00\x04"),
+    (59, b"\x01"),
+    (95, b"\x01\x00\x2d\xe2\x18"),
+    (100, b"\x0d\x00\x00\x00\x01\x0f\xbd\x00\x0f\xbd"),
+    (
+        4029,
+        b"\x41\x01\x06\x17\x1b\x1b\x01\x5btabledata_t1data_t1\x02CREATE TABLE data_t1(a, b, rbu_control)",
+    ),
+];
 
-/// Appends the 100 bytes of a database header with this change counter.
-fn append_header(file: &mut Vec<u8>, change_counter: u8) -> Result<(), AllocError> {
-    file.extend_from_slice(b"SQLite format 3\0")?;
-    file.extend_from_slice(&[0x10, 0, 1, 1, 0, 64, 32, 32])?;
-    file.extend_from_slice(&[0, 0, 0, change_counter, 0, 0, 0, 2])?;
-    file.extend_from_slice(&[0, 0, 0, 0, 0, 0, 0, 0])?;
-    file.extend_from_slice(&[0, 0, 0, 1, 0, 0, 0, 4])?;
-    file.extend_from_slice(&[0, 0, 0, 0, 0, 0, 0, 0, 0, 0, 0, 1])?;
-    file.resize(92, 0)?;
-    file.extend_from_slice(&[0, 0, 0, change_counter, 0x00, 0x2d, 0xe2, 0x18])
+// The pages of their rows.
+const TARGET_ROWS: Parts = &[
+    (4096, b"\x0d\x00\x00\x00\x02\x0f\xf0\x00\x0f\xf8\x0f\xf0"),
+    (8176, b"\x06\x02\x03\x00\x13two\x06\x01\x03\x00\x13one"),
+];
+
+const RBU_ROWS: Parts = &[
+    (4096, b"\x0d\x00\x00\x00\x01\x0f\xf5\x00\x0f\xf5"),
+    (8181, b"\x09\x01\x04\x01\x15\x08\x03drei"),
+];
+
+fn write_parts(disk: &mut MemoryDisk, name: FileName, parts: Parts) -> Result<(), DiskFault> {
+    for (at, part) in parts {
+        disk.write_at(name, *at, part)?;
+    }
+    Ok(())
 }
 
-/// Fills the file with zeros and then the bytes, up to a length.
-fn append_back(file: &mut Vec<u8>, len: usize, back: &[u8]) -> Result<(), AllocError> {
-    file.resize(len.saturating_sub(back.len()), 0)?;
-    file.extend_from_slice(back)
+/// A disk in memory with both databases, whose pages of rows are zeros.
+pub fn empty_disk(alloc: Global) -> Result<MemoryDisk, DiskFault> {
+    let mut disk = MemoryDisk::new(alloc, Vec::new(alloc), Vec::new(alloc));
+    disk.set_len(FileName::Target, 8192)?;
+    disk.set_len(FileName::Rbu, 8192)?;
+    write_parts(&mut disk, FileName::Target, TARGET)?;
+    write_parts(&mut disk, FileName::Rbu, RBU)?;
+    Ok(disk)
 }
 
-/// A database of two pages: the schema's one cell on the first, whose place is given, and a page of rows that begins
-/// and ends with the given bytes.
-pub fn small_database(
-    alloc: Global,
-    change_counter: u8,
-    schema: &[u8],
-    schema_place: [u8; 2],
-    front: &[u8],
-    back: &[u8],
-) -> Result<Vec<u8>, AllocError> {
-    let mut file = Vec::new(alloc);
-    append_header(&mut file, change_counter)?;
-    let [high, low] = schema_place;
-    file.extend_from_slice(&[13, 0, 0, 0, 1, high, low, 0, high, low])?;
-    append_back(&mut file, PAGE_SIZE, schema)?;
-    file.extend_from_slice(front)?;
-    append_back(&mut file, 2 * PAGE_SIZE, back)?;
-    Ok(file)
-}
-
-/// A target whose page of rows begins and ends with the given bytes.
-pub fn target(alloc: Global, front: &[u8], back: &[u8]) -> Result<Vec<u8>, AllocError> {
-    small_database(alloc, 7, TARGET_SCHEMA, [0x0f, 0xc5], front, back)
-}
-
-/// An RBU database whose page of rows begins and ends with the given bytes.
-pub fn rbu(alloc: Global, front: &[u8], back: &[u8]) -> Result<Vec<u8>, AllocError> {
-    small_database(alloc, 1, RBU_SCHEMA, [0x0f, 0xbd], front, back)
-}
-
-/// The target with the rows (1, 'one') and (2, 'two').
-pub fn example_target(alloc: Global) -> Result<Vec<u8>, AllocError> {
-    target(
-        alloc,
-        &[13, 0, 0, 0, 2, 0x0f, 0xf0, 0, 0x0f, 0xf8, 0x0f, 0xf0],
-        b"\x06\x02\x03\x00\x13two\x06\x01\x03\x00\x13one",
-    )
-}
-
-/// The RBU database with the prepared row (3, 'drei').
-pub fn example_rbu(alloc: Global) -> Result<Vec<u8>, AllocError> {
-    rbu(
-        alloc,
-        &[13, 0, 0, 0, 1, 0x0f, 0xf5, 0, 0x0f, 0xf5],
-        b"\x09\x01\x04\x01\x15\x08\x03drei",
-    )
+/// The disk in memory with the two small databases.
+pub fn example_disk(alloc: Global) -> Result<MemoryDisk, DiskFault> {
+    let mut disk = empty_disk(alloc)?;
+    write_parts(&mut disk, FileName::Target, TARGET_ROWS)?;
+    write_parts(&mut disk, FileName::Rbu, RBU_ROWS)?;
+    Ok(disk)
 }

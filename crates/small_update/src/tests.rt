@@ -1,8 +1,8 @@
 // Worked rows: what small updates come to, and the bytes that they leave.
-ghost use Rattle.std.specs.Prelude.{◌≡◌, IfOk, length, map};
+ghost use Rattle.std.specs.Prelude.{◌≡◌, IfOk, length};
 ghost use Rattle.std.specs.Bool.{OnTrue};
 ghost use Rattle.std.specs.List.{All};
-ghost use Rattle.update_spec.specs.SmallFile.{IsRising, IsNullOrText};
+ghost use Rattle.small_spec.specs.SmallFile.{IsRisingBy, IsNullOrText};
 
 use super::*;
 use byteorder::{BigEndian, ByteOrder};
@@ -15,7 +15,7 @@ const ONE: &[u8] = b"\x06\x01\x03\x00\x13one";
 const TWO: &[u8] = b"\x06\x02\x03\x00\x13two";
 
 fn rises(rows: &[TargetRow]) -> bool
-    ensures { OnTrue result (IsRising (map (λ row. row.rowid) rows.now)) }
+    ensures { OnTrue result (IsRisingBy (λ row. row.rowid) rows.now) }
 {
     for i in 1..rows.len() {
         if rows[i - 1].rowid >= rows[i].rowid {
@@ -68,7 +68,10 @@ fn decided(
     Ok(match decide(alloc, old, prepared)? {
         Decision::SharedKey => ("shared key", 0),
         Decision::NoRoom => ("no room", 0),
-        Decision::KeyPresent { data_rowid } => ("key present", data_rowid),
+        Decision::KeyPresent { table, data_rowid } => {
+            assert_eq!(rt; table.as_slice(), b"t1".as_slice());
+            ("key present", data_rowid)
+        }
         Decision::Merged(rows) => ("merged", rows.len() as i64),
     })
 }
@@ -84,27 +87,26 @@ fn target(alloc: Global, counter: u32, cookie: u32) -> Result<Vec<u8>, AllocErro
     Ok(bytes)
 }
 
+// What is decided on the rows (1, 'one') and (2, 'two') with these prepared rows.
+const DECISIONS: &[(&[(i64, i64, Option<&[u8]>)], (&str, i64))] = &[
+    (&[(1, 3, Some(b"drei"))], ("merged", 3)),
+    (&[], ("merged", 2)),
+    (&[(1, 2, None)], ("key present", 1)),
+    (&[(1, 2, Some(b"drei")), (2, 1, None)], ("key present", 2)),
+    (
+        &[(1, 5, Some(b"drei")), (2, 4, Some(b"drei")), (3, 5, None)],
+        ("shared key", 0),
+    ),
+];
+
+// With a row of 2000 bytes, one with a text of 2077 fills its page: 8 + 2 * 2 + 2000 + 2084 is 4096.
 #[test]
 fn each_decision_has_its_cause(rt: HostRuntime) -> Result<(), Fail> {
     let alloc = rt.alloc();
-    let old: &[(i64, &[u8])] = &[(1, ONE), (2, TWO)];
-    let drei = Some(b"drei".as_slice());
-    assert_eq!(rt; decided(&rt, alloc, old, &[(1, 3, drei)])?, ("merged", 3));
-    assert_eq!(rt; decided(&rt, alloc, old, &[])?, ("merged", 2));
-    assert_eq!(rt;
-        decided(&rt, alloc, old, &[(1, 2, None)])?,
-        ("key present", 1)
-    );
-    let two_present = [(1, 2, drei), (2, 1, None)];
-    assert_eq!(rt; decided(&rt, alloc, old, &two_present)?, ("key present", 2));
-    let shared = [(1, 5, drei), (2, 4, drei), (3, 5, None)];
-    assert_eq!(rt; decided(&rt, alloc, old, &shared)?, ("shared key", 0));
-    Ok(())
-}
-
-#[test]
-fn a_page_is_filled_to_its_last_byte(rt: HostRuntime) -> Result<(), Fail> {
-    let alloc = rt.alloc();
+    for (prepared, expected) in DECISIONS {
+        let found = decided(&rt, alloc, &[(1, ONE), (2, TWO)], prepared)?;
+        assert_eq!(rt; found, *expected);
+    }
     let bytes = vec![in alloc; b'x'; 4000]?;
     assert_eq!(rt; bytes.len(), 4000);
     let old: &[(i64, &[u8])] = &[(1, &bytes[..2000])];

@@ -64,7 +64,7 @@ module _ (salt : ℕ × ℕ) where
 
   log-midway : (f g : Files) (bytes : List ℕ) → AreNewBytes f bytes → IsMidway salt bytes f g → LeavesLog salt f g
   log-midway f g bytes new (inl hidden) = inl (ap (λ (files : Files). files Wal) hidden.1)
-  log-midway f g bytes new (inr (inl logged)) = inr (inr (bytes, new.holds_rows.file.long, ap (λ (files : Files). files Wal) logged.1))
+  log-midway f g bytes new (inr (inl logged)) = inr (bytes, new, ap (λ (files : Files). files Wal) logged.1)
   log-midway f g bytes new (inr (inr copied)) = inl (ap (λ (files : Files). files Wal) copied)
 
   -- a reader sees the old database or the new one
@@ -87,10 +87,10 @@ module _ (salt : ℕ × ℕ) where
   others-ends (Fault file call) f g (inr stops) = others-midway f g stops.1.bytes stops.1.midway
   others-ends NoMemory f g same = λ name x y z. ap (λ (files : Files). files name) same
 
-  -- a log that is left is whole
+  -- a log that is left is whole, and has the new bytes
   pub log-ends : (answer : Answer) (f g : Files) → EndsAs salt answer f g → LeavesLog salt f g
   log-ends Usage f g ends = absurd ends
-  log-ends (Ended Done) f g ends = inr (inl ends.0.no_wal)
+  log-ends (Ended Done) f g ends = inl (ends.0.no_wal ∙ sym (no_wal f ends.0.bytes ends.0.new_bytes))
   log-ends (Ended (KeyPresent table id)) f g ends = inl (ap (λ (files : Files). files Wal) ends.0.1)
   log-ends (Ended (Refused refusal)) f g ends = inl (ap (λ (files : Files). files Wal) ends.0.1)
   log-ends (Fault file call) f g (inl same) = inl (ap (λ (files : Files). files Wal) same)

@@ -5,6 +5,7 @@ use Rattle.file_spec.specs.declared.FileName.TheVariants.{Target, Oal, Wal}
 use Rattle.file_spec.specs.Files.{Files, content, is_name, with_file, OnlyChanges}
 use Rattle.format_spec.specs.Log.{Frame, log_header, log_sums, frames_bytes}
 use Rattle.wal_codec.specs.LogLaws.{two_pages}
+use Rattle.small_spec.specs.SmallUpdate.{AreNewBytes}
 
 -- the frames of both pages, of which the second commits
 abbrev pub page_frames : List ℕ → List Frame
@@ -37,7 +38,7 @@ abbrev pub KeepsOthers : Files → Files → Type 0
 KeepsOthers before after =
     (name : FileName) → is_name Target name ≡ false → is_name Oal name ≡ false → is_name Wal name ≡ false → after name ≡ before name
 
--- the write-ahead log that a call leaves is as before, or none, or the whole log of two pages with this salt
+-- the write-ahead log that a call leaves is as before, or the whole log, with this salt, of the new database's bytes
 abbrev pub LeavesLog : ℕ × ℕ → Files → Files → Type 0
 LeavesLog salt before after =
-    (after Wal ≡ before Wal) ⊎ ((after Wal ≡ None) ⊎ ((pages : List ℕ) × (length pages ≡ 8192) × (after Wal ≡ Some (log_of salt pages))))
+    (after Wal ≡ before Wal) ⊎ ((bytes : List ℕ) × AreNewBytes before bytes × (after Wal ≡ Some (log_of salt bytes)))

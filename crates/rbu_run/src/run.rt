@@ -89,7 +89,7 @@ pub fn run_command<D: Disk, O: Sink>(
     // Nor is any other file than the target and its two logs changed.
     ensures others { Goes D.Disk disk result.disk KeepsOthers }
 
-    // A write-ahead log that the call makes and leaves is whole, and has the salt.
+    // A write-ahead log that the call makes and leaves is whole, has the salt, and has the new database's bytes.
     ensures log { Goes D.Disk disk result.disk (LeavesLog (pair_of salt)) }
 
     // An update that ends has put every prepared row into the target, and neither log exists.

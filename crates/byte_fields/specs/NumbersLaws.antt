@@ -43,7 +43,7 @@ slice_index-apart_from_number at n x k bytes room (inl before) = slice_index-bef
 slice_index-apart_from_number at n x k bytes room (inr behind) = slice_index-behind_number at n x k bytes room behind
 
 -- numbers of the same bytes are the same
-big_from-same : (i n : ℕ) (a b : List ℕ) → ((k : ℕ) → i ≤ k → k < i + n → slice_index a k ≡ slice_index b k) → big_from i n a ≡ big_from i n b
+pub big_from-same : (i n : ℕ) (a b : List ℕ) → ((k : ℕ) → i ≤ k → k < i + n → slice_index a k ≡ slice_index b k) → big_from i n a ≡ big_from i n b
 big_from-same i zero a b same = refl
 big_from-same i (suc n) a b same =
     ap₂ (λ (x y : ℕ). x * 256 ^ n + y) (same i (omega arith) (omega arith)) (big_from-same (suc i) n a b (λ k low high. same k (omega arith) (omega arith)))

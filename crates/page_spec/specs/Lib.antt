@@ -2,3 +2,5 @@ pub mod Pages
 pub mod Chains
 pub mod Freelists
 pub mod Rooms
+pub mod PlacesLaws
+pub mod RoomsLaws

@@ -7,9 +7,11 @@
 //! - `Freelists`: the freelist as a list of trunks with their leaf pages (section 1.5);
 //! - `Rooms`: the room of cells in a page, its free bytes, and pages as they are written (section 1.6).
 //!
-//! The functions without parameters promise that the definitions compute on worked rows.
+//! `PlacesLaws` and `RoomsLaws` say what follows. The functions without parameters promise the main law, and that the definitions compute on worked rows.
 #![tactic(auto)]
 
+mod laws;
 mod worked;
 
+pub use laws::cells_fit;
 pub use worked::{worked_chain, worked_freelist, worked_lock_byte_pages, worked_rooms};

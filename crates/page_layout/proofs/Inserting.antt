@@ -1,0 +1,265 @@
+-- A written page into which a cell was put is a written page with one cell more.
+use Rattle.std.proofs.Common.{◌≡◌, ℕ, ◌+◌, ◌-◌, ◌*◌, ◌%◌, ◌<◌, ◌≤◌, ◌⊎◌, List, [], ◌++◌, length, length-append, max, slice_index, slice_index_or, get_or, refl, sym, ap, ap₂, ◌∙◌, subst, inl, inr, arith}
+use Rattle.std.proofs.Math.Path.{subst⁻¹}
+use Rattle.std.proofs.Math.Nat.{mod-eq_of_lt}
+use Rattle.std.specs.List.{insert}
+use Rattle.std.proofs.lemmas.Bool.{cases_lt}
+use Rattle.std.proofs.lemmas.List.Edits.{length-insert, get_or-insert_below, get_or-insert_at, get_or-insert_above}
+use Rattle.std.proofs.lemmas.List.Sums.{sum_by-insert}
+use Rattle.byte_fields.specs.Bytes.{part_of}
+use Rattle.byte_fields.specs.Numbers.{number_at}
+use Rattle.format_spec.specs.declared.PageKind.{PageKind}
+use Rattle.format_spec.specs.declared.PageKind.TheVariants.{IndexInterior, TableInterior, IndexLeaf, TableLeaf}
+use Rattle.format_spec.specs.declared.CellView.{CellView}
+use Rattle.format_spec.specs.Cell.{IsCell}
+use Rattle.format_spec.specs.Page.{IsPage, IsCellAt, AreApart, RightChild, header_place, header_length, array_place, cell_place, cell_room}
+use Rattle.page_spec.specs.PlacesLaws.{SameBytes, number_at-same, part_of-same}
+use Rattle.cell_codec.specs.VarintLaws.{spelling_one_to_nine}
+use Rattle.page_spec.specs.Rooms.{array_end, rooms, IsOneCell, IsWritten, KeepsRest}
+use Rattle.page_layout.specs.declared.put.Layout.{Layout}
+use Rattle.page_layout.specs.Written.{PutsCell, IsLaid, laid_more}
+
+pub header_length-least : (kind : PageKind) → 8 ≤ header_length kind
+header_length-least TableLeaf = omega arith
+header_length-least TableInterior = omega arith
+header_length-least IndexLeaf = omega arith
+header_length-least IndexInterior = omega arith
+
+-- the right child stays where the bytes of the header behind the counts stay
+pub right_child-same : (kind : PageKind) (old new : List ℕ) (header right : ℕ) → ((k : ℕ) → header + 7 ≤ k → k < header + header_length kind → slice_index new k ≡ slice_index old k)
+    → RightChild kind old header right → RightChild kind new header right
+right_child-same TableLeaf old new header right same is = is
+right_child-same TableInterior old new header right same is = is ∙ sym (number_at-same 4 new (header + 8) old (header + 8) (λ j small. same (header + 8 + j) (omega arith) (omega arith)))
+right_child-same IndexLeaf old new header right same is = is
+right_child-same IndexInterior old new header right same is = is ∙ sym (number_at-same 4 new (header + 8) old (header + 8) (λ j small. same (header + 8 + j) (omega arith) (omega arith)))
+
+-- a cell of the new page that stands where one of the old page stood
+record IsKept (old new : List ℕ) (number : ℕ) (kind : PageKind) (cells others : List (List ℕ)) (k i : ℕ) : Type 0 where
+  low : i < length cells
+  place : cell_place new number kind k ≡ cell_place old number kind i
+  cell : slice_index_or others k [] ≡ slice_index_or cells i []
+
+module _ (old new : List ℕ) (number usable : ℕ) (kind : PageKind) (cells : List (List ℕ)) (right at : ℕ) (cell : List ℕ) (view : CellView)
+    (within : usable ≤ length old) (long : length old ≤ 65536) (was : IsWritten old number usable kind cells right) (inside : at ≤ length cells)
+    (is_cell : IsCell kind usable cell view) (room : array_end number kind (length cells + 1) + (rooms cells + cell_room cell) ≤ usable)
+    (puts : PutsCell old new (header_place number) (array_place number kind) (length cells) at (usable - (rooms cells + cell_room cell)) cell) where
+  place : ℕ
+  place = usable - (rooms cells + cell_room cell)
+
+  others : List (List ℕ)
+  others = insert cells at cell
+
+  many : length others ≡ length cells + 1
+  unfolding others
+  many = length-insert cells at cell inside
+
+  more : rooms others ≡ rooms cells + cell_room cell
+  unfolding others
+  more = sum_by-insert cell_room cells at cell
+
+  kept_below : (k : ℕ) → k < at → IsKept old new number kind cells others k k
+  unfolding others
+  kept_below k low = record {
+    low = omega arith;
+    place = number_at-same 2 new (array_place number kind + 2 * k) old (array_place number kind + 2 * k) (puts.stays k low);
+    cell = get_or-insert_below cells at cell [] k low inside;
+  }
+
+  kept_above : (i : ℕ) → at ≤ i → i < length cells → IsKept old new number kind cells others (i + 1) i
+  unfolding others
+  kept_above i high low = record {
+    low = low;
+    place = number_at-same 2 new (array_place number kind + 2 * (i + 1)) old (array_place number kind + 2 * i) (puts.moved i high low);
+    cell = get_or-insert_above cells at cell [] i high inside;
+  }
+
+  here_place : cell_place new number kind at ≡ place
+  unfolding place
+  here_place = puts.here
+
+  here_cell : slice_index_or others at [] ≡ cell
+  unfolding others
+  here_cell = get_or-insert_at cells at cell [] inside
+
+  -- a cell that stood there
+  stands_kept : (k i : ℕ) → IsKept old new number kind cells others k i → IsCellAt new number usable kind (length cells + 1) k (slice_index_or others k [])
+  stands_kept k i kept =
+      let was_at = was.is_page.each i kept.low in
+      let low_end = was.no_hole i kept.low in
+      let its_place = cell_place old number kind i in
+      let its_cell = slice_index_or cells i [] in
+      let P : List ℕ → Type 0 = λ c. IsCellAt new number usable kind (length cells + 1) k c in
+      let same_place : cell_place new number kind k ≡ its_place = kept.place in
+      let in_page : its_place + length its_cell ≤ length old = omega (arith, was_at.inside) in
+      let stood : part_of new its_place (length its_cell) ≡ its_cell =
+      part_of-same (length its_cell) new its_place old its_place (omega (arith, puts.long)) in_page (λ j small. puts.behind (its_place + j) (omega arith)) ∙ was_at.stands in
+      subst⁻¹ P kept.cell (record {
+        view = was_at.view;
+        is_cell = was_at.is_cell;
+        stands = ap (λ (p : ℕ). part_of new p (length its_cell)) same_place ∙ stood;
+        behind_array = omega arith;
+        inside = omega (arith, was_at.inside, same_place);
+      })
+
+  -- the cell that was put in
+  stands_here : IsCellAt new number usable kind (length cells + 1) at (slice_index_or others at [])
+  unfolding place
+  stands_here =
+      let P : List ℕ → Type 0 = λ c. IsCellAt new number usable kind (length cells + 1) at c in
+      subst⁻¹ P here_cell (record {
+        view = view;
+        is_cell = is_cell;
+        stands = ap (λ (p : ℕ). part_of new p (length cell)) here_place ∙ puts.cell_is;
+        behind_array = omega (arith, here_place);
+        inside = omega (arith, here_place);
+      })
+
+  stands : (k : ℕ) → k < length cells + 1 → IsCellAt new number usable kind (length cells + 1) k (slice_index_or others k [])
+  stands k low =
+      elim (cases_lt k at) [
+        | inl below ↦ stands_kept k k (kept_below k below)
+        | inr not_below ↦ elim (cases_lt at k) [
+          | inl above ↦
+            let i = k - 1 in
+            let k_is : i + 1 ≡ k = omega arith in
+            let P : ℕ → Type 0 = λ n. IsCellAt new number usable kind (length cells + 1) n (slice_index_or others n []) in
+            subst P k_is (stands_kept (i + 1) i (kept_above i (omega arith) (omega arith)))
+          | inr not_above ↦
+            let at_is : at ≡ k = omega arith in
+            let P : ℕ → Type 0 = λ n. IsCellAt new number usable kind (length cells + 1) n (slice_index_or others n []) in
+            subst P at_is stands_here
+        ]
+      ]
+
+  -- apart from a cell that stood there
+  apart_here : (k : ℕ) (i : ℕ) → IsKept old new number kind cells others k i
+      → AreApart (cell_place new number kind at) (cell_room (slice_index_or others at [])) (cell_place new number kind k) (cell_room (slice_index_or others k []))
+  unfolding place
+  apart_here k i kept =
+      let P : List ℕ → Type 0 = λ c. AreApart (cell_place new number kind at) (cell_room c) (cell_place new number kind k) (cell_room (slice_index_or others k [])) in
+      let low_end = was.no_hole i kept.low in
+      subst⁻¹ P here_cell (inl (omega (arith, here_place, kept.place)))
+
+  apart_turned : (p m q n : ℕ) → AreApart p m q n → AreApart q n p m
+  apart_turned p m q n (inl before) = inr before
+  apart_turned p m q n (inr behind) = inl behind
+
+  apart_kept : (j k a b : ℕ) → a < b → IsKept old new number kind cells others j a → IsKept old new number kind cells others k b
+      → AreApart (cell_place new number kind j) (cell_room (slice_index_or others j [])) (cell_place new number kind k) (cell_room (slice_index_or others k []))
+  apart_kept j k a b order one other =
+      let P : ℕ → ℕ → Type 0 = λ p q. AreApart p (cell_room (slice_index_or others j [])) q (cell_room (slice_index_or others k [])) in
+      let Q : List ℕ → List ℕ → Type 0 = λ c d. AreApart (cell_place old number kind a) (cell_room c) (cell_place old number kind b) (cell_room d) in
+      subst⁻¹ (λ (p : ℕ). P p (cell_place new number kind k)) one.place
+      (subst⁻¹ (λ (q : ℕ). P (cell_place old number kind a) q) other.place
+      (subst⁻¹ (λ (c : List ℕ). Q c (slice_index_or others k [])) one.cell
+      (subst⁻¹ (λ (d : List ℕ). Q (slice_index_or cells a []) d) other.cell (was.is_page.apart a b order other.low))))
+
+  -- which cell of the old page stands at an index of the new one
+  source : (k : ℕ) → k < length cells + 1 → (k ≡ at) ⊎ ((i : ℕ) × (IsKept old new number kind cells others k i × (((k < at) × (i ≡ k)) ⊎ ((at < k) × (i + 1 ≡ k)))))
+  source k low =
+      elim (cases_lt k at) [
+        | inl below ↦ inr (k, (kept_below k below, inl (below, refl)))
+        | inr not_below ↦ elim (cases_lt at k) [
+          | inl above ↦
+            let i = k - 1 in
+            let k_is : i + 1 ≡ k = omega arith in
+            let P : ℕ → Type 0 = λ n. IsKept old new number kind cells others n i in
+            inr (i, (subst P k_is (kept_above i (omega arith) (omega arith)), inr (above, k_is)))
+          | inr not_above ↦ inl (omega arith)
+        ]
+      ]
+
+  apart : (j k : ℕ) → j < k → k < length cells + 1
+      → AreApart (cell_place new number kind j) (cell_room (slice_index_or others j [])) (cell_place new number kind k) (cell_room (slice_index_or others k []))
+  apart j k order low =
+      let P : ℕ → ℕ → Type 0 = λ a b. AreApart (cell_place new number kind a) (cell_room (slice_index_or others a [])) (cell_place new number kind b) (cell_room (slice_index_or others b [])) in
+      elim (source j (omega arith)) [
+        | inl j_here ↦ elim (source k low) [
+          | inl k_here ↦ absurd (omega arith)
+          | inr other ↦ subst⁻¹ (λ (a : ℕ). P a k) j_here (apart_here k other.0 other.1.0)
+        ]
+        | inr one ↦ elim (source k low) [
+          | inl k_here ↦ subst⁻¹ (λ (b : ℕ). P j b) k_here (apart_turned _ _ _ _ (apart_here j one.0 one.1.0))
+          | inr other ↦ apart_kept j k one.0 other.0 (ordered one.0 other.0 one.1.1 other.1.1 order) one.1.0 other.1.0
+        ]
+      ]
+    where
+      ordered : (a b : ℕ) → ((j < at) × (a ≡ j)) ⊎ ((at < j) × (a + 1 ≡ j)) → ((k < at) × (b ≡ k)) ⊎ ((at < k) × (b + 1 ≡ k)) → j < k → a < b
+      ordered a b (inl p) (inl q) h = omega arith
+      ordered a b (inl p) (inr q) h = omega arith
+      ordered a b (inr p) (inl q) h = omega arith
+      ordered a b (inr p) (inr q) h = omega arith
+
+  is_page : IsPage new number usable kind others right
+  is_page =
+      let P : ℕ → Type 0 = λ n. (k : ℕ) → k < n → IsCellAt new number usable kind n k (slice_index_or others k []) in
+      let Q : ℕ → Type 0 = λ n. (j k : ℕ) → j < k → k < n
+          → AreApart (cell_place new number kind j) (cell_room (slice_index_or others j [])) (cell_place new number kind k) (cell_room (slice_index_or others k [])) in
+      record {
+        kind_is = puts.front (header_place number) (omega arith) ∙ was.is_page.kind_is;
+        count = puts.counts ∙ sym many;
+        each = subst⁻¹ P many stands;
+        apart = subst⁻¹ Q many apart;
+        right_child = right_child-same kind old new (header_place number) right puts.rest was.is_page.right_child;
+      }
+
+  -- no cell stands below the new one
+  lowest : (k : ℕ) → k < length others → place ≤ cell_place new number kind k
+  unfolding place
+  lowest k low =
+      elim (source k (omega (arith, many))) [
+        | inl here ↦ let P : ℕ → Type 0 = λ n. usable - (rooms cells + cell_room cell) ≤ cell_place new number kind n in subst⁻¹ P here (omega (arith, here_place))
+        | inr kept ↦ let low_end = was.no_hole kept.0 kept.1.0.low in omega (arith, kept.1.0.place)
+      ]
+
+  begins : usable - rooms (insert cells at cell) ≡ place
+  unfolding others place
+  begins = omega (arith, more)
+
+  pub inserted : IsWritten new number usable kind (insert cells at cell) right
+  unfolding others
+  inserted = record {
+    is_page = is_page;
+    no_hole = λ k low. let from = lowest k low in omega (arith, begins);
+    no_freeblock = number_at-same 2 new (header_place number + 1) old (header_place number + 1) (λ j small. puts.front (header_place number + 1 + j) (omega arith)) ∙ was.no_freeblock;
+    content = puts.content ∙ begins_at;
+    no_fragment = number_at-same 1 new (header_place number + 7) old (header_place number + 7) (λ j small. puts.rest (header_place number + 7 + j) (omega arith) (omega (arith, header_length-least kind))) ∙ was.no_fragment;
+  }
+    where
+      small : usable - (rooms cells + cell_room cell) < 65536
+      small = omega arith
+      begins_at : usable - (rooms cells + cell_room cell) ≡ (usable - rooms (insert cells at cell)) % 65536
+      begins_at = sym (mod-eq_of_lt small) ∙ ap (λ (n : ℕ). (usable - n) % 65536) (sym (sum_by-insert cell_room cells at cell))
+
+-- a cell has a byte
+pub cell-some : (kind : PageKind) (usable : ℕ) (cell : List ℕ) (view : CellView) → IsCell kind usable cell view → 0 < length cell
+cell-some TableLeaf usable cell view is =
+    omega (arith, ap length is.whole, length-append is.payload_bytes (is.rowid_bytes ++ (is.local_bytes ++ is.overflow_bytes)), spelling_one_to_nine is.payload_bytes view.payload is.payload)
+cell-some TableInterior usable cell view is = omega (arith, ap length is.whole, length-append is.child_bytes is.rowid_bytes, is.child_length)
+cell-some IndexLeaf usable cell view is =
+    omega (arith, ap length is.whole, length-append is.child_bytes (is.payload_bytes ++ (is.local_bytes ++ is.overflow_bytes)), length-append is.payload_bytes (is.local_bytes ++ is.overflow_bytes), spelling_one_to_nine is.payload_bytes view.payload is.payload)
+cell-some IndexInterior usable cell view is =
+    omega (arith, ap length is.whole, length-append is.child_bytes (is.payload_bytes ++ (is.local_bytes ++ is.overflow_bytes)), is.child_length)
+
+-- a cell put where the layout says
+pub laid_with : (old new : List ℕ) (layout : Layout) (cells : List (List ℕ)) (right at : ℕ) (cell : List ℕ) (header length_of place : ℕ)
+    → layout.usable ≤ length old → length old ≤ 65536 → at ≤ layout.count → IsOneCell layout.kind layout.usable cell
+    → array_end layout.number layout.kind (layout.count + 1) + cell_room cell ≤ layout.bottom → IsLaid old layout cells right
+    → header ≡ header_place layout.number → length_of ≡ header_length layout.kind → place ≡ layout.bottom - cell_room cell
+    → PutsCell old new header (header + length_of) layout.count at place cell → IsLaid new (laid_more layout (cell_room cell)) (insert cells at cell) right
+laid_with old new layout cells right at cell header length_of place whole long inside one room laid h l p puts =
+    let begins : place ≡ layout.usable - (rooms cells + cell_room cell) = omega (arith, laid.bottom) in
+    let at_header = subst (λ (x : ℕ). PutsCell old new x (x + length_of) layout.count at place cell) h puts in
+    let at_array = subst (λ (x : ℕ). PutsCell old new (header_place layout.number) (header_place layout.number + x) layout.count at place cell) l at_header in
+    let at_count = subst (λ (x : ℕ). PutsCell old new (header_place layout.number) (array_place layout.number layout.kind) x at place cell) laid.count at_array in
+    let at_place = subst (λ (x : ℕ). PutsCell old new (header_place layout.number) (array_place layout.number layout.kind) (length cells) at x cell) begins at_count in
+    record {
+      written = inserted old new layout.number layout.usable layout.kind cells right at cell one.0 whole long laid.written (omega (arith, laid.count)) one.1 (omega (arith, laid.count, laid.bottom)) at_place;
+      count = omega (arith, laid.count, length-insert cells at cell (omega (arith, laid.count)));
+      bottom = omega (arith, laid.bottom, sum_by-insert cell_room cells at cell);
+    }
+
+pub keeps_rest : (old new : List ℕ) (number usable header array count at place : ℕ) (cell : List ℕ) → header ≡ header_place number → place + length cell ≤ usable
+    → PutsCell old new header array count at place cell → KeepsRest number usable old new
+keeps_rest old new number usable header array count at place cell h within puts k (inl front) = puts.front k (omega (arith, h))
+keeps_rest old new number usable header array count at place cell h within puts k (inr behind) = puts.behind k (omega arith)

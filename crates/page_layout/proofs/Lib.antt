@@ -1,0 +1,3 @@
+pub mod Putting
+pub mod Inserting
+pub mod Clearing

@@ -4,6 +4,8 @@ pub mod Record
 pub mod Cell
 pub mod Page
 pub mod Header
+pub mod PageMap
+pub mod PageMapLaws
 pub mod Log
 pub mod LogLaws
 pub mod LittleLog

@@ -1,8 +1,8 @@
 -- The write-ahead log (Database File Format, section 4).
-use Rattle.std.specs.Prelude.{◌≡◌, ℕ, ◌+◌, ◌*◌, ◌%◌, ◌^◌, ◌<◌, ◌≤◌, ◌==◌, ◌&&◌, ◌||◌, not, is_some, Bool, true, false, if◌then◌else◌, List, [], ◌∷◌, ◌++◌, length, slice_index, Option, Some, None, unwrap_or}
+use Rattle.std.specs.Prelude.{◌≡◌, ℕ, ◌+◌, ◌%◌, ◌^◌, ◌<◌, ◌==◌, ◌&&◌, ◌||◌, not, is_some, Bool, true, false, if◌then◌else◌, List, [], ◌∷◌, ◌++◌, length, slice_index, Option, Some, None, unwrap_or}
 use Rattle.std.specs.List.{AllByRecursion}
 use Rattle.byteorder.specs.Endian.{big_bytes, big_number, little_number}
-use Rattle.byte_fields.specs.Numbers.{page_at}
+use Rattle.format_spec.specs.PageMap.{PageMap, SamePages}
 
 -- the number in four bytes, in the byte order that the checksum takes
 abbrev pub word : Bool → List ℕ → ℕ
@@ -148,9 +148,19 @@ last_frame_of number [] = None
 last_frame_of number (frame ∷ frames) =
     if is_some (last_frame_of number frames) || not (frame.number == number) then last_frame_of number frames else Some frame.page
 
--- The bytes are those of a file that the log's frames lie over: each page from its last frame up to the last commit, else from the file, and as many pages as that commit says. Without a commit they are the file's (section 4.5).
-pub record IsOverlay (file : List ℕ) (page_size : ℕ) (frames : List Frame) (bytes : List ℕ) : Type 0 where
-  pub without : committed frames ≡ [] → bytes ≡ file
-  pub size : 0 < length (committed frames) → length bytes ≡ last_commit (committed frames) * page_size
-  pub each : 0 < length (committed frames) → (n : ℕ) → 0 < n → n ≤ last_commit (committed frames) →
-      page_at page_size n bytes ≡ unwrap_or (last_frame_of n (committed frames)) (page_at page_size n file)
+-- how many pages there are after these frames: as many as the last says, or as before
+abbrev pub count_after : ℕ → List Frame → ℕ
+count_after count [] = count
+count_after count (frame ∷ frames) = last_commit (frame ∷ frames)
+
+-- Pages that a log's frames lie over: each from its last frame up to the last commit, else as it was, and as many as that commit says. Without a commit all is as it was (section 4.5).
+abbrev pub overlay : PageMap → List Frame → PageMap
+overlay base frames = record {
+  size = base.size;
+  count = count_after base.count (committed frames);
+  page = λ n. unwrap_or (last_frame_of n (committed frames)) (base.page n);
+}
+
+-- the pages are those of the overlay, as far as they matter
+abbrev pub IsOverlay : PageMap → List Frame → PageMap → Type 0
+IsOverlay base frames pages = SamePages (overlay base frames) pages

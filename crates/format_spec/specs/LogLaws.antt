@@ -1,12 +1,13 @@
--- A header with frames is a log, bytes are a log in one way, and the overlay of a file by its frames is one: crates above cite these facts in their proofs.
+-- A header with frames is a log, bytes are a log in one way, and the overlay of pages by its frames is one: crates above cite these facts in their proofs.
 use Rattle.std.proofs.Math.Path.{subst⁻¹}
-use Rattle.std.proofs.Common.{◌≡◌, ℕ, ◌+◌, ◌^◌, ◌<◌, Bool, true, false, List, [], ◌∷◌, ◌++◌, length, refl, sym, ap, ap₂, ◌∙◌, subst, append_assoc, length-append, arith, lit<, inl, inr}
-use Rattle.std.proofs.lemmas.Bool.{cases_lt}
-use Rattle.std.proofs.lemmas.List.{append-nil, nil_from_length}
+use Rattle.std.proofs.Common.{◌≡◌, ℕ, ◌+◌, ◌^◌, ◌<◌, Bool, true, false, List, [], ◌∷◌, ◌++◌, length, refl, sym, ap, ap₂, ◌∙◌, subst, append_assoc, length-append, arith, lit<}
+use Rattle.std.proofs.lemmas.List.{append-nil}
 use Rattle.byteorder.specs.Endian.{big_bytes}
 use Rattle.byte_fields.specs.BytesLaws.{append-same}
-use Rattle.byte_fields.specs.NumbersLaws.{big_bytes-same, pages-same}
-use Rattle.format_spec.specs.Log.{magic, pair_bytes, AreWords, log_front, log_sums, log_header, Frame, frame_front, frame_sums, frame_header, frame_bytes, frames_bytes, sums_behind, IsFrame, AreFrames, IsLog, LogReading, reading_of, committed, last_commit, IsOverlay}
+use Rattle.byte_fields.specs.NumbersLaws.{big_bytes-same}
+use Rattle.format_spec.specs.Log.{magic, pair_bytes, AreWords, log_front, log_sums, log_header, Frame, frame_front, frame_sums, frame_header, frame_bytes, frames_bytes, sums_behind, IsFrame, AreFrames, IsLog, LogReading, reading_of, overlay, IsOverlay}
+use Rattle.format_spec.specs.PageMap.{PageMap, SamePages}
+use Rattle.format_spec.specs.PageMapLaws.{SamePages-sym, SamePages-trans}
 
 -- a log's header has 32 bytes
 pub length-log_header : (big : Bool) (page_size sequence : ℕ) (salt : ℕ × ℕ) → length (log_header big page_size sequence salt) ≡ 32
@@ -201,14 +202,6 @@ pub sums_behind-one_more : (big : Bool) (sums : ℕ × ℕ) (frames : List Frame
 sums_behind-one_more big sums [] frame = refl
 sums_behind-one_more big sums (first ∷ frames) frame = sums_behind-one_more big (frame_sums big sums first.number first.commit first.page) frames frame
 
--- a file overlaid by frames is one list of bytes
-pub same_overlay : (file : List ℕ) (page_size : ℕ) (frames : List Frame) (a b : List ℕ) → IsOverlay file page_size frames a → IsOverlay file page_size frames b → a ≡ b
-same_overlay file page_size frames a b v w =
-    elim (cases_lt 0 (length (committed frames))) [
-      | inl some ↦
-          pages-same page_size (last_commit (committed frames)) a b (v.size some) (w.size some)
-          (λ n low high. v.each some n low high ∙ sym (w.each some n low high))
-      | inr none ↦
-          let nothing : committed frames ≡ [] = nil_from_length (committed frames) (omega (arith, none)) in
-          v.without nothing ∙ sym (w.without nothing)
-    ]
+-- the overlay of pages by frames is one, as far as they matter
+pub same_overlay : (base : PageMap) (frames : List Frame) (a b : PageMap) → IsOverlay base frames a → IsOverlay base frames b → SamePages a b
+same_overlay base frames a b v w = SamePages-trans a (overlay base frames) b (SamePages-sym (overlay base frames) a v) w

@@ -8,8 +8,9 @@
 //! - `Cell`: the cells of b-tree pages, and how much of a payload they keep (section 1.6);
 //! - `Page`: a b-tree page as a list of cells (section 1.6), and the page that is packed from its end;
 //! - `Header`: the fields of the database header (section 1.3);
-//! - `Log`: the write-ahead log, its frames and checksums, and the overlay of a file by a log (section 4);
-//! - `LogLaws`: a header with frames is a log, bytes are a log in one way, and the overlay of a file by its frames is one;
+//! - `PageMap`: pages by their numbers beside a count, and those of a database file; in `PageMapLaws`, that only those up to the count matter;
+//! - `Log`: the write-ahead log, its frames and checksums, and the overlay of pages by a log (section 4);
+//! - `LogLaws`: a header with frames is a log, bytes are a log in one way, and the overlay of pages by its frames is one;
 //! - `LittleLog`: a log that SQLite wrote.
 //!
 //! The functions without parameters promise the main laws, and that the definitions compute on worked rows.
@@ -53,8 +54,9 @@ mod worked;
 
 pub use laws::{log_has_one_reading, overlay_has_one_result};
 pub use sqlite_rows::{
-    worked_frame_header, worked_header, worked_index_interior, worked_little_log_header,
-    worked_log, worked_overlay, worked_spellings, worked_table_leaf,
+    worked_file_pages, worked_frame_header, worked_header, worked_index_interior,
+    worked_little_log_header, worked_log, worked_overlay, worked_spellings,
+    worked_table_leaf,
 };
 pub use worked::{
     worked_cell, worked_empty_leaf, worked_greatest_log_header, worked_header_sizes,

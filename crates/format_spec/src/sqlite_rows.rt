@@ -4,6 +4,7 @@ ghost use Rattle.format_spec.specs.declared.PageKind.TheVariants.{IndexInterior,
 ghost use Rattle.format_spec.specs.Varint.{IsVarint};
 ghost use Rattle.format_spec.specs.Page.{IsPage};
 ghost use Rattle.format_spec.specs.Header.{HasMagic, page_size, write_version, read_version, reserved, max_fraction, min_fraction, leaf_fraction, change_counter, pages, freelist_trunk, freelist_pages, schema_cookie, schema_format, largest_root, text_encoding, version_valid_for};
+ghost use Rattle.format_spec.specs.PageMap.{pages_of, header_size, header_count};
 ghost use Rattle.format_spec.specs.Log.{Frame, log_header, frame_header, IsLog, IsOverlay};
 ghost use Rattle.format_spec.specs.LittleLog.{little_page, little_frame, little_salt, little_header, little_frame_header, little_log};
 
@@ -44,12 +45,23 @@ pub fn worked_log()
     ensures { IsLog little_log 512 (little_frame ∷ []) }
 {}
 
-/// A file of five bytes, in pages of two, under three frames, of which the last stands behind the last commit.
+/// A file of five bytes, in pages of two, under three frames, of which the last stands behind the last commit; what the pages are past the
+/// count does not matter.
 pub fn worked_overlay()
-    ensures { let one : Frame = record { number = 2; commit = 0; page = 9 ∷ 9 ∷ [] } in
+    ensures logged { let one : Frame = record { number = 2; commit = 0; page = 9 ∷ 9 ∷ [] } in
         let two : Frame = record { number = 1; commit = 3; page = 7 ∷ 8 ∷ [] } in
         let three : Frame = record { number = 1; commit = 0; page = 5 ∷ 5 ∷ [] } in
-        IsOverlay (1 ∷ 2 ∷ 3 ∷ 4 ∷ 5 ∷ []) 2 (one ∷ two ∷ three ∷ []) (7 ∷ 8 ∷ 9 ∷ 9 ∷ 5 ∷ 0 ∷ []) }
+        IsOverlay (pages_of 2 2 (1 ∷ 2 ∷ 3 ∷ 4 ∷ 5 ∷ [])) (one ∷ two ∷ three ∷ []) (pages_of 2 3 (7 ∷ 8 ∷ 9 ∷ 9 ∷ 5 ∷ 0 ∷ 6 ∷ 6 ∷ [])) }
+    ensures uncommitted { let one : Frame = record { number = 2; commit = 0; page = 9 ∷ 9 ∷ [] } in
+        IsOverlay (pages_of 2 2 (1 ∷ 2 ∷ 3 ∷ 4 ∷ 5 ∷ [])) (one ∷ []) (pages_of 2 2 (1 ∷ 2 ∷ 3 ∷ 4 ∷ [])) }
+{}
+
+/// A database file by itself: the page size and the size in pages of its header, or as many whole pages as it has.
+pub fn worked_file_pages()
+    ensures little { header_size (replicate 16 0 ++ 0x02 ∷ 0x00 ∷ []) ≡ 512 }
+    ensures greatest { header_size (replicate 16 0 ++ 0x00 ∷ 0x01 ∷ []) ≡ 65536 }
+    ensures valid { header_count (replicate 24 0 ++ 0 ∷ 0 ∷ 0 ∷ 7 ∷ 0 ∷ 0 ∷ 0 ∷ 3 ∷ replicate 60 0 ++ 0 ∷ 0 ∷ 0 ∷ 7 ∷ []) ≡ 3 }
+    ensures stale { header_count (replicate 16 0 ++ 0 ∷ 16 ∷ replicate 6 0 ++ 0 ∷ 0 ∷ 0 ∷ 7 ∷ 0 ∷ 0 ∷ 0 ∷ 3 ∷ replicate 60 0 ++ 0 ∷ 0 ∷ 0 ∷ 6 ∷ []) ≡ 6 }
 {}
 
 /// A table leaf with the rows (1, 'one') and (2, 'two'), and a freeblock where SQLite deleted a row between them.

@@ -4,6 +4,7 @@ use Rattle.std.proofs.lemmas.List.{append-nil, length-append}
 use Rattle.byte_fields.specs.NumbersLaws.{page_at-whole}
 use Rattle.byte_fields.specs.Numbers.{page_at}
 use Rattle.format_spec.specs.Log.{checksum, word, sums_after, Frame, last_frame_of, IsOverlay}
+use Rattle.format_spec.specs.PageMap.{PageMap, pages_of}
 
 -- the checksum of whole pairs of words goes on over what follows them
 pub checksum-append : (big : Bool) (sums : ℕ × ℕ) (a b : List ℕ) → length a % 8 ≡ 0
@@ -23,25 +24,26 @@ checksum-append big sums (a ∷ b ∷ c ∷ d ∷ e ∷ f ∷ g ∷ h ∷ more) 
 abbrev pub two_pages : List ℕ → List ℕ → List Frame
 two_pages page1 page2 = record { number = 1; commit = 0; page = page1 } ∷ record { number = 2; commit = 2; page = page2 } ∷ []
 
+-- both pages of bytes that are two pages
+page-of_two : (page1 page2 : List ℕ) (size : ℕ) → length page1 ≡ size → length page2 ≡ size → (page_at size 1 (page1 ++ page2) ≡ page1) × (page_at size 2 (page1 ++ page2) ≡ page2)
+page-of_two page1 page2 size long1 long2 = (
+  page_at-whole size 1 [] page1 page2 (omega arith) long1,
+  ap (λ (b : List ℕ). page_at size 2 (page1 ++ b)) (sym (append-nil page2)) ∙ page_at-whole size 2 page1 page2 [] (omega arith) long2,
+)
+
 -- each of two pages comes from its frame
-each-of_two_pages : (file page1 page2 : List ℕ) (size : ℕ)
-    → page_at size 1 (page1 ++ page2) ≡ page1 → page_at size 2 (page1 ++ page2) ≡ page2
-    → (n : ℕ) → 0 < n → n ≤ 2
-    → page_at size n (page1 ++ page2) ≡ unwrap_or (last_frame_of n (two_pages page1 page2)) (page_at size n file)
-each-of_two_pages file page1 page2 size one two zero low high = absurd (omega arith)
-each-of_two_pages file page1 page2 size one two (suc zero) low high = one
-each-of_two_pages file page1 page2 size one two (suc (suc zero)) low high = two
-each-of_two_pages file page1 page2 size one two (suc (suc (suc n))) low high = absurd (omega arith)
+each-of_two_pages : (base : PageMap) (page1 page2 : List ℕ) (size : ℕ) → (page_at size 1 (page1 ++ page2) ≡ page1) × (page_at size 2 (page1 ++ page2) ≡ page2)
+    → (n : ℕ) → 0 < n → n ≤ 2 → unwrap_or (last_frame_of n (two_pages page1 page2)) (base.page n) ≡ page_at size n (page1 ++ page2)
+each-of_two_pages base page1 page2 size are zero low high = absurd (omega arith)
+each-of_two_pages base page1 page2 size are (suc zero) low high = sym are.0
+each-of_two_pages base page1 page2 size are (suc (suc zero)) low high = sym are.1
+each-of_two_pages base page1 page2 size are (suc (suc (suc n))) low high = absurd (omega arith)
 
 -- a log of both pages of a file of two pages lays that file over any other
-pub overlay-of_two_pages : (file page1 page2 : List ℕ) (size : ℕ) → length page1 ≡ size → length page2 ≡ size → 0 < size
-    → IsOverlay file size (two_pages page1 page2) (page1 ++ page2)
-overlay-of_two_pages file page1 page2 size long1 long2 some =
-    let one : page_at size 1 (page1 ++ page2) ≡ page1 = page_at-whole size 1 [] page1 page2 (omega arith) long1 in
-    let two : page_at size 2 (page1 ++ page2) ≡ page2 =
-    ap (λ (b : List ℕ). page_at size 2 (page1 ++ b)) (sym (append-nil page2)) ∙ page_at-whole size 2 page1 page2 [] (omega arith) long2 in
-    record {
-      without = λ none. cc;
-      size = λ commits. omega (arith, length-append page1 page2);
-      each = λ commits. each-of_two_pages file page1 page2 size one two;
-    }
+pub overlay-of_two_pages : (base : PageMap) (page1 page2 : List ℕ) (size : ℕ) → base.size ≡ size → length page1 ≡ size → length page2 ≡ size
+    → IsOverlay base (two_pages page1 page2) (pages_of size 2 (page1 ++ page2))
+overlay-of_two_pages base page1 page2 size sized long1 long2 = record {
+  size = sized;
+  count = refl;
+  each = each-of_two_pages base page1 page2 size (page-of_two page1 page2 size long1 long2);
+}

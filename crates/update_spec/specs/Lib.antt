@@ -1,7 +1,6 @@
-pub mod SmallFile
-pub mod Outcome
 pub mod View
 pub mod ViewLaws
+pub mod Update
 pub mod Answer
 pub mod Words
 pub mod Text

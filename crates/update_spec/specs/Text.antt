@@ -11,7 +11,7 @@ use Rattle.update_spec.specs.declared.Answer.TheVariants.{Usage, Ended, Fault, N
 -- what the program says of an outcome
 abbrev pub outcome_text : Outcome → List ℕ
 outcome_text Done = codes "done"
-outcome_text (KeyPresent data_rowid) = codes "constraint key-present t1 " ++ signed_decimal data_rowid
+outcome_text (KeyPresent table data_rowid) = codes "constraint key-present " ++ (table ++ (codes " " ++ signed_decimal data_rowid))
 outcome_text (Refused refusal) = codes "refused " ++ refusal_text refusal
 
 -- what the program says of an answer
@@ -28,7 +28,7 @@ answer_line answer = answer_text answer ++ 10 ∷ []
 -- the status of an outcome
 abbrev pub outcome_status : Outcome → ℕ
 outcome_status Done = 0
-outcome_status (KeyPresent data_rowid) = 3
+outcome_status (KeyPresent table data_rowid) = 3
 outcome_status (Refused refusal) = 4
 
 -- the status with which the program ends

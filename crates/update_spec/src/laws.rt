@@ -1,9 +1,10 @@
 // Laws about the definitions.
-ghost use Rattle.std.specs.Prelude.{◌≡◌, ℕ, List};
 ghost use Rattle.file_spec.specs.Files.{Files};
+ghost use Rattle.format_spec.specs.PageMap.{PageMap, SamePages};
 ghost use Rattle.update_spec.specs.View.{IsView};
 
-/// A reader of the files sees one list of bytes.
+/// A reader of the files sees one list of pages, as far as they matter; and whatever has those is what it sees.
 pub fn view_is_one()
-    ensures { (files : Files) (a b : List ℕ) → IsView files a → IsView files b → a ≡ b }
+    ensures one { (files : Files) (a b : PageMap) → IsView files a → IsView files b → SamePages a b }
+    ensures same { (files : Files) (a b : PageMap) → IsView files a → SamePages a b → IsView files b }
 {}

@@ -1,33 +1,17 @@
-//! What an update is: its input, its outcome, and what the program says of it.
+//! What an update is: its outcome, what a reader sees of it, and what the program says of it.
 //!
 //! A crate of definitions, and of the types that they speak of. Crates above cite, from `specs/`:
 //!
-//! - `SmallFile`: the databases that can be updated today, and the rows that they hold;
-//! - `Outcome`: what the prepared rows make of the target, or their constraint fault;
-//! - `View`: what a reader of the files sees, the target overlaid by its log;
-//! - `ViewLaws`: that is one list of bytes, as `view_is_one` promises;
-//! - `Answer`: which answer the files and words have, in the order of the refusals;
+//! - `Update`: an update, as the outcome of files and the new database that it makes; and what a call leaves of the files;
+//! - `View`: what a reader of the files sees, the pages of the target overlaid by its log;
+//! - `ViewLaws`: those are one list of pages, as `view_is_one` promises;
+//! - `Answer`: which answer the files and words have;
 //! - `Words` and `Text`: the words of each command, and the line of each answer.
 #![tactic(auto)]
 
 use file_spec::{DiskCall, FileName};
-use rbu_value::{Bytes, Value};
+use rbu_value::Bytes;
 use refusal::Refusal;
-
-/// A row of the target's table, with the bytes of its cell.
-#[derive(Drop)]
-pub struct TargetRow {
-    pub rowid: i64,
-    pub cell: Bytes,
-}
-
-/// A row that is to be inserted, with its rowid in the `data_` table. The value is NULL or a text.
-#[derive(Drop)]
-pub struct PreparedRow {
-    pub data_rowid: i64,
-    pub key: i64,
-    pub value: Value,
-}
 
 /// The commands, with the numbers that their words give.
 #[derive(Clone, Copy, Debug, PartialEq, Eq)]
@@ -49,18 +33,18 @@ pub enum Command {
 }
 
 /// What a call of `apply` comes to where no device fails and memory suffices.
-#[derive(Clone, Copy, Debug, PartialEq, Eq)]
+#[derive(Drop)]
 pub enum Outcome {
     /// The update is done.
     Done,
-    /// A prepared insert has the key of an old row. The rowid is that of the prepared row.
-    KeyPresent { data_rowid: i64 },
+    /// A prepared insert has the key of an old row of this table. The rowid is that of the prepared row.
+    KeyPresent { table: Bytes, data_rowid: i64 },
     /// The input is refused.
     Refused { refusal: Refusal },
 }
 
 /// What a command comes to.
-#[derive(Clone, Copy, Debug, PartialEq, Eq)]
+#[derive(Drop)]
 pub enum Answer {
     /// The words are those of no command.
     Usage,
@@ -76,4 +60,4 @@ mod laws;
 mod worked;
 
 pub use laws::view_is_one;
-pub use worked::{worked_lines, worked_rows, worked_statuses, worked_view};
+pub use worked::{worked_lines, worked_statuses, worked_view};

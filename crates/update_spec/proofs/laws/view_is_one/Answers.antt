@@ -1,5 +1,8 @@
-use Rattle.update_spec.specs.ViewLaws.{same_view}
+use Rattle.update_spec.specs.ViewLaws.{same_view, view-same}
 use Rattle.update_spec.proofs.laws.view_is_one.Goals as goal
 
-pub returns : goal.returns
-returns c = same_view
+pub returns-clause-one : goal.returns-clause-one
+returns-clause-one c = same_view
+
+pub returns-clause-same : goal.returns-clause-same
+returns-clause-same c = view-same

@@ -1,23 +1,30 @@
-use Rattle.std.proofs.Common.{◌≡◌, ℕ, zero, suc, ◌<◌, ◌≤◌, [], ◌∷◌, ◌++◌, replicate, unwrap_or, refl, arith}
-use Rattle.byte_fields.specs.Numbers.{page_at}
-use Rattle.format_spec.specs.Log.{last_frame_of}
+use Rattle.std.proofs.Common.{◌≡◌, ℕ, zero, suc, ◌<◌, ◌≤◌, List, [], ◌∷◌, ◌++◌, replicate, refl, arith}
+use Rattle.format_spec.specs.PageMap.{pages_of}
+use Rattle.format_spec.specs.Log.{overlay}
 use Rattle.format_spec.specs.LittleLog.{little_page, little_frame}
 use Rattle.update_spec.proofs.worked.worked_view.Goals as goal
 
+abbrev first : List ℕ
+first = replicate 16 0 ++ 2 ∷ 0 ∷ replicate 494 0
+
+-- the one page of the file by itself
+alone_page : (n : ℕ) → 0 < n → n ≤ 1 → (pages_of 512 1 (first ++ 1 ∷ [])).page n ≡ (pages_of 512 1 first).page n
+alone_page zero low high = absurd (omega arith)
+alone_page (suc zero) low high = refl
+alone_page (suc (suc n)) low high = absurd (omega arith)
+
 -- the pages up to the commit
-page_is : (n : ℕ) → 0 < n → n ≤ 2
-    → page_at 512 n (replicate 512 7 ++ little_page) ≡ unwrap_or (last_frame_of n (little_frame ∷ [])) (page_at 512 n (replicate 512 7))
-page_is zero low high = absurd (omega arith)
-page_is (suc zero) low high = refl
-page_is (suc (suc zero)) low high = refl
-page_is (suc (suc (suc n))) low high = absurd (omega arith)
+logged_page : (n : ℕ) → 0 < n → n ≤ 2 → (overlay (pages_of 512 1 first) (little_frame ∷ [])).page n ≡ (pages_of 512 2 (first ++ little_page)).page n
+logged_page zero low high = absurd (omega arith)
+logged_page (suc zero) low high = refl
+logged_page (suc (suc zero)) low high = refl
+logged_page (suc (suc (suc n))) low high = absurd (omega arith)
 
 pub returns-clause-alone : goal.returns-clause-alone
-returns-clause-alone c = refl
+returns-clause-alone c = record { size = refl; count = refl; each = alone_page }
 
 pub returns-clause-logged : goal.returns-clause-logged
-returns-clause-logged c =
-    (512, little_frame ∷ [], c.worked_log.ensures, record { without = λ none. cc; size = λ commits. refl; each = λ commits. page_is })
+returns-clause-logged c = (512, little_frame ∷ [], c.worked_log.ensures, record { size = refl; count = refl; each = logged_page })
 
 pub returns-clause-hidden : goal.returns-clause-hidden
-returns-clause-hidden c = λ bytes. ((λ seen. seen), (λ seen. seen))
+returns-clause-hidden c = λ pages. ((λ seen. seen), (λ seen. seen))

@@ -1,18 +1,18 @@
 -- What the prepared rows of a small RBU database make of a small target.
-use Rattle.std.specs.Prelude.{◌≡◌, ℕ, ◌+◌, ◌%◌, ◌^◌, ◌<◌, ◌≤ℤ◌, List, [], ◌∷◌, ◌++◌, length, map, sum_by, slice_index_or, Contains, IsPermutation}
+use Rattle.std.specs.Prelude.{◌≢◌, ℕ, ◌+◌, ◌%◌, ◌^◌, ◌≤ℤ◌, List, [], ◌∷◌, ◌++◌, length, map, sum_by, Contains, AllPairs, IsPermutation}
 use Rattle.rbu_value.specs.declared.value.Value.TheVariants.{Null}
 use Rattle.byte_fields.specs.Numbers.{page_at, with_number_at}
 use Rattle.format_spec.specs.Record.{canonical_record}
 use Rattle.format_spec.specs.Cell.{table_leaf_cell}
 use Rattle.format_spec.specs.Page.{packed_leaf}
 use Rattle.format_spec.specs.Header.{change_counter, schema_cookie}
-use Rattle.update_spec.specs.declared.TargetRow.{TargetRow}
-use Rattle.update_spec.specs.declared.PreparedRow.{PreparedRow}
-use Rattle.update_spec.specs.SmallFile.{IsRising}
+use Rattle.small_spec.specs.declared.TargetRow.{TargetRow}
+use Rattle.small_spec.specs.declared.PreparedRow.{PreparedRow}
+use Rattle.small_spec.specs.SmallFile.{IsRisingBy}
 
--- two prepared rows have one key
-abbrev pub SharesKey : List PreparedRow → Type 0
-SharesKey rows = (j : ℕ) × (k : ℕ) × (j < k) × (k < length rows) × ((d : PreparedRow) → (slice_index_or rows j d).key ≡ (slice_index_or rows k d).key)
+-- no two prepared rows have one key
+abbrev pub HasDistinctKeys : List PreparedRow → Type 0
+HasDistinctKeys rows = AllPairs (λ a b. a.key ≢ b.key) rows
 
 -- the row that a prepared insert makes
 abbrev pub inserted : PreparedRow → TargetRow
@@ -30,6 +30,10 @@ page_room rows = 8 + sum_by (λ row. length row.cell + 2) rows
 abbrev pub IsPresent : List TargetRow → PreparedRow → Type 0
 IsPresent old row = Contains (map (λ target. target.rowid) old) row.key
 
+-- no key of a prepared row is an old rowid
+abbrev pub NonePresent : List TargetRow → List PreparedRow → Type 0
+NonePresent old prepared = (row : PreparedRow) → Contains prepared row → ¬ IsPresent old row
+
 -- of the prepared rows whose key is an old rowid, this one has the least
 pub record IsFirstPresent (old : List TargetRow) (prepared : List PreparedRow) (row : PreparedRow) : Type 0 where
   pub among : Contains prepared row
@@ -39,7 +43,7 @@ pub record IsFirstPresent (old : List TargetRow) (prepared : List PreparedRow) (
 -- all rows, in order of their rowids
 pub record IsMerged (old : List TargetRow) (prepared : List PreparedRow) (rows : List TargetRow) : Type 0 where
   pub same_rows : IsPermutation (all_rows old prepared) rows
-  pub rising : IsRising (map (λ row. row.rowid) rows)
+  pub rising : IsRisingBy (λ row. row.rowid) rows
 
 -- one more, in 32 bits
 abbrev pub raised : ℕ → ℕ

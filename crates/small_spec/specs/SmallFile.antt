@@ -36,17 +36,30 @@ pub record IsSmallHeader (bytes : List ℕ) : Type 0 where
   pub state : HasFields small_state bytes
   pub valid : version_valid_for bytes ≡ change_counter bytes
 
--- The cell is a table's row with this rowid: its payload lies in it whole, and is the canonical record of the values.
-pub record IsRowCell (cell : List ℕ) (rowid : ℤ) (values : List Value) : Type 0 where
+-- The cell is a table's at this rowid, and its payload lies in it whole.
+pub record IsWholeCell (cell : List ℕ) (rowid : ℤ) (payload : List ℕ) : Type 0 where
   pub view : CellView
   pub is_cell : IsCell TableLeaf 4096 cell view
   pub rowid_is : view.rowid ≡ rowid
   pub whole : view.local ≡ view.payload
-  pub record_is : part_of cell view.local_at view.local ≡ canonical_record 4 values
+  pub payload_is : part_of cell view.local_at view.local ≡ payload
 
--- the one row of the schema: a table with root page 2 (Database File Format, section 2.6)
-abbrev pub schema_values : List ℕ → List ℕ → List Value
-schema_values name text = Text (codes "table") ∷ Text name ∷ Text name ∷ Int (pos 2) ∷ Text text ∷ []
+-- the cell is a table's row with this rowid: its payload is the canonical record of the values
+abbrev pub IsRowCell : List ℕ → ℤ → List Value → Type 0
+IsRowCell cell rowid values = IsWholeCell cell rowid (canonical_record 4 values)
+
+-- the record of the one row of the schema: a table with root page 2 (Database File Format, section 2.6)
+abbrev pub schema_record : List ℕ → List ℕ → List ℕ
+schema_record name text = canonical_record 4 (Text (codes "table") ∷ Text name ∷ Text name ∷ Int (pos 2) ∷ Text text ∷ [])
+
+-- The bytes are a small file: a header, a page with the one row of the schema, and a page with the cells of its table.
+pub record IsSmallFile (bytes schema : List ℕ) (cells : List (List ℕ)) : Type 0 where
+  pub long : length bytes ≡ 8192
+  pub header : IsSmallHeader bytes
+  pub schema_cell : List ℕ
+  pub schema_page : IsPage (page_at 4096 1 bytes) 1 4096 TableLeaf (schema_cell ∷ []) 0
+  pub schema_row : IsWholeCell schema_cell (pos 1) schema
+  pub table_page : IsPage (page_at 4096 2 bytes) 2 4096 TableLeaf cells 0
 
 -- the keys of the rows rise
 abbrev pub IsRisingBy : {Row : Type 0} → (Row → ℤ) → List Row → Type 0
@@ -59,15 +72,10 @@ pub record Table (Row : Type 0) : Type 1 where
   pub IsRow : List ℕ → Row → Type 0
   pub rowid : Row → ℤ
 
--- The bytes are a small file of the table with these rows, in order of their rowids.
+-- the bytes are a small file of the table with these rows, in order of their rowids
 pub record IsSmall {Row : Type 0} (table : Table Row) (bytes : List ℕ) (rows : List Row) : Type 0 where
-  pub long : length bytes ≡ 8192
-  pub header : IsSmallHeader bytes
-  pub schema_cell : List ℕ
-  pub schema_page : IsPage (page_at 4096 1 bytes) 1 4096 TableLeaf (schema_cell ∷ []) 0
-  pub schema_row : IsRowCell schema_cell (pos 1) (schema_values table.name table.text)
   pub cells : List (List ℕ)
-  pub table_page : IsPage (page_at 4096 2 bytes) 2 4096 TableLeaf cells 0
+  pub file : IsSmallFile bytes (schema_record table.name table.text) cells
   pub each : AllZip table.IsRow cells rows
   pub rising : IsRisingBy table.rowid rows
 

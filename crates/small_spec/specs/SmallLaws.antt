@@ -48,7 +48,7 @@ sees_new-bytes before after bytes new seen =
 -- an update that is finished to the byte is done
 pub IsFinished-done : (before after : Files) → IsFinished before after → IsDone small_inserts before after
 IsFinished-done before after finished = record {
-  sees_new = sees_new-bytes before after finished.bytes finished.new_bytes (view-small after finished.bytes finished.new_bytes.holds_rows.header finished.target finished.no_wal);
+  sees_new = sees_new-bytes before after finished.bytes finished.new_bytes (view-small after finished.bytes finished.new_bytes.holds_rows.file.header finished.target finished.no_wal);
   no_oal = finished.no_oal;
   no_wal = finished.no_wal;
   others = finished.others;

@@ -1,8 +1,8 @@
-pub mod CellLists
-pub mod Found
-pub mod HeaderParts
+pub mod CellRows
 pub mod Marks
 pub mod PageCells
 pub mod Pages
+pub mod Readings
 pub mod Records
+pub mod Rising
 pub mod Rows

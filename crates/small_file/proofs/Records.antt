@@ -9,7 +9,7 @@ use Rattle.record_codec.specs.RecordLaws.{IsStored, HaveRecord, record_size, sho
 use Rattle.record_codec.specs.declared.read.RecordFault.{RecordFault}
 use Rattle.record_codec.specs.declared.read.RecordFault.TheVariants.{ShortHeader, ReservedType, RealValue, BodyLength, Memory}
 use Rattle.record_codec.specs.Faults.{IsMemory}
-use Rattle.update_spec.specs.SmallFile.{IsNullOrText}
+use Rattle.small_spec.specs.SmallFile.{IsNullOrText}
 use Rattle.small_file.specs.Records.{target_values, prepared_values}
 
 stored : (value : Value) → IsNullOrText value → length (body 4 value) ≤ 4096 → IsStored value

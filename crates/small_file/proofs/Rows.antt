@@ -1,5 +1,5 @@
 -- The rows that cells are.
-use Rattle.std.proofs.Common.{◌≡◌, ℕ, ◌+◌, ◌-◌, ◌≤◌, ℤ, List, [], ◌∷◌, ◌++◌, length, map, get_or, take, drop, replicate, refl, sym, ◌∙◌, ap, Option, Some, None, subst, length-append, length-drop, arith}
+use Rattle.std.proofs.Common.{◌≡◌, ℕ, ◌+◌, ◌-◌, ◌≤◌, ℤ, pos, List, [], ◌∷◌, ◌++◌, length, map, get_or, take, drop, replicate, refl, sym, ◌∙◌, ap, Option, Some, None, subst, length-append, length-drop, arith}
 use Rattle.std.proofs.lemmas.List.{length-map, take_all, take-take, drop-take, drop-drop, append-nil}
 use Rattle.std.specs.Option.{IfNone}
 use Rattle.byte_fields.specs.Bytes.{part_of, resized}
@@ -10,11 +10,10 @@ use Rattle.format_spec.specs.Cell.{IsCell}
 use Rattle.byte_fields.specs.Numbers.{page_at}
 use Rattle.format_spec.specs.Record.{canonical_record}
 use Rattle.format_spec.specs.Page.{IsPage}
-use Rattle.update_spec.specs.SmallFile.{IsRowCell, IsSmall, IsSmallHeader}
-use Rattle.small_file.specs.declared.file.Database.{Database}
+use Rattle.small_spec.specs.SmallFile.{IsWholeCell, IsSmallFile, IsSmallHeader}
 use Rattle.small_file.specs.declared.page.PlacedCell.{PlacedCell}
 use Rattle.small_file.specs.Pages.{cell_of, IsPlaced, HoldsCells}
-use Rattle.small_file.specs.Files.{payload_of, table_name, table_text, IsSchemaRow, HasSchema, HoldsTable}
+use Rattle.small_file.specs.Files.{payload_of, HasSchema, HoldsTable}
 use Rattle.small_file.proofs.Pages.{cell_length}
 
 -- the bytes of a placed cell have one view
@@ -23,24 +22,25 @@ same_view page cell view long h w =
     let size : view.size ≡ cell.view.size = w.size ∙ cell_length page cell h in
     h.only view (omega (arith, size, h.inside, length-drop cell.place page, long)) (subst (λ n. IsCell TableLeaf 4096 (part_of page cell.place n) view) (sym size) w)
 
--- what makes a placed cell a row
-pub row_from : (page : List ℕ) (cell : PlacedCell) (values : List Value) → IsPlaced page cell → cell.view.local ≡ cell.view.payload → payload_of page cell ≡ canonical_record 4 values
-    → IsRowCell (cell_of page cell) cell.view.rowid values
-row_from page cell values h whole e = record { view = cell.view; is_cell = h.is_cell; rowid_is = refl; whole = whole; record_is = e }
+-- what makes a placed cell a whole cell
+pub whole_from : (page : List ℕ) (cell : PlacedCell) (payload : List ℕ) → IsPlaced page cell → cell.view.local ≡ cell.view.payload → payload_of page cell ≡ payload
+    → IsWholeCell (cell_of page cell) cell.view.rowid payload
+whole_from page cell payload h whole e = record { view = cell.view; is_cell = h.is_cell; rowid_is = refl; whole = whole; payload_is = e }
 
--- and what a row says of it
-pub record RowParts (page : List ℕ) (cell : PlacedCell) (rowid : ℤ) (values : List Value) : Type 0 where
+-- and what a whole cell says of it
+pub record WholeParts (page : List ℕ) (cell : PlacedCell) (rowid : ℤ) (payload : List ℕ) : Type 0 where
   pub rowid_is : cell.view.rowid ≡ rowid
   pub whole : cell.view.local ≡ cell.view.payload
-  pub record_is : payload_of page cell ≡ canonical_record 4 values
+  pub payload_is : payload_of page cell ≡ payload
 
-pub row_parts : (page : List ℕ) (cell : PlacedCell) (rowid : ℤ) (values : List Value) → length page ≡ 4096 → IsPlaced page cell → IsRowCell (cell_of page cell) rowid values → RowParts page cell rowid values
-row_parts page cell rowid values long h w =
+pub whole_parts : (page : List ℕ) (cell : PlacedCell) (rowid : ℤ) (payload : List ℕ) → length page ≡ 4096 → IsPlaced page cell → IsWholeCell (cell_of page cell) rowid payload
+    → WholeParts page cell rowid payload
+whole_parts page cell rowid payload long h w =
     let same = same_view page cell w.view long h w.is_cell in
     record {
       rowid_is = ap (λ v. v.rowid) (sym same) ∙ w.rowid_is;
       whole = subst (λ v. v.local ≡ v.payload) same w.whole;
-      record_is = ap (λ v. part_of (cell_of page cell) v.local_at v.local) (sym same) ∙ w.record_is;
+      payload_is = ap (λ v. part_of (cell_of page cell) v.local_at v.local) (sym same) ∙ w.payload_is;
     }
 
 -- the local payload lies in the cell
@@ -83,34 +83,34 @@ one_element (x ∷ []) d e = refl
 one_element (x ∷ y ∷ xs) d e = absurd (omega arith)
 
 -- the schema's page, read
-pub schema_from : (page : List ℕ) (cells : List PlacedCell) (cell : PlacedCell) (database : Database) → HoldsCells page 1 cells → cells ≡ cell ∷ [] → IsSchemaRow (cell_of page cell) database → HasSchema page database
-schema_from page cells cell database h e w = (cell_of page cell, subst (λ s. IsPage page 1 4096 TableLeaf (map (cell_of page) s) 0) e h.is_page, w)
+pub schema_from : (page schema : List ℕ) (cells : List PlacedCell) (cell : PlacedCell) → HoldsCells page 1 cells → cells ≡ cell ∷ [] → IsWholeCell (cell_of page cell) (pos 1) schema → HasSchema page schema
+schema_from page schema cells cell h e w = (cell_of page cell, subst (λ s. IsPage page 1 4096 TableLeaf (map (cell_of page) s) 0) e h.is_page, w)
 
-pub schema_of : (page : List ℕ) (cells : List PlacedCell) (cell : PlacedCell) (database : Database) → HoldsCells page 1 cells → cells ≡ cell ∷ [] → HasSchema page database → IsSchemaRow (cell_of page cell) database
-schema_of page cells cell database h e w =
+pub schema_of : (page schema : List ℕ) (cells : List PlacedCell) (cell : PlacedCell) → HoldsCells page 1 cells → cells ≡ cell ∷ [] → HasSchema page schema → IsWholeCell (cell_of page cell) (pos 1) schema
+schema_of page schema cells cell h e w =
     let all : w.0 ∷ [] ≡ cell_of page cell ∷ [] = h.only (w.0 ∷ []) 0 w.1 ∙ ap (map (cell_of page)) e in
-    subst (λ s. IsSchemaRow s database) (ap (λ s. get_or s 0 []) all) w.2
+    subst (λ s. IsWholeCell s (pos 1) schema) (ap (λ s. get_or s 0 []) all) w.2
 
-pub schema_one : (page : List ℕ) (cells : List PlacedCell) (database : Database) → HoldsCells page 1 cells → HasSchema page database → length cells ≡ 1
-schema_one page cells database h w = sym (length-map cells (cell_of page)) ∙ sym (ap length (h.only (w.0 ∷ []) 0 w.1))
+pub schema_one : (page schema : List ℕ) (cells : List PlacedCell) → HoldsCells page 1 cells → HasSchema page schema → length cells ≡ 1
+schema_one page schema cells h w = sym (length-map cells (cell_of page)) ∙ sym (ap length (h.only (w.0 ∷ []) 0 w.1))
 
 -- the whole file, from its pages
-module _ (bytes : List ℕ) (database : Database) where
-  pub small_has_schema : (cells : List (List ℕ)) → IsSmall (table_name database) (table_text database) bytes cells → HasSchema (take 4096 bytes) database
+module _ (bytes schema : List ℕ) where
+  pub small_has_schema : (cells : List (List ℕ)) → IsSmallFile bytes schema cells → HasSchema (take 4096 bytes) schema
   small_has_schema cells s = (s.schema_cell, subst (λ p. IsPage p 1 4096 TableLeaf (s.schema_cell ∷ []) 0) (first_page bytes s.long) s.schema_page, s.schema_row)
 
-  pub small_has_table : (cells : List (List ℕ)) → IsSmall (table_name database) (table_text database) bytes cells → IsPage (drop 4096 bytes) 2 4096 TableLeaf cells 0
+  pub small_has_table : (cells : List (List ℕ)) → IsSmallFile bytes schema cells → IsPage (drop 4096 bytes) 2 4096 TableLeaf cells 0
   small_has_table cells s = subst (λ p. IsPage p 2 4096 TableLeaf cells 0) (second_page bytes s.long) s.table_page
 
-  pub holds_table : (cells : List PlacedCell) → length bytes ≡ 8192 → IsSmallHeader bytes → HasSchema (take 4096 bytes) database → HoldsCells (drop 4096 bytes) 2 cells → HoldsTable bytes database cells
-  holds_table cells long header schema h = record {
+  pub holds_table : (cells : List PlacedCell) → length bytes ≡ 8192 → IsSmallHeader bytes → HasSchema (take 4096 bytes) schema → HoldsCells (drop 4096 bytes) 2 cells → HoldsTable bytes schema cells
+  holds_table cells long header has_schema h = record {
     second = h;
-    small = record {
+    file = record {
       long = long;
       header = header;
-      schema_cell = schema.0;
-      schema_page = subst (λ p. IsPage p 1 4096 TableLeaf (schema.0 ∷ []) 0) (sym (first_page bytes long)) schema.1;
-      schema_row = schema.2;
+      schema_cell = has_schema.0;
+      schema_page = subst (λ p. IsPage p 1 4096 TableLeaf (has_schema.0 ∷ []) 0) (sym (first_page bytes long)) has_schema.1;
+      schema_row = has_schema.2;
       table_page = subst (λ p. IsPage p 2 4096 TableLeaf (map (cell_of (drop 4096 bytes)) cells) 0) (sym (second_page bytes long)) h.is_page;
     };
   }

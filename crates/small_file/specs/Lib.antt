@@ -1,5 +1,3 @@
 pub mod Files
-pub mod Headers
 pub mod Records
 pub mod Pages
-pub mod CellRows

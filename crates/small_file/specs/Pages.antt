@@ -1,5 +1,5 @@
 -- Where the cells of a page stand.
-use Rattle.std.specs.Prelude.{◌≡◌, ℕ, ◌+◌, ◌*◌, ◌<◌, ◌≤◌, List, length, map, max, drop, slice_index_or}
+use Rattle.std.specs.Prelude.{◌≡◌, ℕ, ◌+◌, ◌*◌, ◌<◌, ◌≤◌, List, length, map, max, drop, slice_index_or, AllPairs}
 use Rattle.std.specs.List.{All}
 use Rattle.byte_fields.specs.Bytes.{part_of}
 use Rattle.format_spec.specs.declared.PageKind.TheVariants.{TableLeaf}
@@ -31,8 +31,7 @@ pub record IsPlacedAt (page : List ℕ) (number count k : ℕ) (cell : PlacedCel
 -- they are the first cells of a page that counts so many, and do not overlap
 pub record AreFirst (page : List ℕ) (number count : ℕ) (cells : List PlacedCell) : Type 0 where
   pub each : (k : ℕ) (d : PlacedCell) → k < length cells → IsPlacedAt page number count k (slice_index_or cells k d)
-  pub apart : (j k : ℕ) (d : PlacedCell) → j < k → k < length cells →
-      AreApart (slice_index_or cells j d).place (room_of (slice_index_or cells j d)) (slice_index_or cells k d).place (room_of (slice_index_or cells k d))
+  pub apart : AllPairs (λ a b. AreApart a.place (room_of a) b.place (room_of b)) cells
 
 -- they are all of them
 pub record ArePlaced (page : List ℕ) (number count : ℕ) (cells : List PlacedCell) : Type 0 where

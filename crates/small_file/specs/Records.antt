@@ -3,7 +3,7 @@ use Rattle.std.specs.Prelude.{◌≡◌, ℕ, ℤ, pos, List, [], ◌∷◌}
 use Rattle.rbu_value.specs.declared.value.Value.{Value}
 use Rattle.rbu_value.specs.declared.value.Value.TheVariants.{Null, Int}
 use Rattle.format_spec.specs.Record.{canonical_record}
-use Rattle.update_spec.specs.SmallFile.{IsNullOrText}
+use Rattle.small_spec.specs.SmallFile.{IsNullOrText}
 
 -- the values of a target's row: NULL in the key's place, and a value
 abbrev pub target_values : Value → List Value

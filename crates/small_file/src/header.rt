@@ -1,8 +1,7 @@
 // Tests the database header of small files (Database File Format, section 1.3).
 ghost use Rattle.std.specs.Prelude.{◌≡◌, ◌↔◌, ◌≤◌, IsTrue, length};
 ghost use Rattle.format_spec.specs.Header.{HasMagic, version_valid_for, change_counter};
-ghost use Rattle.update_spec.specs.SmallFile.{IsSmallHeader};
-ghost use Rattle.small_file.specs.Headers.{HasLayout, HasState};
+ghost use Rattle.small_spec.specs.SmallFile.{IsSmallHeader, HasFields, small_layout, small_state};
 
 use crate::number::{u16_at, u32_at};
 
@@ -18,7 +17,7 @@ fn has_magic(bytes: &[u8]) -> bool
 // Whether the fields of one and two bytes are those of a small file.
 fn has_layout(bytes: &[u8]) -> bool
     requires { 100 ≤ length bytes.now }
-    ensures { IsTrue result ↔ HasLayout bytes.now }
+    ensures { IsTrue result ↔ HasFields small_layout bytes.now }
 {
     u16_at(bytes, 16) == 4096
         && bytes[18] == 1
@@ -32,7 +31,7 @@ fn has_layout(bytes: &[u8]) -> bool
 // Whether the fields of four bytes are those of a small file.
 fn has_state(bytes: &[u8]) -> bool
     requires { 100 ≤ length bytes.now }
-    ensures { IsTrue result ↔ HasState bytes.now }
+    ensures { IsTrue result ↔ HasFields small_state bytes.now }
 {
     u32_at(bytes, 28) == 2
         && u32_at(bytes, 32) == 0

@@ -3,7 +3,7 @@ use rbu_value::Value;
 use std::alloc::{AllocError, Global};
 use std::process::Abort;
 use std::test::Fail;
-use update_spec::{PreparedRow, TargetRow};
+use small_spec::{PreparedRow, TargetRow};
 
 // The bytes of a file that differ from zero, each part with its place.
 type Parts<'a> = &'a [(usize, &'a [u8])];

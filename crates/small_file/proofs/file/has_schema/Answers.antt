@@ -18,4 +18,4 @@ returns-in-len1 c =
     let holds : HoldsCells page 1 items = MatchOption-at_some _ (λ cells. HoldsCells page 1 cells.items) c.in-Some.cells c.in-Some.is c.in_ok-cells.ensures.found in
     let cell = get_or c.as_slice.result.now 0 no_cell in
     let one : items ≡ cell ∷ [] = sym c.as_slice.ensures.value ∙ one_element c.as_slice.result.now no_cell (omega (arith, c.in-len1.len_at_least, c.in-len1.len_below)) in
-    (λ t. schema_from page items cell c.args.database holds one (c.is_schema_row.ensures.0 t), λ w. c.is_schema_row.ensures.1 (schema_of page items cell c.args.database holds one w))
+    (λ t. schema_from page c.args.schema.now items cell holds one (c.is_schema_row.ensures.0 t), λ w. c.is_schema_row.ensures.1 (schema_of page c.args.schema.now items cell holds one w))

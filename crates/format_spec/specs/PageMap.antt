@@ -1,6 +1,6 @@
 -- Pages by their numbers beside a count: what a database file, a file under a log, and a store of pages come to.
 use Rattle.std.specs.Prelude.{◌≡◌, ℕ, ◌/◌, ◌<◌, ◌≤◌, ◌==◌, ◌&&◌, nat_lt, if◌then◌else◌, List, length}
-use Rattle.format_spec.specs.Numbers.{page_at}
+use Rattle.byte_fields.specs.Numbers.{page_at}
 use Rattle.format_spec.specs.Header.{page_size, pages, change_counter, version_valid_for}
 
 -- Pages of one size by their numbers, which count from 1. What stands past the count does not matter.

@@ -2,7 +2,8 @@
 use Rattle.std.proofs.Common.{◌≡◌, ℕ, ◌+◌, ◌-◌, ◌≤◌, ℤ, pos, List, [], ◌∷◌, ◌++◌, length, map, get_or, take, drop, replicate, refl, sym, ◌∙◌, ap, Option, Some, None, subst, length-append, length-drop, arith}
 use Rattle.std.proofs.lemmas.List.{length-map, take_all, take-take, drop-take, drop-drop, append-nil}
 use Rattle.std.specs.Option.{IfNone}
-use Rattle.byte_fields.specs.Bytes.{part_of, resized}
+use Rattle.byte_fields.specs.Bytes.{part_of}
+use Rattle.byte_fields.specs.BytesLaws.{resized-short}
 use Rattle.rbu_value.specs.declared.value.Value.{Value}
 use Rattle.format_spec.specs.declared.PageKind.TheVariants.{TableLeaf}
 use Rattle.format_spec.specs.declared.CellView.{CellView}
@@ -57,25 +58,14 @@ local_inside bytes view h =
       length-append h.local_bytes h.overflow_bytes,
     )
 
-pub inner_part : (xs : List ℕ) (place size at n : ℕ) → at + n ≤ size → take n (drop (place + at) xs) ≡ part_of (part_of xs place size) at n
-inner_part xs place size at n h =
-    let m = size - at in
-    let split : size ≡ at + m = omega arith in
-    sym (ap (take n) (ap (λ k. drop at (take k (drop place xs))) split ∙ drop-take at m (drop place xs)) ∙ take-take n m (drop at (drop place xs)) (omega arith) ∙ ap (take n) (drop-drop at place xs))
-
 -- the pages of a file of two
-pub resized_short : (bytes : List ℕ) (n : ℕ) → n ≤ length bytes → resized bytes n ≡ take n bytes
-resized_short bytes n h =
-    let none : n - length bytes ≡ 0 = omega arith in
-    ap (λ k. take n bytes ++ replicate k 0) none ∙ append-nil (take n bytes)
-
 pub first_page : (bytes : List ℕ) → length bytes ≡ 8192 → page_at 4096 1 bytes ≡ take 4096 bytes
-first_page bytes h = resized_short bytes 4096 (omega arith)
+first_page bytes h = resized-short bytes 4096 (omega arith)
 
 pub second_page : (bytes : List ℕ) → length bytes ≡ 8192 → page_at 4096 2 bytes ≡ drop 4096 bytes
 second_page bytes h =
     let long : length (drop 4096 bytes) ≡ 4096 = omega (arith, length-drop 4096 bytes) in
-    resized_short (drop 4096 bytes) 4096 (omega arith) ∙ take_all 4096 (drop 4096 bytes) (omega arith)
+    resized-short (drop 4096 bytes) 4096 (omega arith) ∙ take_all 4096 (drop 4096 bytes) (omega arith)
 
 pub one_element : {X : Type 0} (xs : List X) (d : X) → length xs ≡ 1 → xs ≡ get_or xs 0 d ∷ []
 one_element [] d e = absurd (omega arith)

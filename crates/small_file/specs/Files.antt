@@ -1,6 +1,6 @@
 -- The pages of a small file, as they are read.
 use Rattle.std.specs.Prelude.{ℕ, pos, List, [], ◌∷◌, map, drop}
-use Rattle.file_spec.specs.Files.{part_of}
+use Rattle.byte_fields.specs.Bytes.{part_of}
 use Rattle.format_spec.specs.declared.PageKind.TheVariants.{TableLeaf}
 use Rattle.format_spec.specs.Page.{IsPage}
 use Rattle.small_spec.specs.SmallFile.{IsWholeCell, IsSmallFile}

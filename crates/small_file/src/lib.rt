@@ -9,7 +9,6 @@ ghost use Rattle.small_spec.specs.SmallFile.{IsSmallTarget, IsSmallRbu};
 
 mod file;
 mod header;
-mod number;
 mod page;
 mod rbu;
 mod record;

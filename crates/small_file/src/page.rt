@@ -4,7 +4,7 @@ ghost use Rattle.format_spec.specs.declared.PageKind.TheVariants.{TableLeaf};
 ghost use Rattle.format_spec.specs.Page.{IsPage, IsCellAt, header_place, array_place};
 ghost use Rattle.small_file.specs.Pages.{IsPlacedAt, ArePlaced, HoldsCells};
 
-use crate::number::u16_at;
+use byte_fields::u16_at;
 use cell_codec::{CellView, PageKind, read_cell};
 use std::alloc::{AllocError, Global};
 

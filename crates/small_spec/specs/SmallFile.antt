@@ -4,10 +4,10 @@ use Rattle.std.specs.Int.{w64}
 use Rattle.std.specs.List.{AllByRecursion, AllZip}
 use Rattle.rbu_value.specs.declared.value.Value.{Value}
 use Rattle.rbu_value.specs.declared.value.Value.TheVariants.{Null, Int, Text, Blob}
-use Rattle.file_spec.specs.Files.{part_of}
+use Rattle.byte_fields.specs.Bytes.{part_of}
 use Rattle.format_spec.specs.declared.PageKind.TheVariants.{TableLeaf}
 use Rattle.format_spec.specs.declared.CellView.{CellView}
-use Rattle.format_spec.specs.Numbers.{page_at}
+use Rattle.byte_fields.specs.Numbers.{page_at}
 use Rattle.format_spec.specs.Record.{canonical_record}
 use Rattle.format_spec.specs.Cell.{IsCell}
 use Rattle.format_spec.specs.Page.{IsPage}

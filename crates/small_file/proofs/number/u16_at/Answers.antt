@@ -1,7 +1,0 @@
-use Rattle.std.proofs.Common.{ap, ◌∙◌}
-use Rattle.std.proofs.lemmas.List.{take_rest}
-use Rattle.byteorder.specs.Endian.{big_number}
-use Rattle.small_file.proofs.number.u16_at.Goals as goal
-
-pub returns : goal.returns
-returns c = c.read_u16.ensures ∙ ap (big_number 2) (take_rest c.args.bytes.now c.args.at)

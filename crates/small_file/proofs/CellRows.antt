@@ -1,5 +1,5 @@
 -- The rows that cells are.
-use Rattle.std.proofs.Common.{◌≡◌, ℕ, ℤ, List, [], ◌∷◌, length, refl, sym, ◌∙◌, ap, ap₂, subst, FitsSigned, Some, None}
+use Rattle.std.proofs.Common.{◌≡◌, ℕ, ℤ, List, [], ◌∷◌, length, refl, sym, ◌∙◌, ap, ap₂, subst, FitsSigned, Some}
 use Rattle.std.specs.Int.{w64}
 use Rattle.common_spec.specs.Reading.{Reads, OrNone}
 use Rattle.rbu_value.specs.declared.value.Value.{Value}
@@ -12,7 +12,7 @@ use Rattle.small_file.specs.declared.page.PlacedCell.{PlacedCell}
 use Rattle.small_file.specs.Pages.{cell_of, IsPlaced}
 use Rattle.small_file.specs.Files.{payload_of}
 use Rattle.small_file.specs.Records.{prepared_values, IsTargetRecord}
-use Rattle.small_file.proofs.Readings.{Reads-none, Reads-some}
+use Rattle.small_file.proofs.Readings.{Reads-some}
 use Rattle.small_file.proofs.Rows.{whole_from, whole_parts}
 
 module _ (page : List ℕ) (cell : PlacedCell) (long : length page ≡ 4096) (placed : IsPlaced page cell) where

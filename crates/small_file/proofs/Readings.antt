@@ -1,5 +1,5 @@
 -- Readers of rows: one row for each cell makes one list of rows.
-use Rattle.std.proofs.Common.{◌≡◌, ℕ, zero, suc, ◌<◌, List, [], ◌∷◌, ◌++◌, length, map, drop, get_or, Option, Some, None, option_map, refl, sym, ap, ap₂, ◌∙◌, subst, arith}
+use Rattle.std.proofs.Common.{◌≡◌, ℕ, zero, suc, ◌<◌, List, [], ◌∷◌, ◌++◌, length, map, drop, get_or, Option, Some, None, refl, sym, ap, ap₂, ◌∙◌, subst, arith}
 use Rattle.std.specs.List.{AllZip}
 use Rattle.common_spec.specs.Reading.{Reads, OrNone}
 use Rattle.small_spec.specs.SmallFile.{Table, IsSmall, IsSmallFile, IsRisingBy, schema_record}

@@ -1,15 +1,13 @@
 -- The rows that cells are.
-use Rattle.std.proofs.Common.{◌≡◌, ℕ, ◌+◌, ◌-◌, ◌≤◌, ℤ, pos, List, [], ◌∷◌, ◌++◌, length, map, get_or, take, drop, replicate, refl, sym, ◌∙◌, ap, Option, Some, None, subst, length-append, length-drop, arith}
-use Rattle.std.proofs.lemmas.List.{length-map, take_all, take-take, drop-take, drop-drop, append-nil}
+use Rattle.std.proofs.Common.{◌≡◌, ℕ, ◌+◌, ◌≤◌, ℤ, pos, List, [], ◌∷◌, ◌++◌, length, map, get_or, take, drop, refl, sym, ◌∙◌, ap, Option, Some, None, subst, length-append, length-drop, arith}
+use Rattle.std.proofs.lemmas.List.{length-map, take_all}
 use Rattle.std.specs.Option.{IfNone}
 use Rattle.byte_fields.specs.Bytes.{part_of}
 use Rattle.byte_fields.specs.BytesLaws.{resized-short}
-use Rattle.rbu_value.specs.declared.value.Value.{Value}
 use Rattle.format_spec.specs.declared.PageKind.TheVariants.{TableLeaf}
 use Rattle.format_spec.specs.declared.CellView.{CellView}
 use Rattle.format_spec.specs.Cell.{IsCell}
 use Rattle.byte_fields.specs.Numbers.{page_at}
-use Rattle.format_spec.specs.Record.{canonical_record}
 use Rattle.format_spec.specs.Page.{IsPage}
 use Rattle.small_spec.specs.SmallFile.{IsWholeCell, IsSmallFile, IsSmallHeader}
 use Rattle.small_file.specs.declared.page.PlacedCell.{PlacedCell}

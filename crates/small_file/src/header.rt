@@ -3,7 +3,6 @@ ghost use Rattle.std.specs.Prelude.{◌≡◌, ◌↔◌, ◌≤◌, IsTrue, len
 ghost use Rattle.format_spec.specs.Header.{HasMagic, version_valid_for, change_counter};
 ghost use Rattle.small_spec.specs.SmallFile.{IsSmallHeader, HasFields, small_layout, small_state};
 
-
 use byte_fields::{u16_at, u32_at};
 
 const MAGIC: [u8; 16] = *b"SQLite format 3\0";

@@ -1,9 +1,9 @@
 use super::*;
 use rbu_value::Value;
+use small_spec::{PreparedRow, TargetRow};
 use std::alloc::{AllocError, Global};
 use std::process::Abort;
 use std::test::Fail;
-use small_spec::{PreparedRow, TargetRow};
 
 // The bytes of a file that differ from zero, each part with its place.
 type Parts<'a> = &'a [(usize, &'a [u8])];

@@ -6,15 +6,11 @@ use Rattle.std.specs.Ordering.{int_cmp}
 use Rattle.std.proofs.lemmas.Bool.{cases_lt, false≢true}
 use Rattle.std.proofs.lemmas.List.{append-nil, length-append, length-map, get_or_append_left, get_or-append_right, get_or-map, get_or_default}
 use Rattle.std.proofs.lemmas.List.Sorted.{IsPermutation-sym, IsPermutation-trans, IsPermutation-map, IsPermutation-append_right, Contains-permutation, sum_by-IsPermutation}
-use Rattle.update_spec.specs.declared.TargetRow.{TargetRow}
-use Rattle.update_spec.specs.declared.PreparedRow.{PreparedRow}
-use Rattle.update_spec.specs.SmallFile.{IsRising}
-use Rattle.update_spec.specs.Outcome.{SharesKey, IsPresent, IsFirstPresent, IsMerged, inserted, all_rows, page_room}
-use Rattle.update_spec.specs.Answer.{NonePresent}
-use Rattle.small_update.proofs.Keys.{Shares, Shares-permutation, apart_from_rising, rising_from_sorted}
-
-pub SharesKey-permutation : (xs ys : List PreparedRow) → IsPermutation xs ys → SharesKey ys → SharesKey xs
-SharesKey-permutation xs ys moves h = Shares-permutation (λ (row : PreparedRow). row.key) ys xs (IsPermutation-sym xs ys moves) h
+use Rattle.small_spec.specs.declared.TargetRow.{TargetRow}
+use Rattle.small_spec.specs.declared.PreparedRow.{PreparedRow}
+use Rattle.small_spec.specs.SmallFile.{IsRisingBy}
+use Rattle.small_spec.specs.Inserts.{HasDistinctKeys, NonePresent, IsPresent, IsFirstPresent, IsMerged, inserted, all_rows, page_room}
+use Rattle.small_update.proofs.Keys.{Shares, Shares-permutation, unshared-from_distinct, distinct-permutation, apart_from_rising, rising_from_sorted}
 
 pub all_rows-permutation : (old : List TargetRow) (xs ys : List PreparedRow) → IsPermutation xs ys → IsPermutation (all_rows old xs) (all_rows old ys)
 all_rows-permutation old xs ys moves = IsPermutation-append_right old _ _ (IsPermutation-map inserted xs ys moves)
@@ -43,7 +39,7 @@ inserted_at old prepared i d h l =
     ∙ get_or-map inserted prepared (i - length old) d (inserted d) (inserted_below old prepared i h l))
 
 -- no two of all rows have one rowid
-all_apart : (old : List TargetRow) (prepared : List PreparedRow) → IsRising (map (λ row. row.rowid) old) → ¬ SharesKey prepared → NonePresent old prepared
+all_apart : (old : List TargetRow) (prepared : List PreparedRow) → IsRisingBy (λ row. row.rowid) old → ¬ Shares (λ (row : PreparedRow). row.key) prepared → NonePresent old prepared
     → ¬ Shares (λ (row : TargetRow). row.rowid) (all_rows old prepared)
 all_apart old [] rising apart none h =
     let rowid = λ (row : TargetRow). row.rowid in
@@ -82,23 +78,23 @@ all_apart old (first ∷ others) rising apart none h =
     ]
 
 -- the rows in order are the merged ones
-pub merged : (old rows : List TargetRow) (prepared sorted : List PreparedRow) → IsRising (map (λ row. row.rowid) old) → IsPermutation prepared sorted → ¬ SharesKey sorted → NonePresent old sorted
+pub merged : (old rows : List TargetRow) (prepared sorted : List PreparedRow) → IsRisingBy (λ row. row.rowid) old → IsPermutation prepared sorted → HasDistinctKeys sorted → NonePresent old sorted
     → IsPermutation (all_rows old sorted) rows → IsSortedByKey (λ row. row.rowid) int_cmp rows → IsMerged old prepared rows
 merged old rows prepared sorted rising moves apart none same up = record {
   same_rows = IsPermutation-trans _ _ _ (all_rows-permutation old prepared sorted moves) same;
-  rising = rising_from_sorted (λ (row : TargetRow). row.rowid) rows up (λ h. all_apart old sorted rising apart none (Shares-permutation (λ (row : TargetRow). row.rowid) rows (all_rows old sorted) (IsPermutation-sym _ _ same) h));
+  rising = rising_from_sorted (λ (row : TargetRow). row.rowid) rows up (λ h. all_apart old sorted rising (unshared-from_distinct (λ (row : PreparedRow). row.key) sorted apart) none (Shares-permutation (λ (row : TargetRow). row.rowid) rows (all_rows old sorted) (IsPermutation-sym _ _ same) h));
 }
 
--- what `shares_key` says where it finds none
-pub unshared : (prepared sorted rows : List PreparedRow) (b : Bool) → IsPermutation prepared sorted → (IsTrue b ↔ SharesKey rows) → rows ≡ sorted → b ≡ false → (¬ SharesKey sorted) × (¬ SharesKey prepared)
-unshared prepared sorted rows b moves says is none =
-    let absent : ¬ SharesKey sorted = λ h. false≢true (sym none ∙ says.1 (subst (λ (x : List PreparedRow). SharesKey x) (sym is) h)) in
-    (absent, λ h. absent (Shares-permutation (λ (row : PreparedRow). row.key) prepared sorted moves h))
+-- what `has_distinct_keys` says where the keys differ
+pub unshared : (prepared sorted rows : List PreparedRow) (b : Bool) → IsPermutation prepared sorted → (IsTrue b ↔ HasDistinctKeys rows) → rows ≡ sorted → b ≡ true → HasDistinctKeys sorted × HasDistinctKeys prepared
+unshared prepared sorted rows b moves says is differ =
+    let keys : HasDistinctKeys sorted = subst (λ (x : List PreparedRow). HasDistinctKeys x) is (says.0 differ) in
+    (keys, distinct-permutation (λ (row : PreparedRow). row.key) sorted prepared (IsPermutation-sym prepared sorted moves) keys)
 
--- and where it finds some
-pub shared : (prepared sorted rows : List PreparedRow) (b : Bool) → IsPermutation prepared sorted → (IsTrue b ↔ SharesKey rows) → rows ≡ sorted → b ≡ true → SharesKey prepared
-shared prepared sorted rows b moves says is some =
-    SharesKey-permutation prepared sorted moves (subst (λ (x : List PreparedRow). SharesKey x) is (says.0 some))
+-- and where they do not
+pub shared : (prepared sorted rows : List PreparedRow) (b : Bool) → IsPermutation prepared sorted → (IsTrue b ↔ HasDistinctKeys rows) → rows ≡ sorted → b ≡ false → ¬ HasDistinctKeys prepared
+shared prepared sorted rows b moves says is same keys =
+    false≢true (sym same ∙ says.1 (subst (λ (x : List PreparedRow). HasDistinctKeys x) (sym is) (distinct-permutation (λ (row : PreparedRow). row.key) prepared sorted moves keys)))
 
 -- all rows take the same room in any order
 pub same_room : (old : List TargetRow) (prepared sorted : List PreparedRow) → IsPermutation prepared sorted → page_room (all_rows old sorted) ≡ page_room (all_rows old prepared)

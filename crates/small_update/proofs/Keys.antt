@@ -1,5 +1,5 @@
 -- Rows whose keys are signed numbers: keys that two rows share, and rows in the order of their keys.
-use Rattle.std.proofs.Common.{◌≡◌, ◌≢◌, ℕ, ◌+◌, ◌<◌, ◌≤◌, false, cond, eqb, List, [], ◌∷◌, length, get_or, map, refl, sym, ap, ◌∙◌, arith, rules, inl, inr, ◌↔◌, IsTrue, ℤ, pos, ◌<ℤ◌, ◌≤ℤ◌, Result, Ok, Err}
+use Rattle.std.proofs.Common.{◌≡◌, ◌≢◌, ℕ, ◌+◌, ◌<◌, ◌≤◌, false, cond, eqb, List, [], ◌∷◌, length, get_or, map, refl, sym, ap, ◌∙◌, arith, rules, inl, inr, ◌↔◌, IsTrue, ℤ, ◌<ℤ◌, ◌≤ℤ◌, Result, Ok, Err}
 use Rattle.std.proofs.lemmas.Bool.{cases_lt, cases_eq, false≢true}
 use Rattle.std.proofs.lemmas.Bool.Decides.{nat_tests}
 use Rattle.std.proofs.lemmas.Int.{ints, by_lt_z}
@@ -7,17 +7,17 @@ use Rattle.std.proofs.lemmas.Cmp.{int_cmp_total}
 use Rattle.std.proofs.lemmas.Map.Lookups.{exact_signed}
 use Rattle.std.proofs.lemmas.List.{get_or-map, length-map, get_or_default}
 use Rattle.std.proofs.lemmas.List.Edits.{Swapped, swapped_from_swap}
-use Rattle.std.proofs.lemmas.List.Sorted.{IsPermutation-keeps, IsPermutation-swap, length_permutation, ranks_by, sorted_far, searchable_from_sorted, answers_always}
+use Rattle.std.proofs.lemmas.List.Sorted.{IsPermutation-keeps, IsPermutation-swap, IsPermutation-sym, length_permutation, ranks_by, sorted_far, searchable_from_sorted, answers_always}
 use Rattle.std.specs.Fn.{Called}
 use denote.Param.Members.{Mut}
 use denote.Ref.{Bor}
-use Rattle.std.specs.List.{swap, Contains, AllAdjacentBelow}
+use Rattle.std.specs.List.{swap, Contains, AllAdjacentBelow, AllPairs}
 use Rattle.std.specs.List.Sorted.{IsPermutation, IsSortedByKey, IsSortedByKeyClosure, IsBinarySearchResult, IsSearchInRange}
 use Rattle.std.specs.Ordering.{int_cmp, is_lt}
 use Rattle.std.specs.Result.{is_ok, OnOk}
 use Rattle.std.proofs.lemmas.Result.{on_ok_weaker}
 use Rattle.std.specs.declared.cmp.Ordering.TheVariants.{Less, Equal, Greater}
-use Rattle.update_spec.specs.SmallFile.{IsRising}
+use Rattle.small_spec.specs.SmallFile.{IsRisingBy}
 
 -- two elements have one key
 abbrev pub Shares : {X : Type 0} → (X → ℤ) → List X → Type 0
@@ -91,48 +91,37 @@ not_shared key (x ∷ xs) up apart h =
     apart h.0 x (omega (arith, h.2, h.3)) (omega (arith, ints))
 
 -- in order and without a shared key, each key is below those after it
-pub rising_from_sorted : {X : Type 0} (key : X → ℤ) (xs : List X) → IsSortedByKey key int_cmp xs → ¬ Shares key xs → IsRising (map key xs)
-rising_from_sorted key [] up apart j k less below = absurd (omega (arith, below))
-rising_from_sorted {X} key (x ∷ xs) up apart j k less below =
-    let n : k < length (x ∷ xs) = omega (arith, length-map (x ∷ xs) key) in
-    let le = le_from_sorted key (x ∷ xs) up j k x (omega arith) n in
-    let at_j = get_or-map key (x ∷ xs) j x (pos 0) (omega arith) in
-    let at_k = get_or-map key (x ∷ xs) k x (pos 0) n in
-    let above : key (get_or (x ∷ xs) j x) <ℤ key (get_or (x ∷ xs) k x) =
+pub rising_from_sorted : {X : Type 0} (key : X → ℤ) (xs : List X) → IsSortedByKey key int_cmp xs → ¬ Shares key xs → IsRisingBy key xs
+rising_from_sorted key xs up apart j k d less below =
+    let le = le_from_sorted key xs up j k d (omega arith) below in
     by_lt_z _ _ (λ l. l) (λ ge.
-    let same : key (get_or (x ∷ xs) j x) ≡ key (get_or (x ∷ xs) k x) = omega (arith, ints) in
-    absurd (apart (
-      j,
-      k,
-      less,
-      n,
-      λ d.
-          ap key (get_or_default (x ∷ xs) j d x (omega arith)) ∙ (same ∙ ap key (get_or_default (x ∷ xs) k x d n)),
-    ))) in
-    rw (at_j, at_k) above
+    let same : key (get_or xs j d) ≡ key (get_or xs k d) = omega (arith, ints) in
+    absurd (apart (j, k, less, below, λ e. ap key (get_or_default xs j e d (omega arith)) ∙ (same ∙ ap key (get_or_default xs k d e below)))))
 
 -- rising keys are in order
-pub sorted_from_rising : {X : Type 0} (key : X → ℤ) (xs : List X) → IsRising (map key xs) → IsSortedByKey key int_cmp xs
-sorted_from_rising key xs up k d low high =
-    let less = up k (k + 1) (omega arith) (omega (arith, length-map xs key)) in
-    let at_k = get_or-map key xs k d (pos 0) (omega arith) in
-    let at_next = get_or-map key xs (k + 1) d (pos 0) high in
-    let rises : key (get_or xs k d) <ℤ key (get_or xs (k + 1) d) = rw (← at_k, ← at_next) less in
-    not_less_above _ _ rises
+pub sorted_from_rising : {X : Type 0} (key : X → ℤ) (xs : List X) → IsRisingBy key xs → IsSortedByKey key int_cmp xs
+sorted_from_rising key xs up k d low high = not_less_above _ _ (up k (k + 1) d (omega arith) high)
+
+-- keys that differ are shared by none, and the other way round
+pub unshared-from_distinct : {X : Type 0} (key : X → ℤ) (xs : List X) → AllPairs (λ a b. key a ≢ key b) xs → ¬ Shares key xs
+unshared-from_distinct key [] differ h = absurd (omega (arith, h.3))
+unshared-from_distinct key (x ∷ xs) differ h = differ h.0 h.1 x h.2 h.3 (h.4 x)
+
+pub distinct-from_unshared : {X : Type 0} (key : X → ℤ) (xs : List X) → ¬ Shares key xs → AllPairs (λ a b. key a ≢ key b) xs
+distinct-from_unshared key xs apart j k d less below same =
+    apart (j, k, less, below, λ e. ap key (get_or_default xs j e d (omega arith)) ∙ (same ∙ ap key (get_or_default xs k d e below)))
+
+-- they differ in any order
+pub distinct-permutation : {X : Type 0} (key : X → ℤ) (xs ys : List X) → IsPermutation xs ys → AllPairs (λ a b. key a ≢ key b) xs → AllPairs (λ a b. key a ≢ key b) ys
+distinct-permutation key xs ys moves differ =
+    distinct-from_unshared key ys (λ h. unshared-from_distinct key xs differ (Shares-permutation key ys xs (IsPermutation-sym xs ys moves) h))
 
 -- rising keys are shared by none
-pub apart_from_rising : {X : Type 0} (key : X → ℤ) (xs : List X) → IsRising (map key xs) → ¬ Shares key xs
-apart_from_rising key [] up h = absurd (omega (arith, h.3))
-apart_from_rising key (x ∷ xs) up h =
-    let less = up h.0 h.1 h.2 (omega (arith, h.3, length-map (x ∷ xs) key)) in
-    let at_j = get_or-map key (x ∷ xs) h.0 x (pos 0) (omega (arith, h.2, h.3)) in
-    let at_k = get_or-map key (x ∷ xs) h.1 x (pos 0) h.3 in
-    let rises : key (get_or (x ∷ xs) h.0 x) <ℤ key (get_or (x ∷ xs) h.1 x) = rw (← at_j, ← at_k) less in
-    let same = h.4 x in
-    absurd (omega (arith, ints))
+pub apart_from_rising : {X : Type 0} (key : X → ℤ) (xs : List X) → IsRisingBy key xs → ¬ Shares key xs
+apart_from_rising key xs up = unshared-from_distinct key xs (λ j k d less below same. let rises = up j k d less below in absurd (omega (arith, ints)))
 
 -- what a binary search says of a key
-pub found_from_search : {X : Type 0} (key : X → ℤ) (xs : List X) (x : ℤ) (r : Result ℕ ℕ) → IsRising (map key xs) → IsSearchInRange r (length xs)
+pub found_from_search : {X : Type 0} (key : X → ℤ) (xs : List X) (x : ℤ) (r : Result ℕ ℕ) → IsRisingBy key xs → IsSearchInRange r (length xs)
     → IsBinarySearchResult (λ y. int_cmp (key y) x) xs r → IsTrue (is_ok r) ↔ Contains (map key xs) x
 found_from_search key [] x (Ok i) up bound at = absurd (omega arith)
 found_from_search key (y ∷ ys) x (Ok i) up bound at =

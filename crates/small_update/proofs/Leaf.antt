@@ -7,8 +7,8 @@ use borrow.Rule.Slice.PartMut.{put_mid, mid_of}
 use Rattle.std.proofs.lemmas.List.Sums.{sum_by_push, sum_by-cons, sum_by-take-le}
 use Rattle.byteorder.specs.Endian.{big_bytes}
 use Rattle.format_spec.specs.Page.{places_below, stacked, packed_leaf}
-use Rattle.update_spec.specs.declared.TargetRow.{TargetRow}
-use Rattle.update_spec.specs.Outcome.{page_room}
+use Rattle.small_spec.specs.declared.TargetRow.{TargetRow}
+use Rattle.small_spec.specs.Inserts.{page_room}
 
 -- the cells' lengths
 abbrev pub content : List (List ℕ) → ℕ

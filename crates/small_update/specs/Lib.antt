@@ -1,6 +1,5 @@
 pub mod Decision
 pub mod PackedLeaf
 pub mod SmallAgain
-pub use Rattle.update_spec.specs.SmallFile
-pub use Rattle.update_spec.specs.Outcome
-pub use Rattle.update_spec.specs.Answer
+pub use Rattle.small_spec.specs.SmallFile
+pub use Rattle.small_spec.specs.Inserts

@@ -1,9 +1,9 @@
 -- The target after the update.
 use Rattle.std.specs.Prelude.{ℕ, ◌≤◌, List}
-use Rattle.update_spec.specs.declared.TargetRow.{TargetRow}
-use Rattle.update_spec.specs.declared.PreparedRow.{PreparedRow}
-use Rattle.update_spec.specs.SmallFile.{IsSmallTarget, IsSmallRbu}
-use Rattle.update_spec.specs.Outcome.{IsMerged, page_room, new_pages}
+use Rattle.small_spec.specs.declared.TargetRow.{TargetRow}
+use Rattle.small_spec.specs.declared.PreparedRow.{PreparedRow}
+use Rattle.small_spec.specs.SmallFile.{IsSmallTarget, IsSmallRbu}
+use Rattle.small_spec.specs.Inserts.{IsMerged, page_room, new_pages}
 
 -- After the update a small target is a small target with the merged rows: all its old rows and the inserted ones.
 abbrev pub UpdateLeavesSmallTarget : Type 0

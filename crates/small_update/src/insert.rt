@@ -1,14 +1,14 @@
 // The rows that prepared inserts make.
 ghost use Rattle.std.specs.Prelude.{◌≡◌, IfOk};
 ghost use Rattle.format_spec.specs.Cell.{table_leaf_cell};
-ghost use Rattle.update_spec.specs.declared.TargetRow.{TargetRow};
-ghost use Rattle.update_spec.specs.Outcome.{inserted, all_rows};
+ghost use Rattle.small_spec.specs.declared.TargetRow.{TargetRow};
+ghost use Rattle.small_spec.specs.Inserts.{inserted, all_rows};
 
 use cell_codec::push_varint;
 use rbu_value::{Bytes, Value};
 use record_codec::write_record;
+use small_spec::{PreparedRow, TargetRow};
 use std::alloc::{AllocError, Global};
-use update_spec::{PreparedRow, TargetRow};
 
 // The cell of a row with this rowid and payload.
 fn cell_of(alloc: Global, rowid: i64, payload: &[u8]) -> Result<Bytes, AllocError>

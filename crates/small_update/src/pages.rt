@@ -2,12 +2,12 @@
 ghost use Rattle.std.specs.Prelude.{◌≡◌, ◌↔◌, IsTrue, ◌<◌, ◌≤◌, ◌+◌, [], ◌∷◌, ◌++◌, length, map, take, drop};
 ghost use Rattle.std.specs.List.{between};
 ghost use Rattle.byteorder.specs.Endian.{big_bytes};
-ghost use Rattle.byte_fields.specs.Numbers.{with_number_at};
 ghost use Rattle.format_spec.specs.Page.{packed_leaf};
-ghost use Rattle.update_spec.specs.Outcome.{page_room, new_first_page, new_pages};
+ghost use Rattle.small_spec.specs.Inserts.{page_room, new_first_page, new_pages};
 
+use byte_fields::{put_u32, u32_at};
 use byteorder::{BigEndian, ByteOrder};
-use update_spec::TargetRow;
+use small_spec::TargetRow;
 
 // Whether one page has room for the rows.
 pub fn fits_page(rows: &[TargetRow]) -> bool
@@ -23,24 +23,16 @@ pub fn fits_page(rows: &[TargetRow]) -> bool
     true
 }
 
-// Writes a number over the four bytes at a place.
-fn write_number(page: &mut [u8], at: usize, number: u32)
-    requires { at + 4 ≤ length page.old }
-    ensures { page.new ≡ with_number_at at 4 number page.old }
-{
-    BigEndian::write_u32(&mut page[at..at + 4], number);
-}
-
 // Raises the change counter and the schema cookie of page 1.
 fn raise_counters(page: &mut [u8])
     requires { 96 ≤ length page.old }
     ensures { page.new ≡ new_first_page page.old }
 {
-    let counter = BigEndian::read_u32(&page[24..]).wrapping_add(1);
-    let cookie = BigEndian::read_u32(&page[40..]).wrapping_add(1);
-    write_number(page, 24, counter);
-    write_number(page, 40, cookie);
-    write_number(page, 92, counter);
+    let counter = u32_at(page, 24).wrapping_add(1);
+    let cookie = u32_at(page, 40).wrapping_add(1);
+    put_u32(page, 24, counter);
+    put_u32(page, 40, cookie);
+    put_u32(page, 92, counter);
 }
 
 // Writes a table leaf's header: its cells begin at a place, and it has no freeblock and no fragment.

@@ -2,7 +2,7 @@
 ghost use Rattle.std.specs.Prelude.{◌≡◌, IfOk, length, map};
 ghost use Rattle.std.specs.Bool.{OnTrue};
 ghost use Rattle.std.specs.List.{All};
-ghost use Rattle.update_spec.specs.SmallFile.{IsRising, IsNullOrText};
+ghost use Rattle.small_spec.specs.SmallFile.{IsRisingBy, IsNullOrText};
 
 use super::*;
 use byteorder::{BigEndian, ByteOrder};
@@ -15,7 +15,7 @@ const ONE: &[u8] = b"\x06\x01\x03\x00\x13one";
 const TWO: &[u8] = b"\x06\x02\x03\x00\x13two";
 
 fn rises(rows: &[TargetRow]) -> bool
-    ensures { OnTrue result (IsRising (map (λ row. row.rowid) rows.now)) }
+    ensures { OnTrue result (IsRisingBy (λ row. row.rowid) rows.now) }
 {
     for i in 1..rows.len() {
         if rows[i - 1].rowid >= rows[i].rowid {

@@ -1,18 +1,18 @@
 use Rattle.std.proofs.Common.{◌≡◌, List, ap, subst, ◌∙◌, sym, arith, rules, SFits, w64}
 use Rattle.std.proofs.lemmas.Int.{to_z-of_z}
 use Rattle.std.specs.List.Sorted.{IsPermutation}
-use Rattle.update_spec.specs.declared.TargetRow.{TargetRow}
-use Rattle.update_spec.specs.Outcome.{all_rows, page_room, IsFirstPresent}
-use Rattle.update_spec.specs.Answer.{NonePresent}
+use Rattle.small_spec.specs.declared.TargetRow.{TargetRow}
+use Rattle.small_spec.specs.Inserts.{all_rows, page_room, IsFirstPresent}
+use Rattle.small_spec.specs.Inserts.{NonePresent}
 use Rattle.small_update.proofs.Decisions.{unshared, shared, same_room, over_bound, merged, IsFirstPresent-permutation, NonePresent-permutation, page_room-permutation}
 use Rattle.small_update.proofs.decide.Goals as goal
 
-pub returns-then-shares_key : goal.returns-then-shares_key
-returns-then-shares_key c = shared c.args.prepared.items c.sort_by_key.new.rows.items c.deref.result.now c.shares_key.result c.sort_by_key.ensures.same c.shares_key.ensures c.deref.ensures.value c.if-shares_key.true
+pub returns-then-not-has_distinct_keys : goal.returns-then-not-has_distinct_keys
+returns-then-not-has_distinct_keys c = shared c.args.prepared.items c.sort_by_key.new.rows.items c.deref.result.now c.has_distinct_keys.result c.sort_by_key.ensures.same c.has_distinct_keys.ensures c.deref.ensures.value c.if-not-has_distinct_keys.true
 
 pub returns-then-not-fits_page : goal.returns-then-not-fits_page
 returns-then-not-fits_page c =
-    let none = unshared c.args.prepared.items c.sort_by_key.new.rows.items c.deref.result.now c.shares_key.result c.sort_by_key.ensures.same c.shares_key.ensures c.deref.ensures.value c.if-shares_key.false in
+    let none = unshared c.args.prepared.items c.sort_by_key.new.rows.items c.deref.result.now c.has_distinct_keys.result c.sort_by_key.ensures.same c.has_distinct_keys.ensures c.deref.ensures.value c.if-not-has_distinct_keys.false in
     let same = same_room c.args.old.items c.args.prepared.items c.sort_by_key.new.rows.items c.sort_by_key.ensures.same in
     let over = over_bound c.fits_page.result (page_room c.deref-4.result.now) 4096 c.fits_page.ensures c.if-not-fits_page.true in
     let rows = ap (λ (x : List TargetRow). page_room x) (c.deref-4.ensures.value ∙ c.in_ok-rows.ensures) in
@@ -22,14 +22,14 @@ pub returns-in-Some : goal.returns-in-Some
 returns-in-Some c =
     let old = c.args.old.items in
     let sorted = c.sort_by_key.new.rows.items in
-    let none = unshared c.args.prepared.items sorted c.deref.result.now c.shares_key.result c.sort_by_key.ensures.same c.shares_key.ensures c.deref.ensures.value c.if-shares_key.false in
+    let none = unshared c.args.prepared.items sorted c.deref.result.now c.has_distinct_keys.result c.sort_by_key.ensures.same c.has_distinct_keys.ensures c.deref.ensures.value c.if-not-has_distinct_keys.false in
     let same = same_room old c.args.prepared.items sorted c.sort_by_key.ensures.same in
     let room = c.fits_page.ensures.0 c.if-not-fits_page.false in
     let rows = ap (λ (x : List TargetRow). page_room x) (c.deref-4.ensures.value ∙ c.in_ok-rows.ensures) in
     let found = c.in-Some.ensures.present in
     let first : IsFirstPresent old sorted found.0 = rw (← c.deref-2.ensures.value, ← c.deref-3.ensures.value) found.1 in
     let fits : SFits w64 c.in-Some.data_rowid = search rules in
-    (none.1, omega (arith, same, room, rows), (found.0, IsFirstPresent-permutation old c.args.prepared.items sorted found.0 c.sort_by_key.ensures.same first, found.2 ∙ sym (to_z-of_z w64 c.in-Some.data_rowid fits)))
+    (none.1, omega (arith, same, room, rows), (found.0, IsFirstPresent-permutation old c.args.prepared.items sorted found.0 c.sort_by_key.ensures.same first, c.in_ok-table.ensures, found.2 ∙ sym (to_z-of_z w64 c.in-Some.data_rowid fits)))
 
 pub returns : goal.returns
 returns c =
@@ -39,7 +39,7 @@ returns c =
     let all = c.in_ok-rows.rows.items in
     let merged_rows = c.sort_by_rowid.new.rows.items in
     let moves = c.sort_by_key.ensures.same in
-    let none = unshared prepared sorted c.deref.result.now c.shares_key.result moves c.shares_key.ensures c.deref.ensures.value c.if-shares_key.false in
+    let none = unshared prepared sorted c.deref.result.now c.has_distinct_keys.result moves c.has_distinct_keys.ensures c.deref.ensures.value c.if-not-has_distinct_keys.false in
     let same = same_room old prepared sorted moves in
     let room = c.fits_page.ensures.0 c.if-not-fits_page.false in
     let rows = ap (λ (x : List TargetRow). page_room x) (c.deref-4.ensures.value ∙ c.in_ok-rows.ensures) in

@@ -1,6 +1,6 @@
 use Rattle.std.proofs.Common.{◌≡◌, ◌++◌, map}
 use Rattle.std.specs.Vec.Iter.{into_iter_items}
-use Rattle.update_spec.specs.Outcome.{inserted, all_rows}
+use Rattle.small_spec.specs.Inserts.{inserted, all_rows}
 use Rattle.small_update.proofs.insert.with_inserted.Given as goal
 
 abbrev pub invariant-loop-row : goal.invariant-loop-row

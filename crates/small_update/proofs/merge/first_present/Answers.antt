@@ -1,11 +1,11 @@
 use Rattle.std.proofs.Common.{◌≡◌, ◌≤ℤ◌, get_or, ap, rules, arith, sym, ◌∙◌, subst, inl, inr, map, ℤ, w64, SFits}
-use Rattle.update_spec.specs.declared.TargetRow.{TargetRow}
+use Rattle.small_spec.specs.declared.TargetRow.{TargetRow}
 use Rattle.std.specs.List.{Contains}
 use Rattle.std.proofs.lemmas.Bool.{cases_lt, false≢true}
 use Rattle.std.proofs.lemmas.Int.{ints, to_z-of_z}
 use Rattle.std.proofs.lemmas.List.{get_or_default}
-use Rattle.update_spec.specs.declared.PreparedRow.{PreparedRow}
-use Rattle.update_spec.specs.Outcome.{IsPresent}
+use Rattle.small_spec.specs.declared.PreparedRow.{PreparedRow}
+use Rattle.small_spec.specs.Inserts.{IsPresent}
 use Rattle.small_update.proofs.Keys.{le_from_sorted}
 use Rattle.small_update.proofs.merge.first_present.Goals as goal
 

@@ -1,6 +1,6 @@
 use Rattle.std.proofs.Common.{ℕ, ◌<◌, get_or}
-use Rattle.update_spec.specs.declared.PreparedRow.{PreparedRow}
-use Rattle.update_spec.specs.Outcome.{IsPresent}
+use Rattle.small_spec.specs.declared.PreparedRow.{PreparedRow}
+use Rattle.small_spec.specs.Inserts.{IsPresent}
 use Rattle.small_update.proofs.merge.first_present.Given as goal
 
 abbrev pub invariant-loop-row : goal.invariant-loop-row

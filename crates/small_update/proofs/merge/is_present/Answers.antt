@@ -3,7 +3,7 @@ use Rattle.std.specs.List.Sorted.{IsBinarySearchResult}
 use Rattle.std.specs.Ordering.{int_cmp}
 use Rattle.std.proofs.lemmas.Int.{to_z-of_z}
 use Rattle.std.proofs.lemmas.List.Sorted.{answers_always}
-use Rattle.update_spec.specs.declared.TargetRow.{TargetRow}
+use Rattle.small_spec.specs.declared.TargetRow.{TargetRow}
 use Rattle.small_update.proofs.Keys.{found_from_search}
 use Rattle.small_update.proofs.merge.is_present.Goals as goal
 

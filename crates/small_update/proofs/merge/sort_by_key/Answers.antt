@@ -1,5 +1,5 @@
 use Rattle.std.proofs.Common.{rules}
-use Rattle.update_spec.specs.declared.PreparedRow.{PreparedRow}
+use Rattle.small_spec.specs.declared.PreparedRow.{PreparedRow}
 use Rattle.small_update.proofs.Keys.{sorted_by_calls}
 use Rattle.small_update.proofs.merge.sort_by_key.Goals as goal
 

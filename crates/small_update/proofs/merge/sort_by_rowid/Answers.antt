@@ -1,5 +1,5 @@
 use Rattle.std.proofs.Common.{rules}
-use Rattle.update_spec.specs.declared.TargetRow.{TargetRow}
+use Rattle.small_spec.specs.declared.TargetRow.{TargetRow}
 use Rattle.small_update.proofs.Keys.{sorted_by_calls}
 use Rattle.small_update.proofs.merge.sort_by_rowid.Goals as goal
 

@@ -1,5 +1,5 @@
 use Rattle.std.proofs.Common.{◌≡◌, ◌≤◌, take}
-use Rattle.update_spec.specs.Outcome.{page_room}
+use Rattle.small_spec.specs.Inserts.{page_room}
 use Rattle.small_update.proofs.pages.fits_page.Given as goal
 
 abbrev pub invariant-loop-row : goal.invariant-loop-row

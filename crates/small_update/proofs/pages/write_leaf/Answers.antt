@@ -1,7 +1,7 @@
 use Rattle.std.proofs.Common.{◌≡◌, ℕ, List, length, map, take, rules, arith, ap, sym, ◌∙◌, replicate, subst, drop, ◌++◌, ◌∷◌, []}
 use Rattle.byteorder.specs.Endian.{big_bytes}
 use Rattle.std.proofs.lemmas.List.{take_all, length-map}
-use Rattle.update_spec.specs.declared.TargetRow.{TargetRow}
+use Rattle.small_spec.specs.declared.TargetRow.{TargetRow}
 use Rattle.small_update.proofs.Leaf.{IsPacking, IsPacking-none, packed, room_for_cell, packing_step}
 use Rattle.small_update.proofs.pages.write_leaf.Goals as goal
 

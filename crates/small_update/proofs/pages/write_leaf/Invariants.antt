@@ -1,5 +1,5 @@
 use Rattle.std.proofs.Common.{length, map, take}
-use Rattle.update_spec.specs.declared.TargetRow.{TargetRow}
+use Rattle.small_spec.specs.declared.TargetRow.{TargetRow}
 use Rattle.small_update.proofs.Leaf.{IsPacking}
 use Rattle.small_update.proofs.pages.write_leaf.Given as goal
 

@@ -1,8 +1,8 @@
 use Rattle.std.proofs.Common.{◌≡◌, ◌++◌, length, map, take, ℕ, arith, sym, ap, ◌∙◌, List, refl}
 use Rattle.std.proofs.lemmas.List.{length-take-le}
 use Rattle.format_spec.specs.Page.{packed_leaf}
-use Rattle.update_spec.specs.Outcome.{new_first_page}
-use Rattle.update_spec.specs.declared.TargetRow.{TargetRow}
+use Rattle.small_spec.specs.Inserts.{new_first_page}
+use Rattle.small_spec.specs.declared.TargetRow.{TargetRow}
 use Rattle.small_update.proofs.Whole.{first_page, second_page, second_length}
 use Rattle.small_update.proofs.pages.write_pages.Goals as goal
 

@@ -1,5 +1,5 @@
 use Rattle.std.specs.List.{All}
-use Rattle.update_spec.specs.SmallFile.{IsNullOrText}
+use Rattle.small_spec.specs.SmallFile.{IsNullOrText}
 use Rattle.small_update.proofs.tests.prepared_rows.Given as goal
 
 abbrev pub invariant-loop-row : goal.invariant-loop-row

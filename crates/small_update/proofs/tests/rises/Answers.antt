@@ -3,12 +3,12 @@ use Rattle.std.proofs.lemmas.Int.{ints}
 use Rattle.std.specs.List.{AllAdjacentBelow}
 use Rattle.std.specs.List.Sorted.{IsSortedByKey}
 use Rattle.std.specs.Ordering.{int_cmp}
-use Rattle.update_spec.specs.declared.TargetRow.{TargetRow}
-use Rattle.update_spec.specs.SmallFile.{IsRising}
+use Rattle.small_spec.specs.declared.TargetRow.{TargetRow}
+use Rattle.small_spec.specs.SmallFile.{IsRisingBy}
 use Rattle.small_update.proofs.Keys.{not_less_above, not_shared, rising_from_sorted}
 use Rattle.small_update.proofs.tests.rises.Goals as goal
 
-rising_from_neighbours : (rows : List TargetRow) → AllAdjacentBelow (λ x y. x.rowid <ℤ y.rowid) rows (length rows) → IsRising (map (λ row. row.rowid) rows)
+rising_from_neighbours : (rows : List TargetRow) → AllAdjacentBelow (λ x y. x.rowid <ℤ y.rowid) rows (length rows) → IsRisingBy (λ row. row.rowid) rows
 rising_from_neighbours rows below =
     let rowid = λ (row : TargetRow). row.rowid in
     let sorted : IsSortedByKey rowid int_cmp rows = λ k d low high. not_less_above _ _ (below k d high) in

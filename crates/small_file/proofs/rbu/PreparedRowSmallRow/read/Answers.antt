@@ -1,4 +1,4 @@
-use Rattle.std.proofs.Common.{◌≡◌, rules, sym, ◌∙◌, FitsSigned, ap, subst, Some}
+use Rattle.std.proofs.Common.{◌≡◌, rules, sym, ◌∙◌, FitsSigned, subst, Some}
 use Rattle.std.proofs.lemmas.Int.{to_z-of_z}
 use Rattle.std.proofs.lemmas.Option.{MatchOption-at_some, MatchOption-at_none}
 use Rattle.std.specs.Int.{w64, cast_signed, cast_unsigned}

@@ -1,4 +1,4 @@
-use Rattle.std.proofs.Common.{◌≡◌, Some, sym, ◌∙◌, subst}
+use Rattle.std.proofs.Common.{Some, sym, subst}
 use Rattle.std.proofs.lemmas.Bool.{both_ways}
 use Rattle.common_spec.specs.Reading.{Reads, OrNone}
 use Rattle.small_spec.specs.SmallFile.{IsTargetRow}

@@ -66,111 +66,83 @@ fn assert_rows(rt: &impl Abort, rows: &[TargetRow], expected: &[(i64, &[u8])]) {
     }
 }
 
-fn assert_value(rt: &impl Abort, value: &Value, expected: Option<&[u8]>) {
+// The text of a value, or none for NULL.
+fn text_of(value: &Value) -> Option<&[u8]> {
     match value {
-        Value::Null => assert!(rt; expected.is_none()),
-        Value::Text(text) => {
-            let expected = expected.expect(rt, "a text");
-            assert_eq!(rt; text.as_slice(), expected);
-        }
-        _ => assert!(rt; false),
+        Value::Text(text) => Some(text.as_slice()),
+        _ => None,
     }
 }
 
-#[test]
-fn rows_of_a_target_are_read(rt: HostRuntime) -> Result<(), Fail> {
-    let cases: [(Parts<'static>, &[(i64, &[u8])]); 5] = [
-        (
-            &[],
-            &[
-                (1, b"\x06\x01\x03\x00\x13one"),
-                (2, b"\x06\x02\x03\x00\x13two"),
-            ],
-        ),
-        // a page with a freeblock, whose cells stand in the order of their rowids
-        (
-            &[
-                (4096, b"\x0d\x0f\xe0\x00\x02\x0f\xe0\x01\x0f\xf0\x0f\xf8"),
-                (8160, b"\x00\x00\x00\x10"),
-                (8176, b"\x06\x01\x03\x00\x13one\x06\x02\x03\x00\x13two"),
-            ],
-            &[
-                (1, b"\x06\x01\x03\x00\x13one"),
-                (2, b"\x06\x02\x03\x00\x13two"),
-            ],
-        ),
-        // longer varints in a cell
-        (
-            &[
-                (4096, b"\x0d\x00\x00\x00\x01\x0f\xf6\x00\x0f\xf6"),
-                (8182, b"\x80\x06\x80\x01\x03\x00\x13one"),
-            ],
-            &[(1, b"\x80\x06\x80\x01\x03\x00\x13one")],
-        ),
-        // NULL and the empty text
-        (
-            &[
-                (4096, b"\x0d\x00\x00\x00\x02\x0f\xf6\x00\x0f\xfb\x0f\xf6"),
-                (8182, b"\x03\x02\x03\x00\x0d\x03\x01\x03\x00\x00"),
-            ],
-            &[(1, b"\x03\x01\x03\x00\x00"), (2, b"\x03\x02\x03\x00\x0d")],
-        ),
-        (&[(4096, b"\x0d\x00\x00\x00\x00\x00\x00")], &[]),
-    ];
-    for (changes, expected) in cases {
-        let bytes = file(rt.alloc(), TARGET, changes)?;
-        let rows = read_target(rt.alloc(), bytes.as_slice())?.ok_or("no target")?;
-        assert_rows(&rt, rows.as_slice(), expected);
-    }
-    Ok(())
-}
-
-#[test]
-fn prepared_rows_are_read(rt: HostRuntime) -> Result<(), Fail> {
-    let cases: [(&[u8], i64, Option<&[u8]>); 4] = [
-        (b"\x09\x01\x04\x01\x15\x08\x03drei", 3, Some(b"drei")),
-        (b"\x05\x01\x04\x01\x00\x08\x03", 3, None),
-        (b"\x04\x01\x04\x09\x0d\x08", 1, Some(b"")),
-        (b"\x06\x01\x04\x02\x00\x08\xff\x7f", -129, None),
-    ];
-    for (cell, key, value) in cases {
-        let changes = [(8181, cell)];
-        let bytes = file(rt.alloc(), RBU, changes.as_slice())?;
-        let rows = read_rbu(rt.alloc(), bytes.as_slice())?.ok_or("no RBU database")?;
-        assert_eq!(rt; rows.len(), 1);
-        let row: &PreparedRow = &rows[0];
-        assert_eq!(rt; row.data_rowid, 1);
-        assert_eq!(rt; row.key, key);
-        assert_value(&rt, &row.value, value);
-    }
-    Ok(())
-}
-
-#[test]
-fn other_targets_are_not_small(rt: HostRuntime) -> Result<(), Fail> {
-    let cases: [Parts<'static>; 10] = [
-        &[(15, b"1")],
-        &[(20, b"\x01")],
-        &[(31, b"\x03")],
-        &[(95, b"\x06")],
-        // the schema's row at rowid 2
-        &[(4038, b"\x02")],
-        // rowids that fall, and equal ones
-        &[(4104, b"\x0f\xf0\x0f\xf8")],
-        &[(8177, b"\x01")],
-        // a cell over the end of the page
-        &[(4104, b"\x0f\xf8\x0f\xff")],
-        // a longer varint inside a record
-        &[(8174, b"\x07\x02\x04\x00\x80\x13two"), (4106, b"\x0f\xee")],
-        // a cell inside the text of another one
+// What is read of the target with each of these changes: its rows, or that it is none.
+const TARGETS: &[(Parts<'static>, Option<&[(i64, &[u8])]>)] = &[
+    (
+        &[],
+        Some(&[
+            (1, b"\x06\x01\x03\x00\x13one"),
+            (2, b"\x06\x02\x03\x00\x13two"),
+        ]),
+    ),
+    // a page with a freeblock, whose cells stand in the order of their rowids
+    (
+        &[
+            (4096, b"\x0d\x0f\xe0\x00\x02\x0f\xe0\x01\x0f\xf0\x0f\xf8"),
+            (8160, b"\x00\x00\x00\x10"),
+            (8176, b"\x06\x01\x03\x00\x13one\x06\x02\x03\x00\x13two"),
+        ],
+        Some(&[
+            (1, b"\x06\x01\x03\x00\x13one"),
+            (2, b"\x06\x02\x03\x00\x13two"),
+        ]),
+    ),
+    // longer varints in a cell
+    (
+        &[
+            (4096, b"\x0d\x00\x00\x00\x01\x0f\xf6\x00\x0f\xf6"),
+            (8182, b"\x80\x06\x80\x01\x03\x00\x13one"),
+        ],
+        Some(&[(1, b"\x80\x06\x80\x01\x03\x00\x13one")]),
+    ),
+    // NULL and the empty text
+    (
+        &[
+            (4096, b"\x0d\x00\x00\x00\x02\x0f\xf6\x00\x0f\xfb\x0f\xf6"),
+            (8182, b"\x03\x02\x03\x00\x0d\x03\x01\x03\x00\x00"),
+        ],
+        Some(&[(1, b"\x03\x01\x03\x00\x00"), (2, b"\x03\x02\x03\x00\x0d")]),
+    ),
+    (&[(4096, b"\x0d\x00\x00\x00\x00\x00\x00")], Some(&[])),
+    (&[(15, b"1")], None),
+    (&[(20, b"\x01")], None),
+    (&[(31, b"\x03")], None),
+    (&[(95, b"\x06")], None),
+    // the schema's row at rowid 2
+    (&[(4038, b"\x02")], None),
+    // rowids that fall, and equal ones
+    (&[(4104, b"\x0f\xf0\x0f\xf8")], None),
+    (&[(8177, b"\x01")], None),
+    // a cell over the end of the page
+    (&[(4104, b"\x0f\xf8\x0f\xff")], None),
+    // a longer varint inside a record
+    (&[(8174, b"\x07\x02\x04\x00\x80\x13two"), (4106, b"\x0f\xee")], None),
+    // a cell inside the text of another one
+    (
         &[
             (4104, b"\x0f\xf0\x0f\xf5"),
             (8176, b"\x0d\x01\x03\x00\x21\x03\x02\x03\x00\x00\0\0\0\0\0"),
         ],
-    ];
-    for changes in cases {
+        None,
+    ),
+];
+
+#[test]
+fn targets_are_read(rt: HostRuntime) -> Result<(), Fail> {
+    for (changes, expected) in TARGETS {
         let bytes = file(rt.alloc(), TARGET, changes)?;
-        assert!(rt; read_target(rt.alloc(), bytes.as_slice())?.is_none());
+        match (read_target(rt.alloc(), bytes.as_slice())?, expected) {
+            (Some(rows), Some(expected)) => assert_rows(&rt, rows.as_slice(), expected),
+            (found, expected) => assert_eq!(rt; found.is_some(), expected.is_some()),
+        }
     }
     let mut bytes = file(rt.alloc(), TARGET, &[])?;
     assert!(rt; read_rbu(rt.alloc(), bytes.as_slice())?.is_none());
@@ -179,24 +151,38 @@ fn other_targets_are_not_small(rt: HostRuntime) -> Result<(), Fail> {
     Ok(())
 }
 
+// What is read of the RBU database whose one cell begins at this byte of the file: its key and value, or that it is none.
+const PREPARED: &[(u16, &[u8], Option<(i64, Option<&[u8]>)>)] = &[
+    (8181, b"\x09\x01\x04\x01\x15\x08\x03drei", Some((3, Some(b"drei")))),
+    (8181, b"\x05\x01\x04\x01\x00\x08\x03", Some((3, None))),
+    (8181, b"\x04\x01\x04\x09\x0d\x08", Some((1, Some(b"")))),
+    (8181, b"\x06\x01\x04\x02\x00\x08\xff\x7f", Some((-129, None))),
+    // no record: a serial type is reserved
+    (8181, b"\x09\x01\x04\x01\x15\x0a\x03drei", None),
+    // the control 1
+    (8181, b"\x09\x01\x04\x01\x15\x09\x03drei", None),
+    // an integer in more bytes than it needs
+    (8180, b"\x0a\x01\x04\x02\x15\x08\x00\x03drei", None),
+    // a blob
+    (8181, b"\x09\x01\x04\x01\x14\x08\x03drei", None),
+    // a longer varint inside the record
+    (8180, b"\x0a\x01\x05\x01\x80\x15\x08\x03drei", None),
+];
+
 #[test]
-fn other_rows_are_not_prepared_inserts(rt: HostRuntime) -> Result<(), Fail> {
-    let cells: [&[u8]; 5] = [
-        // no record: a serial type is reserved
-        b"\x09\x01\x04\x01\x15\x0a\x03drei",
-        // the control 1
-        b"\x09\x01\x04\x01\x15\x09\x03drei",
-        // an integer in more bytes than it needs
-        b"\x0a\x01\x04\x02\x15\x08\x00\x03drei",
-        // a blob
-        b"\x09\x01\x04\x01\x14\x08\x03drei",
-        // a longer varint inside the record
-        b"\x0a\x01\x05\x01\x80\x15\x08\x03drei",
-    ];
-    for cell in cells {
-        let changes = [(8180, cell), (4104, b"\x0f\xf4".as_slice())];
+fn prepared_rows_are_read(rt: HostRuntime) -> Result<(), Fail> {
+    for (place, cell, expected) in PREPARED {
+        let [high, low] = place.wrapping_sub(4096).to_be_bytes();
+        let changes: [(usize, &[u8]); 2] = [(usize::from(*place), cell), (4104, &[high, low])];
         let bytes = file(rt.alloc(), RBU, changes.as_slice())?;
-        assert!(rt; read_rbu(rt.alloc(), bytes.as_slice())?.is_none());
+        match (read_rbu(rt.alloc(), bytes.as_slice())?, expected) {
+            (Some(rows), Some((key, value))) => {
+                let row: &PreparedRow = rows.first().ok_or("no row")?;
+                assert_eq!(rt; (rows.len(), row.data_rowid, row.key), (1, 1, *key));
+                assert_eq!(rt; text_of(&row.value), *value);
+            }
+            (found, expected) => assert_eq!(rt; found.is_some(), expected.is_some()),
+        }
     }
     Ok(())
 }

@@ -1,5 +1,5 @@
 // Worked rows: what small updates come to, and the bytes that they leave.
-ghost use Rattle.std.specs.Prelude.{◌≡◌, IfOk, length, map};
+ghost use Rattle.std.specs.Prelude.{◌≡◌, IfOk, length};
 ghost use Rattle.std.specs.Bool.{OnTrue};
 ghost use Rattle.std.specs.List.{All};
 ghost use Rattle.small_spec.specs.SmallFile.{IsRisingBy, IsNullOrText};
@@ -68,7 +68,10 @@ fn decided(
     Ok(match decide(alloc, old, prepared)? {
         Decision::SharedKey => ("shared key", 0),
         Decision::NoRoom => ("no room", 0),
-        Decision::KeyPresent { data_rowid } => ("key present", data_rowid),
+        Decision::KeyPresent { table, data_rowid } => {
+            assert_eq!(rt; table.as_slice(), b"t1".as_slice());
+            ("key present", data_rowid)
+        }
         Decision::Merged(rows) => ("merged", rows.len() as i64),
     })
 }
@@ -84,35 +87,30 @@ fn target(alloc: Global, counter: u32, cookie: u32) -> Result<Vec<u8>, AllocErro
     Ok(bytes)
 }
 
+// With a row of 2000 bytes, one with a text of 2077 fills its page: 8 + 2 * 2 + 2000 + 2084 is 4096.
 #[test]
 fn each_decision_has_its_cause(rt: HostRuntime) -> Result<(), Fail> {
     let alloc = rt.alloc();
-    let old: &[(i64, &[u8])] = &[(1, ONE), (2, TWO)];
-    let drei = Some(b"drei".as_slice());
-    assert_eq!(rt; decided(&rt, alloc, old, &[(1, 3, drei)])?, ("merged", 3));
-    assert_eq!(rt; decided(&rt, alloc, old, &[])?, ("merged", 2));
-    assert_eq!(rt;
-        decided(&rt, alloc, old, &[(1, 2, None)])?,
-        ("key present", 1)
-    );
-    let two_present = [(1, 2, drei), (2, 1, None)];
-    assert_eq!(rt; decided(&rt, alloc, old, &two_present)?, ("key present", 2));
-    let shared = [(1, 5, drei), (2, 4, drei), (3, 5, None)];
-    assert_eq!(rt; decided(&rt, alloc, old, &shared)?, ("shared key", 0));
-    Ok(())
-}
-
-#[test]
-fn a_page_is_filled_to_its_last_byte(rt: HostRuntime) -> Result<(), Fail> {
-    let alloc = rt.alloc();
     let bytes = vec![in alloc; b'x'; 4000]?;
     assert_eq!(rt; bytes.len(), 4000);
-    let old: &[(i64, &[u8])] = &[(1, &bytes[..2000])];
+    let short: &[(i64, &[u8])] = &[(1, ONE), (2, TWO)];
+    let long: &[(i64, &[u8])] = &[(1, &bytes[..2000])];
+    let drei = Some(b"drei".as_slice());
     let fits = Some(&bytes[..2077]);
     let over = Some(&bytes[..2078]);
-    assert_eq!(rt; decided(&rt, alloc, old, &[(1, 2, fits)])?, ("merged", 2));
-    assert_eq!(rt; decided(&rt, alloc, old, &[(1, 2, over)])?, ("no room", 0));
-    assert_eq!(rt; decided(&rt, alloc, old, &[(1, 1, over)])?, ("no room", 0));
+    let cases: [(&[(i64, &[u8])], &[(i64, i64, Option<&[u8]>)], (&str, i64)); 8] = [
+        (short, &[(1, 3, drei)], ("merged", 3)),
+        (short, &[], ("merged", 2)),
+        (short, &[(1, 2, None)], ("key present", 1)),
+        (short, &[(1, 2, drei), (2, 1, None)], ("key present", 2)),
+        (short, &[(1, 5, drei), (2, 4, drei), (3, 5, None)], ("shared key", 0)),
+        (long, &[(1, 2, fits)], ("merged", 2)),
+        (long, &[(1, 2, over)], ("no room", 0)),
+        (long, &[(1, 1, over)], ("no room", 0)),
+    ];
+    for (old, prepared, expected) in cases {
+        assert_eq!(rt; decided(&rt, alloc, old, prepared)?, expected);
+    }
     Ok(())
 }
 

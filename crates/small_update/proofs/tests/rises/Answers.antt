@@ -1,4 +1,4 @@
-use Rattle.std.proofs.Common.{◌≢◌, ◌<ℤ◌, List, length, arith, map}
+use Rattle.std.proofs.Common.{◌≢◌, ◌<ℤ◌, List, length, arith}
 use Rattle.std.proofs.lemmas.Int.{ints}
 use Rattle.std.specs.List.{AllAdjacentBelow}
 use Rattle.std.specs.List.Sorted.{IsSortedByKey}

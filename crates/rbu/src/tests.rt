@@ -1,11 +1,16 @@
 use crate::example::{rbu, target};
-use crate::example_disk;
+use crate::output::Output;
+use crate::program::{example_disk, program};
 use disk_memory::{MemoryDisk, MemorySink};
 use rbu_disk::{Disk, FileName};
 use rbu_run::{Ran, run_command};
 use sha2::{Digest, Sha256};
 use std::alloc::{AllocError, Global};
+use std::env::FillError;
+use std::io;
 use std::process::Abort;
+use std::random::RandomSource;
+use std::rt::{Alloc, Env};
 use std::test::Fail;
 
 const NAMES: [FileName; 7] = [
@@ -552,6 +557,82 @@ fn rows_fill_their_page_to_the_last_byte(rt: HostRuntime) -> Result<(), Fail> {
     for (first_key, second_key, part) in [(3, 4, "room"), (2, 4, "room"), (4, 4, "rows")] {
         let disk = disk_with_long_rows(alloc, first_key, 2026, second_key)?;
         assert_refused(&rt, alloc, &disk, part)?;
+    }
+    Ok(())
+}
+
+// A runtime with these words, whose salt may be missing.
+struct Machine {
+    words: &'static [&'static [u8]],
+    has_salt: bool,
+    alloc: Global,
+}
+
+impl Env for Machine {
+    fn arg(&self, i: usize, buf: &mut [u8]) -> Result<usize, FillError> {
+        let word = self.words.get(i).ok_or(FillError::NotPresent)?;
+        let room = buf.get_mut(..word.len()).ok_or(FillError::TooLong)?;
+        room.copy_from_slice(word);
+        Ok(word.len())
+    }
+
+    fn var(&self, _name: &str, _buf: &mut [u8]) -> Result<usize, FillError> {
+        Err(FillError::NotPresent)
+    }
+
+    fn var_at(&self, _i: usize, _buf: &mut [u8]) -> Result<usize, FillError> {
+        Err(FillError::NotPresent)
+    }
+}
+
+impl RandomSource for Machine {
+    fn fill_bytes(&self, buf: &mut [u8]) -> io::Result<()> {
+        if !self.has_salt {
+            return Err(io::Error::from(io::ErrorKind::Unsupported));
+        }
+        buf.fill(1);
+        Ok(())
+    }
+}
+
+impl Alloc for Machine {
+    type A = Global;
+
+    fn alloc(&self) -> Global {
+        self.alloc
+    }
+}
+
+const WHOLE_UPDATE: &[&[u8]] = &[b"rbu", b"apply", b"a", b"b", b"c", b"4294967295"];
+
+const NO_TEXT: &[&[u8]] = &[b"rbu", b"apply", b"a", b"b", b"c", b"\xff"];
+
+const TOO_FEW: &[&[u8]] = &[b"rbu", b"apply", b"a", b"b"];
+
+// The statuses of the program, with the room that its output has.
+#[test]
+fn program_ends_with_each_status(rt: HostRuntime) -> Result<(), Fail> {
+    let cases: [(&'static [&'static [u8]], bool, usize, u8, &str); 8] = [
+        (WHOLE_UPDATE, true, 5, 0, "done\n"),
+        (NO_TEXT, true, 9, 2, "usage\n"),
+        (TOO_FEW, true, 9, 2, "usage\n"),
+        (&[], true, 9, 2, "usage\n"),
+        (WHOLE_UPDATE, false, 9, 7, ""),
+        (WHOLE_UPDATE, true, 4, 8, "done"),
+        (NO_TEXT, true, 0, 8, ""),
+        (TOO_FEW, true, 3, 8, "usa"),
+    ];
+    for (words, has_salt, room, status, line) in cases {
+        let alloc = rt.alloc();
+        let machine = Machine {
+            words,
+            has_salt,
+            alloc,
+        };
+        let mut bytes = [0; 9];
+        let mut out = Output::new(&mut bytes[..room]);
+        assert_eq!(rt; program(&machine, &mut out), status, "wanted {line}");
+        assert!(rt; bytes.starts_with(line.as_bytes()), "wanted {line}");
     }
     Ok(())
 }

@@ -3,8 +3,8 @@ ghost use Rattle.std.specs.Prelude.{◌≡◌, pos, [], ◌∷◌, ◌++◌, fal
 ghost use Rattle.format_spec.specs.declared.PageKind.TheVariants.{IndexInterior, TableLeaf};
 ghost use Rattle.format_spec.specs.Varint.{IsVarint};
 ghost use Rattle.format_spec.specs.Page.{IsPage};
-ghost use Rattle.format_spec.specs.Header.{HasMagic, page_size, write_version, read_version, reserved, max_fraction, min_fraction, leaf_fraction, change_counter, pages, freelist_trunk, freelist_pages, schema_cookie, schema_format, largest_root, text_encoding, version_valid_for};
-ghost use Rattle.format_spec.specs.PageMap.{pages_of, header_size, header_count};
+ghost use Rattle.format_spec.specs.Header.{HasMagic, page_size, page_bytes, write_version, read_version, reserved, max_fraction, min_fraction, leaf_fraction, change_counter, pages, freelist_trunk, freelist_pages, schema_cookie, schema_format, largest_root, text_encoding, version_valid_for};
+ghost use Rattle.format_spec.specs.PageMap.{pages_of, page_count};
 ghost use Rattle.format_spec.specs.Log.{Frame, log_header, frame_header, IsLog, IsOverlay};
 ghost use Rattle.format_spec.specs.LittleLog.{little_page, little_frame, little_salt, little_header, little_frame_header, little_log};
 
@@ -58,10 +58,10 @@ pub fn worked_overlay()
 
 /// A database file by itself: the page size and the size in pages of its header, or as many whole pages as it has.
 pub fn worked_file_pages()
-    ensures little { header_size (replicate 16 0 ++ 0x02 ∷ 0x00 ∷ []) ≡ 512 }
-    ensures greatest { header_size (replicate 16 0 ++ 0x00 ∷ 0x01 ∷ []) ≡ 65536 }
-    ensures valid { header_count (replicate 24 0 ++ 0 ∷ 0 ∷ 0 ∷ 7 ∷ 0 ∷ 0 ∷ 0 ∷ 3 ∷ replicate 60 0 ++ 0 ∷ 0 ∷ 0 ∷ 7 ∷ []) ≡ 3 }
-    ensures stale { header_count (replicate 16 0 ++ 0 ∷ 16 ∷ replicate 6 0 ++ 0 ∷ 0 ∷ 0 ∷ 7 ∷ 0 ∷ 0 ∷ 0 ∷ 3 ∷ replicate 60 0 ++ 0 ∷ 0 ∷ 0 ∷ 6 ∷ []) ≡ 6 }
+    ensures little { page_bytes (replicate 16 0 ++ 0x02 ∷ 0x00 ∷ []) ≡ 512 }
+    ensures greatest { page_bytes (replicate 16 0 ++ 0x00 ∷ 0x01 ∷ []) ≡ 65536 }
+    ensures valid { page_count (replicate 24 0 ++ 0 ∷ 0 ∷ 0 ∷ 7 ∷ 0 ∷ 0 ∷ 0 ∷ 3 ∷ replicate 60 0 ++ 0 ∷ 0 ∷ 0 ∷ 7 ∷ []) ≡ 3 }
+    ensures stale { page_count (replicate 16 0 ++ 0 ∷ 16 ∷ replicate 6 0 ++ 0 ∷ 0 ∷ 0 ∷ 7 ∷ 0 ∷ 0 ∷ 0 ∷ 3 ∷ replicate 60 0 ++ 0 ∷ 0 ∷ 0 ∷ 6 ∷ []) ≡ 6 }
 {}
 
 /// A table leaf with the rows (1, 'one') and (2, 'two'), and a freeblock where SQLite deleted a row between them.

@@ -1,10 +1,10 @@
 -- What a reader sees of small files: crates above cite these facts in their proofs.
 use Rattle.std.proofs.Common.{◌≡◌, ◌==◌, ℕ, true, List, [], Some, None, Option, refl, ap, ◌∙◌, sym, subst, unwrap_or, arith}
 use Rattle.std.proofs.lemmas.Bool.Decides.{nat_tests}
-use Rattle.format_spec.specs.Header.{change_counter}
+use Rattle.format_spec.specs.Header.{page_bytes, change_counter}
 use Rattle.file_spec.specs.declared.FileName.TheVariants.{Target, Wal}
 use Rattle.file_spec.specs.Files.{Files, content}
-use Rattle.format_spec.specs.PageMap.{SamePages, pages_of, header_size, header_count, file_pages}
+use Rattle.format_spec.specs.PageMap.{SamePages, pages_of, page_count, file_pages}
 use Rattle.format_spec.specs.PageMapLaws.{SamePages-itself}
 use Rattle.update_spec.specs.View.{IsOverlaidBy, IsView}
 use Rattle.update_spec.specs.Update.{SeesNew, IsDone}
@@ -16,18 +16,18 @@ equals-itself : (n : ℕ) → (n == n) ≡ true
 equals-itself n = grind (arith, nat_tests)
 
 -- the header of a small file says pages of 4096 bytes
-pub header_size-small : (bytes : List ℕ) → IsSmallHeader bytes → header_size bytes ≡ 4096
-header_size-small bytes header = rw header.layout.0 refl
+pub page_bytes-small : (bytes : List ℕ) → IsSmallHeader bytes → page_bytes bytes ≡ 4096
+page_bytes-small bytes header = rw header.layout.0 refl
 
 -- and two of them
-pub header_count-small : (bytes : List ℕ) → IsSmallHeader bytes → header_count bytes ≡ 2
-header_count-small bytes header = rw (header.state.0, header.valid, equals-itself (change_counter bytes)) refl
+pub page_count-small : (bytes : List ℕ) → IsSmallHeader bytes → page_count bytes ≡ 2
+page_count-small bytes header = rw (header.state.0, header.valid, equals-itself (change_counter bytes)) refl
 
 -- so these are its pages
 pub file_pages-small : (bytes : List ℕ) → IsSmallHeader bytes → file_pages bytes ≡ pages_of 4096 2 bytes
 file_pages-small bytes header =
-    ap (λ (size : ℕ). pages_of size (header_count bytes) bytes) (header_size-small bytes header)
-    ∙ ap (λ (count : ℕ). pages_of 4096 count bytes) (header_count-small bytes header)
+    ap (λ (size : ℕ). pages_of size (page_count bytes) bytes) (page_bytes-small bytes header)
+    ∙ ap (λ (count : ℕ). pages_of 4096 count bytes) (page_count-small bytes header)
 
 -- a reader of a small target without a log sees its two pages
 pub view-small : (files : Files) (bytes : List ℕ) → IsSmallHeader bytes → files Target ≡ Some bytes → files Wal ≡ None → IsView files (pages_of 4096 2 bytes)

@@ -2,13 +2,13 @@
 use Rattle.std.specs.Prelude.{◌↔◌, ℕ, List, [], ◌∷◌, Option, Some, None}
 use Rattle.file_spec.specs.declared.FileName.TheVariants.{Target, Wal}
 use Rattle.file_spec.specs.Files.{Files, content}
-use Rattle.format_spec.specs.PageMap.{PageMap, SamePages, pages_of, header_count, file_pages}
+use Rattle.format_spec.specs.PageMap.{PageMap, SamePages, pages_of, page_count, file_pages}
 use Rattle.format_spec.specs.Log.{Frame, IsLog, committed, IsOverlay}
 
 -- a file's pages below its log: of the log's page size where it has a commit
 abbrev pub pages_below : ℕ → List Frame → List ℕ → PageMap
 pages_below page_size [] file = file_pages file
-pages_below page_size (frame ∷ frames) file = pages_of page_size (header_count file) file
+pages_below page_size (frame ∷ frames) file = pages_of page_size (page_count file) file
 
 -- the pages of a database file, overlaid by a log where there is one
 abbrev pub IsOverlaidBy : Option (List ℕ) → List ℕ → PageMap → Type 0

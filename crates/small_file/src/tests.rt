@@ -124,7 +124,10 @@ const TARGETS: &[(Parts<'static>, Option<&[(i64, &[u8])]>)] = &[
     // a cell over the end of the page
     (&[(4104, b"\x0f\xf8\x0f\xff")], None),
     // a longer varint inside a record
-    (&[(8174, b"\x07\x02\x04\x00\x80\x13two"), (4106, b"\x0f\xee")], None),
+    (
+        &[(8174, b"\x07\x02\x04\x00\x80\x13two"), (4106, b"\x0f\xee")],
+        None,
+    ),
     // a cell inside the text of another one
     (
         &[
@@ -153,10 +156,18 @@ fn targets_are_read(rt: HostRuntime) -> Result<(), Fail> {
 
 // What is read of the RBU database whose one cell begins at this byte of the file: its key and value, or that it is none.
 const PREPARED: &[(u16, &[u8], Option<(i64, Option<&[u8]>)>)] = &[
-    (8181, b"\x09\x01\x04\x01\x15\x08\x03drei", Some((3, Some(b"drei")))),
+    (
+        8181,
+        b"\x09\x01\x04\x01\x15\x08\x03drei",
+        Some((3, Some(b"drei"))),
+    ),
     (8181, b"\x05\x01\x04\x01\x00\x08\x03", Some((3, None))),
     (8181, b"\x04\x01\x04\x09\x0d\x08", Some((1, Some(b"")))),
-    (8181, b"\x06\x01\x04\x02\x00\x08\xff\x7f", Some((-129, None))),
+    (
+        8181,
+        b"\x06\x01\x04\x02\x00\x08\xff\x7f",
+        Some((-129, None)),
+    ),
     // no record: a serial type is reserved
     (8181, b"\x09\x01\x04\x01\x15\x0a\x03drei", None),
     // the control 1

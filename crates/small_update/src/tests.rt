@@ -87,30 +87,34 @@ fn target(alloc: Global, counter: u32, cookie: u32) -> Result<Vec<u8>, AllocErro
     Ok(bytes)
 }
 
+// What is decided on the rows (1, 'one') and (2, 'two') with these prepared rows.
+const DECISIONS: &[(&[(i64, i64, Option<&[u8]>)], (&str, i64))] = &[
+    (&[(1, 3, Some(b"drei"))], ("merged", 3)),
+    (&[], ("merged", 2)),
+    (&[(1, 2, None)], ("key present", 1)),
+    (&[(1, 2, Some(b"drei")), (2, 1, None)], ("key present", 2)),
+    (
+        &[(1, 5, Some(b"drei")), (2, 4, Some(b"drei")), (3, 5, None)],
+        ("shared key", 0),
+    ),
+];
+
 // With a row of 2000 bytes, one with a text of 2077 fills its page: 8 + 2 * 2 + 2000 + 2084 is 4096.
 #[test]
 fn each_decision_has_its_cause(rt: HostRuntime) -> Result<(), Fail> {
     let alloc = rt.alloc();
+    for (prepared, expected) in DECISIONS {
+        let found = decided(&rt, alloc, &[(1, ONE), (2, TWO)], prepared)?;
+        assert_eq!(rt; found, *expected);
+    }
     let bytes = vec![in alloc; b'x'; 4000]?;
     assert_eq!(rt; bytes.len(), 4000);
-    let short: &[(i64, &[u8])] = &[(1, ONE), (2, TWO)];
-    let long: &[(i64, &[u8])] = &[(1, &bytes[..2000])];
-    let drei = Some(b"drei".as_slice());
+    let old: &[(i64, &[u8])] = &[(1, &bytes[..2000])];
     let fits = Some(&bytes[..2077]);
     let over = Some(&bytes[..2078]);
-    let cases: [(&[(i64, &[u8])], &[(i64, i64, Option<&[u8]>)], (&str, i64)); 8] = [
-        (short, &[(1, 3, drei)], ("merged", 3)),
-        (short, &[], ("merged", 2)),
-        (short, &[(1, 2, None)], ("key present", 1)),
-        (short, &[(1, 2, drei), (2, 1, None)], ("key present", 2)),
-        (short, &[(1, 5, drei), (2, 4, drei), (3, 5, None)], ("shared key", 0)),
-        (long, &[(1, 2, fits)], ("merged", 2)),
-        (long, &[(1, 2, over)], ("no room", 0)),
-        (long, &[(1, 1, over)], ("no room", 0)),
-    ];
-    for (old, prepared, expected) in cases {
-        assert_eq!(rt; decided(&rt, alloc, old, prepared)?, expected);
-    }
+    assert_eq!(rt; decided(&rt, alloc, old, &[(1, 2, fits)])?, ("merged", 2));
+    assert_eq!(rt; decided(&rt, alloc, old, &[(1, 2, over)])?, ("no room", 0));
+    assert_eq!(rt; decided(&rt, alloc, old, &[(1, 1, over)])?, ("no room", 0));
     Ok(())
 }
 

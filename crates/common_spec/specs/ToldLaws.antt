@@ -1,34 +1,49 @@
 -- How the steps of one device join: crates above cite these facts in their proofs.
-use Rattle.std.specs.Prelude.{◌≡◌, Option, Some, None, option_map}
+use Rattle.std.specs.Prelude.{◌≡◌, Option, Some, None, IfSome, refl}
+use Rattle.std.proofs.Common.{sym, subst, ap}
 use Rattle.common_spec.specs.Told.{Leads}
 
--- a step that is known exactly
-pub Leads-map : {S : Type 0} (h : S → S) (before after : Option S) → after ≡ option_map h before → Leads (λ f g. g ≡ h f) before after
-Leads-map h None None e = tt
-Leads-map h None (Some g) e = absurd (cc)
-Leads-map h (Some f) None e = absurd (cc)
-Leads-map h (Some f) (Some g) e = cc
-
--- a step that changes nothing
-pub Leads-same : {S : Type 0} (before after : Option S) → after ≡ before → Leads (λ f g. g ≡ f) before after
-Leads-same None None e = tt
-Leads-same None (Some g) e = absurd (cc)
-Leads-same (Some f) None e = absurd (cc)
-Leads-same (Some f) (Some g) e = cc
+-- nothing changes
+pub Leads-here : {S : Type 0} {Q : S → S → Type 0} {at : Option S} → ((f : S) → Q f f) → Leads Q at at
+Leads-here {at = None} q = record { goes_on = refl; step = tt }
+Leads-here {at = Some f} q = record { goes_on = refl; step = q f }
 
 -- a step says less
-pub Leads-weaken : {S : Type 0} (R Q : S → S → Type 0) (before after : Option S) → Leads R before after → ((f g : S) → R f g → Q f g) → Leads Q before after
-Leads-weaken R Q None None h w = tt
-Leads-weaken R Q None (Some g) h w = h
-Leads-weaken R Q (Some f) None h w = h
-Leads-weaken R Q (Some f) (Some g) h w = w f g h
+pub Leads-weaken : {S : Type 0} {R Q : S → S → Type 0} {before after : Option S} → Leads R before after → ((f g : S) → R f g → Q f g) → Leads Q before after
+Leads-weaken {before = None} {after = after} h w = record { goes_on = h.goes_on; step = tt }
+Leads-weaken {before = Some f} {after = None} h w = record { goes_on = h.goes_on; step = tt }
+Leads-weaken {before = Some f} {after = Some g} h w = record { goes_on = h.goes_on; step = w f g h.step }
+
+-- a state that stays
+pub Leads-same : {S : Type 0} {Q : S → S → Type 0} {before after : Option S} → after ≡ before → ((f : S) → Q f f) → Leads Q before after
+Leads-same {Q = Q} {before = before} e q = subst (Leads Q before) (sym e) (Leads-here q)
 
 -- one step after another
-pub Leads-then : {S : Type 0} (P R Q : S → S → Type 0) (before between after : Option S) → Leads P before between → Leads R between after →
+pub Leads-then : {S : Type 0} {P R Q : S → S → Type 0} {before between after : Option S} → Leads P before between → Leads R between after →
     ((f g h : S) → P f g → R g h → Q f h) → Leads Q before after
-Leads-then P R Q None None None p r w = tt
-Leads-then P R Q None None (Some h) p r w = r
-Leads-then P R Q None (Some g) after p r w = absurd p
-Leads-then P R Q (Some f) None after p r w = absurd p
-Leads-then P R Q (Some f) (Some g) None p r w = r
-Leads-then P R Q (Some f) (Some g) (Some h) p r w = w f g h p r
+Leads-then {before = None} {between = between} {after = after} p r w = record { goes_on = cc (p.goes_on, r.goes_on); step = tt }
+Leads-then {before = Some f} {between = None} {after = after} p r w = absurd (let e = p.goes_on in cc)
+Leads-then {before = Some f} {between = Some g} {after = None} p r w = absurd (let e = r.goes_on in cc)
+Leads-then {before = Some f} {between = Some g} {after = Some h} p r w = record { goes_on = refl; step = w f g h p.step r.step }
+
+-- two facts of a state that stays
+pub told-both : {S : Type 0} {P Q R : S → Type 0} (before : Option S) {after : Option S} → after ≡ before → IfSome before P → IfSome after Q →
+    ((f : S) → P f → Q f → R f) → IfSome before R
+told-both {S = S} {P = P} {Q = Q} {R = R} before {after = after} same p q w = joined before p (subst (λ o. IfSome o Q) same q)
+  where
+    joined : (o : Option S) → IfSome o P → IfSome o Q → IfSome o R
+    joined None p q = tt
+    joined (Some f) p q = w f p q
+
+-- a step from a state of which something is known
+pub Leads-known : {S : Type 0} {K : S → Type 0} {R : S → S → Type 0} {before after : Option S} → IfSome before K → Leads (λ f g. K f → R f g) before after → Leads R before after
+Leads-known {before = None} known step = record { goes_on = step.goes_on; step = tt }
+Leads-known {before = Some f} {after = None} known step = record { goes_on = step.goes_on; step = tt }
+Leads-known {before = Some f} {after = Some g} known step = record { goes_on = step.goes_on; step = step.step known }
+
+-- a step that changes nothing leaves what is told
+pub same-Leads : {S : Type 0} {before after : Option S} → Leads (λ f g. g ≡ f) before after → after ≡ before
+same-Leads {before = None} {after = None} step = refl
+same-Leads {before = None} {after = Some g} step = absurd (let e = step.goes_on in cc)
+same-Leads {before = Some f} {after = None} step = absurd (let e = step.goes_on in cc)
+same-Leads {before = Some f} {after = Some g} step = ap Some step.step

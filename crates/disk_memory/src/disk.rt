@@ -1,5 +1,5 @@
 // A disk in memory.
-ghost use Rattle.std.specs.Prelude.{◌≡◌, ◌≤◌, ◌<◌, ◌+◌, ◌^◌, ◌++◌, ◌||◌, ◌↔◌, IsTrue, IsSome, IsErr, IfOk, OnOk, OnErr, Some, None, is_err, length, drop, map, option_map};
+ghost use Rattle.std.specs.Prelude.{◌≡◌, ◌≤◌, ◌<◌, ◌+◌, ◌^◌, ◌++◌, ◌||◌, ◌↔◌, IsTrue, IsSome, IsErr, IfOk, OnOk, OnErr, Some, None, is_err, length, take, drop, map, option_map};
 ghost use Rattle.file_spec.specs.declared.FileName.TheVariants.{Target};
 ghost use Rattle.byte_fields.specs.Bytes.{part_of};
 ghost use Rattle.file_spec.specs.Files.{after_create, after_remove, after_rename, after_set_len, after_write, content, name_index, with_file};
@@ -200,8 +200,8 @@ impl Disk for MemoryDisk {
     /// After a fault the buffer is as it was.
     fn read_at(&mut self, name: FileName, at: u64, into: &mut [u8]) -> Result<usize, DiskFault>
         ensures bound { IfOk result (λ n. n ≤ length into.old) }
-        ensures count { IfOk result (λ n. n ≡ length (part_of (content (files_of self.old) name) at (length into.old))) }
-        ensures copied { IfOk result (λ n. into.new ≡ part_of (content (files_of self.old) name) at (length into.old) ++ drop n into.old) }
+        ensures copied { IfOk result (λ n. take n into.new ≡ part_of (content (files_of self.old) name) at (length into.old)) }
+        ensures rest { IfOk result (λ n. drop n into.new ≡ drop n into.old) }
         ensures failed { OnErr result (into.new ≡ into.old) }
         ensures same { files_of self.new ≡ files_of self.old }
         ensures fails { is_err result ≡ is_listed self.old.counts }

@@ -92,8 +92,9 @@ fn put_at(text: &mut Vec<u8>, at: usize, bytes: &[u8])
 /// Copies the bytes from a place on to the front of a buffer, as many as there are or the buffer takes, and answers
 /// how many.
 pub fn copy_part(bytes: &[u8], at: u64, into: &mut [u8]) -> usize
-    ensures count { result ≡ length (part_of bytes.now at (length into.old)) }
-    ensures copied { into.new ≡ part_of bytes.now at (length into.old) ++ drop result into.old }
+    ensures bound { result ≤ length into.old }
+    ensures copied { take result into.new ≡ part_of bytes.now at (length into.old) }
+    ensures rest { drop result into.new ≡ drop result into.old }
 {
     let start = at.min(bytes.len() as u64) as usize;
     let rest = &bytes[start..];

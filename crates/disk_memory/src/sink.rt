@@ -1,6 +1,6 @@
 // An output in memory.
 ghost use Rattle.std.specs.Prelude.{◌≡◌, ◌≤◌, ◌++◌, [], OnOk, OnErr, Some, is_err};
-ghost use Rattle.common_spec.specs.Counts.{Rises};
+ghost use Rattle.rbu_disk.specs.Call.{CountsSinkFaults};
 ghost use Rattle.disk_memory.specs.Calls.{CountsRefusal, is_listed};
 
 use crate::calls::Calls;
@@ -59,9 +59,7 @@ impl Sink for MemorySink {
         ensures done { OnOk result (self.new.written ≡ self.old.written ++ bytes.now) }
         ensures failed { OnErr result (self.new.written ≡ self.old.written) }
         ensures counts { CountsRefusal (is_listed self.old.counts) (is_err result) self.old.counts self.new.counts }
-        ensures count { self.old.counts.faults ≤ self.new.counts.faults }
-        ensures still { OnOk result (self.new.counts.faults ≡ self.old.counts.faults) }
-        ensures cause { OnErr result (Rises self.old.counts.faults self.new.counts.faults) }
+        ensures cause { CountsSinkFaults self.old.counts.faults self.new.counts.faults result }
     {
         if self.calls.is_to_fail() {
             return Err(SinkFault);

@@ -22,20 +22,44 @@ fn every_call<D: Disk>(rt: &impl Abort, disk: &mut D) -> Result<(), DiskFault> {
     disk.remove(FileName::Journal)
 }
 
+// An end over the limit is no want of memory, and one at the limit is. Of two entries with one name the first counts.
 #[test]
-fn every_call_does_its_work(rt: HostRuntime) -> Result<(), Fail> {
+fn each_call_does_its_work(rt: HostRuntime) -> Result<(), Fail> {
     let alloc = rt.alloc();
-    let mut disk = MemoryDisk::new(alloc, Vec::new(alloc), Vec::new(alloc));
+    let mut files = Vec::new(alloc);
+    files.push((FileName::State, b"first".to_vec(alloc)?))?;
+    files.push((FileName::State, b"second".to_vec(alloc)?))?;
+    let mut disk = MemoryDisk::new(alloc, files, Vec::new(alloc));
     every_call(&rt, &mut disk)?;
-    assert!(rt; disk.contents(FileName::Wal) == Some(b"aBCde".as_slice()));
-    assert!(rt; disk.contents(FileName::Oal).is_none());
-    assert!(rt; disk.contents(FileName::Journal).is_none());
+    disk.write_at(FileName::Target, 3, b"ab")?;
+    disk.set_len(FileName::Target, 7)?;
+    let limit = 1 << 62;
+    assert!(rt; disk.write_at(FileName::Rbu, limit, b"a").is_err());
+    assert!(rt; disk.set_len(FileName::Rbu, limit + 1).is_err());
     assert_eq!(rt; disk.refused(), 0);
+    assert!(rt; disk.set_len(FileName::Rbu, limit).is_err());
+    assert_eq!(rt; disk.refused(), 1);
+    let left: [(FileName, Option<&[u8]>); 6] = [
+        (FileName::Target, Some(b"\0\0\0ab\0\0")),
+        (FileName::Oal, None),
+        (FileName::Wal, Some(b"aBCde")),
+        (FileName::Journal, None),
+        (FileName::Rbu, None),
+        (FileName::State, Some(b"first")),
+    ];
+    for (name, bytes) in left {
+        assert!(rt; disk.contents(name) == bytes, "{name:?}");
+    }
     Ok(())
 }
 
+fn write_line<S: Sink>(sink: &mut S, line: &str) -> Result<(), SinkFault> {
+    sink.write_all(line.as_bytes())?;
+    sink.write_all(b"\n")
+}
+
 #[test]
-fn third_call_fails_and_changes_nothing(rt: HostRuntime) -> Result<(), Fail> {
+fn calls_whose_numbers_are_listed_fail(rt: HostRuntime) -> Result<(), Fail> {
     let alloc = rt.alloc();
     let mut disk = MemoryDisk::new(alloc, Vec::new(alloc), vec![in alloc; 2]?);
     disk.write_at(FileName::State, 0, b"ab")?;
@@ -49,57 +73,6 @@ fn third_call_fails_and_changes_nothing(rt: HostRuntime) -> Result<(), Fail> {
     disk.remove(FileName::State)?;
     assert!(rt; disk.contents(FileName::State).is_none());
     assert_eq!(rt; disk.refused(), 0);
-    Ok(())
-}
-
-#[test]
-fn zeros_lie_before_a_write_past_the_end(rt: HostRuntime) -> Result<(), Fail> {
-    let alloc = rt.alloc();
-    let mut disk = MemoryDisk::new(alloc, Vec::new(alloc), Vec::new(alloc));
-    disk.write_at(FileName::Target, 3, b"ab")?;
-    assert!(rt; disk.contents(FileName::Target) == Some(b"\0\0\0ab".as_slice()));
-    disk.set_len(FileName::Target, 7)?;
-    assert!(rt; disk.contents(FileName::Target) == Some(b"\0\0\0ab\0\0".as_slice()));
-    Ok(())
-}
-
-// An end over the limit is no want of memory; one at the limit is.
-#[test]
-fn no_file_ends_over_the_limit(rt: HostRuntime) -> Result<(), Fail> {
-    let alloc = rt.alloc();
-    let limit = 1 << 62;
-    let mut disk = MemoryDisk::new(alloc, Vec::new(alloc), Vec::new(alloc));
-    assert!(rt; disk.write_at(FileName::Rbu, limit, b"a").is_err());
-    assert!(rt; disk.set_len(FileName::Rbu, limit + 1).is_err());
-    assert_eq!(rt; disk.refused(), 0);
-    assert!(rt; disk.set_len(FileName::Rbu, limit).is_err());
-    assert_eq!(rt; disk.refused(), 1);
-    assert!(rt; disk.contents(FileName::Rbu).is_none());
-    Ok(())
-}
-
-#[test]
-fn first_of_two_entries_with_one_name_counts(rt: HostRuntime) -> Result<(), Fail> {
-    let alloc = rt.alloc();
-    let mut files = Vec::new(alloc);
-    files.push((FileName::Target, b"first".to_vec(alloc)?))?;
-    files.push((FileName::Rbu, b"rows".to_vec(alloc)?))?;
-    files.push((FileName::Target, b"second".to_vec(alloc)?))?;
-    let disk = MemoryDisk::new(alloc, files, Vec::new(alloc));
-    assert!(rt; disk.contents(FileName::Target) == Some(b"first".as_slice()));
-    assert!(rt; disk.contents(FileName::Rbu) == Some(b"rows".as_slice()));
-    assert!(rt; disk.contents(FileName::Wal).is_none());
-    Ok(())
-}
-
-fn write_line<S: Sink>(sink: &mut S, line: &str) -> Result<(), SinkFault> {
-    sink.write_all(line.as_bytes())?;
-    sink.write_all(b"\n")
-}
-
-#[test]
-fn third_write_of_a_sink_fails(rt: HostRuntime) -> Result<(), Fail> {
-    let alloc = rt.alloc();
     let mut sink = MemorySink::new(alloc, vec![in alloc; 2]?);
     write_line(&mut sink, "one")?;
     assert_eq!(rt; write_line(&mut sink, "two"), Err(SinkFault));

@@ -3,3 +3,4 @@ pub mod FilesLaws
 pub mod Names
 pub mod Faults
 pub mod FaultsLaws
+pub mod OnlyChangesLaws

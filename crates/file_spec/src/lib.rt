@@ -9,13 +9,12 @@
 //! `FilesLaws` and `FaultsLaws` say what follows from them.
 #![tactic(auto)]
 
-ghost use Rattle.std.specs.Prelude.{◌≡◌, ◌≤◌, ◌++◌, length, List, ℕ, Option, option_map};
+ghost use Rattle.std.specs.Prelude.{◌≡◌, ◌≤◌, ◌++◌, length, List, ℕ, Option};
 ghost use Rattle.byte_fields.specs.Bytes.{overwritten};
 ghost use Rattle.file_spec.specs.Files.{Files, with_file};
 ghost use Rattle.byte_fields.specs.BytesLaws.{overwritten-end};
 ghost use Rattle.file_spec.specs.FilesLaws.{with_file-again};
 ghost use Rattle.common_spec.specs.Told.{Leads};
-ghost use Rattle.common_spec.specs.ToldLaws.{Leads-then};
 
 /// The files of one update, all in one folder.
 #[derive(Clone, Copy, Debug, PartialEq, Eq)]
@@ -103,7 +102,7 @@ pub fn writes_join()
 
 /// Two calls that are known exactly leave what the second makes of what the first made.
 pub fn steps_join()
-    ensures { (h k : Files → Files) (a b c : Option Files) → b ≡ option_map h a → c ≡ option_map k b →
+    ensures { (h k : Files → Files) (a b c : Option Files) → Leads (λ f g. g ≡ h f) a b → Leads (λ f g. g ≡ k f) b c →
         Leads (λ f g. g ≡ k (h f)) a c }
 {}
 

@@ -1,9 +1,10 @@
--- What every call on a disk owes.
-use Rattle.std.specs.Prelude.{◌≡◌, ◌≤◌, ℕ, Option, Some, Result, OnOk, IfErr}
+-- What every call on a device owes, said of the device's own members.
+use Rattle.std.specs.Prelude.{◌≡◌, ◌++◌, ℕ, List, Option, Some, Result, IfErr}
+use Rattle.common_spec.specs.Counts.{Rises, CountsFaults}
 use Rattle.file_spec.specs.declared.FileName.{FileName}
 use Rattle.file_spec.specs.declared.DiskCall.{DiskCall}
-use Rattle.common_spec.specs.Counts.{Rises}
 use Rattle.rbu_disk.specs.declared.disk.DiskFault.{DiskFault}
+use Rattle.rbu_disk.specs.declared.sink.SinkFault.{SinkFault}
 
 -- the calls of a disk that failed: how many there were, and the fault of the last
 pub record Failures : Type 0 where
@@ -15,9 +16,15 @@ pub record Fails (before now : Failures) (fault : DiskFault) : Type 0 where
   pub rose : Rises before.count now.count
   pub last : now.last ≡ Some fault
 
--- The count of faults does not fall, and all stays where the call ends well. A fault is answered only where the count rose in the call; it is the last one, and names the file and the call.
+-- The failures of a disk are counted, with the fault of the last. A fault names the file and the call.
 pub record HasCause {T : Type 0} (before now : Failures) (name : FileName) (call : DiskCall) (result : Result T DiskFault) : Type 0 where
-  pub later : before.count ≤ now.count
-  pub still : OnOk result (now ≡ before)
-  pub fails : IfErr result (Fails before now)
+  pub counts : CountsFaults (λ (failures : Failures). failures.count) Fails before now result
   pub names : IfErr result (λ fault. fault ≡ record { file = name; call = call })
+
+-- the faults of an output are counted
+abbrev pub CountsSinkFaults : {T : Type 0} → ℕ → ℕ → Result T SinkFault → Type 0
+CountsSinkFaults before now result = CountsFaults (λ (faults : ℕ). faults) (λ (f n : ℕ) (e : SinkFault). Rises f n) before now result
+
+-- the text grew by a prefix of the bytes
+abbrev pub GrewByPrefix : List ℕ → List ℕ → List ℕ → Type 0
+GrewByPrefix bytes before after = (prefix : List ℕ) × (rest : List ℕ) × (bytes ≡ prefix ++ rest) × (after ≡ before ++ prefix)

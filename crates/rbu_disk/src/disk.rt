@@ -1,10 +1,10 @@
 // The files of an update, and the calls on them.
-ghost use Rattle.std.specs.Prelude.{◌≡◌, ◌≤◌, ◌<◌, ◌+◌, ◌^◌, ◌↔◌, ◌++◌, ℕ, Option, IsTrue, IsSome, IsErr, IfOk, OnOk, OnErr, length, drop, option_map};
+ghost use Rattle.std.specs.Prelude.{◌≡◌, ◌≤◌, ◌<◌, ◌+◌, ◌^◌, ◌↔◌, ◌++◌, ℕ, Option, IsTrue, IsSome, IsErr, IfOk, OnOk, OnErr, length, take, drop};
 ghost use Rattle.file_spec.specs.declared.FileName.TheVariants.{Target};
 ghost use Rattle.byte_fields.specs.Bytes.{part_of};
 ghost use Rattle.file_spec.specs.Files.{Files, content, after_create, after_remove, after_rename, after_set_len, after_write};
-ghost use Rattle.common_spec.specs.Told.{Leads};
 ghost use Rattle.file_spec.specs.Faults.{AfterFailedSetLen, AfterTornWrite};
+ghost use Rattle.common_spec.specs.Told.{Finds, Leads};
 
 use crate::{DiskCall, FileName};
 use thiserror::Error;
@@ -30,30 +30,26 @@ pub trait Disk {
 
     /// Whether there is a file under the name.
     fn exists(&mut self, name: FileName) -> Result<bool, DiskFault>
-        ensures answer { IfOk result (λ there. Leads (λ files _. IsTrue there ↔ IsSome (files name)) (shown self.old) (shown self.new)) }
-        ensures same { shown self.new ≡ shown self.old }
+        ensures files { Finds (shown self.old) (shown self.new) result (λ there files. IsTrue there ↔ IsSome (files name)) }
         ensures cause { HasCause (failures self.old) (failures self.new) name DiskCall.Exists result };
 
     /// The length of the file; 0 for a missing one.
     fn len(&mut self, name: FileName) -> Result<u64, DiskFault>
-        ensures answer { IfOk result (λ n. Leads (λ files _. n ≡ length (content files name)) (shown self.old) (shown self.new)) }
-        ensures same { shown self.new ≡ shown self.old }
+        ensures files { Finds (shown self.old) (shown self.new) result (λ n files. n ≡ length (content files name)) }
         ensures cause { HasCause (failures self.old) (failures self.new) name DiskCall.Len result };
 
     /// Reads from a place, fewer bytes than asked only at the file's end, and answers how many. After a fault the
     /// buffer holds any bytes.
     fn read_at(&mut self, name: FileName, at: u64, into: &mut [u8]) -> Result<usize, DiskFault>
         ensures bound { IfOk result (λ n. n ≤ length into.old) }
-        ensures answer { IfOk result (λ n. Leads (λ files _.
-            (n ≡ length (part_of (content files name) at (length into.old)))
-            × (into.new ≡ part_of (content files name) at (length into.old) ++ drop n into.old)) (shown self.old) (shown self.new)) }
-        ensures same { shown self.new ≡ shown self.old }
+        ensures rest { IfOk result (λ n. drop n into.new ≡ drop n into.old) }
+        ensures files { Finds (shown self.old) (shown self.new) result (λ n files. take n into.new ≡ part_of (content files name) at (length into.old)) }
         ensures cause { HasCause (failures self.old) (failures self.new) name DiskCall.Read result };
 
     /// Writes at a place; a missing file is made first, and zeros lie between an earlier end and the place. Fails and
     /// changes nothing where the new end would be over 2^62.
     fn write_at(&mut self, name: FileName, at: u64, bytes: &[u8]) -> Result<(), DiskFault>
-        ensures done { OnOk result (shown self.new ≡ option_map (λ files. after_write files name at bytes.now) (shown self.old)) }
+        ensures done { OnOk result (Leads (λ f g. g ≡ after_write f name at bytes.now) (shown self.old) (shown self.new)) }
         ensures failed { OnErr result (Leads (AfterTornWrite name at (length bytes.now)) (shown self.old) (shown self.new)) }
         ensures limit { 2 ^ 62 < at + length bytes.now → IsErr result × (shown self.new ≡ shown self.old) }
         ensures cause { HasCause (failures self.old) (failures self.new) name DiskCall.Write result };
@@ -61,7 +57,7 @@ pub trait Disk {
     /// Sets the length; a missing file is made first, and new bytes are zeros. Fails and changes nothing where the
     /// length is over 2^62.
     fn set_len(&mut self, name: FileName, n: u64) -> Result<(), DiskFault>
-        ensures done { OnOk result (shown self.new ≡ option_map (λ files. after_set_len files name n) (shown self.old)) }
+        ensures done { OnOk result (Leads (λ f g. g ≡ after_set_len f name n) (shown self.old) (shown self.new)) }
         ensures failed { OnErr result (Leads (AfterFailedSetLen name n) (shown self.old) (shown self.new)) }
         ensures limit { 2 ^ 62 < n → IsErr result × (shown self.new ≡ shown self.old) }
         ensures cause { HasCause (failures self.old) (failures self.new) name DiskCall.SetLen result };
@@ -73,19 +69,19 @@ pub trait Disk {
 
     /// Makes an empty file where there is none.
     fn create(&mut self, name: FileName) -> Result<(), DiskFault>
-        ensures done { OnOk result (shown self.new ≡ option_map (λ files. after_create files name) (shown self.old)) }
+        ensures done { OnOk result (Leads (λ f g. g ≡ after_create f name) (shown self.old) (shown self.new)) }
         ensures failed { OnErr result (shown self.new ≡ shown self.old) }
         ensures cause { HasCause (failures self.old) (failures self.new) name DiskCall.Create result };
 
     /// Removes the file where there is one.
     fn remove(&mut self, name: FileName) -> Result<(), DiskFault>
-        ensures done { OnOk result (shown self.new ≡ option_map (λ files. after_remove files name) (shown self.old)) }
+        ensures done { OnOk result (Leads (λ f g. g ≡ after_remove f name) (shown self.old) (shown self.new)) }
         ensures failed { OnErr result (shown self.new ≡ shown self.old) }
         ensures cause { HasCause (failures self.old) (failures self.new) name DiskCall.Remove result };
 
     /// Gives the file another name, in place of what that had. A missing file changes nothing.
     fn rename(&mut self, from: FileName, to: FileName) -> Result<(), DiskFault>
-        ensures done { OnOk result (shown self.new ≡ option_map (λ files. after_rename files from to) (shown self.old)) }
+        ensures done { OnOk result (Leads (λ f g. g ≡ after_rename f from to) (shown self.old) (shown self.new)) }
         ensures failed { OnErr result (shown self.new ≡ shown self.old) }
         ensures cause { HasCause (failures self.old) (failures self.new) from DiskCall.Rename result };
 

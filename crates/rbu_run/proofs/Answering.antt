@@ -1,138 +1,274 @@
--- What an answer says of the files, and what its status says.
-use Rattle.std.proofs.Common.{◌≡◌, ◌⊎◌, ◌++◌, ℕ, ℤ, List, Option, Some, None, option_map, unwrap_or, refl, sym, ap, ◌∙◌, subst, inl, inr, arith, []}
-use Rattle.file_spec.specs.declared.FileName.TheVariants.{Target}
-use Rattle.file_spec.specs.Files.{Files, content}
+-- What the status of an answer says of the files.
+use Rattle.std.proofs.Common.{◌≡◌, ◌≢◌, ◌≤◌, ◌⊎◌, ℕ, ℤ, List, Option, refl, sym, ap, ◌∙◌, subst, inl, inr, arith}
 use Rattle.common_spec.specs.Told.{Leads}
-use Rattle.common_spec.specs.ToldLaws.{Leads-weaken, Leads-same}
+use Rattle.common_spec.specs.ToldLaws.{Leads-same, Leads-weaken, same-Leads}
+use Rattle.file_spec.specs.Files.{Files}
+use Rattle.refusal.specs.declared.Part.TheVariants as part
+use Rattle.refusal.specs.declared.Refusal.TheVariants.{NotYet}
+use Rattle.rbu_disk.specs.declared.disk.Disk as disk
+use Rattle.rbu_disk.specs.declared.sink.Sink as sink
 use Rattle.update_spec.specs.declared.Outcome.{Outcome}
 use Rattle.update_spec.specs.declared.Outcome.TheVariants.{Done, KeyPresent, Refused}
 use Rattle.update_spec.specs.declared.Answer.{Answer}
 use Rattle.update_spec.specs.declared.Answer.TheVariants.{Usage, Ended, Fault, NoMemory}
 use Rattle.update_spec.specs.declared.Command.TheVariants.{Apply}
-use Rattle.update_spec.specs.View.{IsView}
-use Rattle.update_spec.specs.ViewLaws.{KeepsView-same}
-use Rattle.update_spec.specs.Outcome.{new_pages}
-use Rattle.update_spec.specs.Words.{IsUsage, AsksUpdate}
-use Rattle.update_spec.specs.Answer.{AfterOutcome, SeesOldOrNew, IsUpdateAnswer, IsAnswer}
-use Rattle.rbu_disk.specs.Call.{Failures}
-use Rattle.update_spec.specs.Text.{answer_line, answer_status, outcome_status}
+use Rattle.update_spec.specs.Words.{IsUsage, AsksUpdate, AsksMore}
+use Rattle.update_spec.specs.Answer.{IsUpdateAnswer, IsAnswer}
+use Rattle.update_spec.specs.Text.{answer_status, outcome_status}
+use Rattle.small_spec.specs.SmallUpdate.{IsFinished, small_inserts}
+use Rattle.small_spec.specs.SmallLaws.{IsFinished-done}
+use Rattle.rbu_run.specs.Ending.{EndsAs}
 use Rattle.rbu_run.specs.Told.{IsTold}
-use Rattle.rbu_run.specs.Status.{KeepsOnFault, IsHalted, IsOutcome, CountsFault, TellsFault}
+use Rattle.rbu_run.specs.Status.{KeepsOnFault, KeepsOnRefusal, IsHalted, HasStatusOf, IsStatus, IsOutcome, IsOfWords, IsCounted, IsOwed, TellsFault, CountsCalls, CountsWrites}
+use Rattle.rbu_run.proofs.Endings.{outcome-ends, fault-ends}
 
--- a step that keeps the files
-kept_back : (P : Files → Files → Type 0) (a b : Option Files) → Leads P a b → ((f g : Files) → P f g → g ≡ f) → b ≡ a
-kept_back P None None h w = refl
-kept_back P None (Some g) h w = absurd h
-kept_back P (Some f) None h w = absurd h
-kept_back P (Some f) (Some g) h w = ap Some (w f g h)
-
-sees_same : (a b : Option Files) → b ≡ a → Leads SeesOldOrNew a b
-sees_same a b same = Leads-weaken (λ f g. g ≡ f) SeesOldOrNew a b (Leads-same a b same) (λ f g e. inl (KeepsView-same f g e))
-
-after_sees : (outcome : Outcome) (f g : Files) → AfterOutcome outcome f g → SeesOldOrNew f g
-after_sees Done f g h =
-    let held : content g Target ≡ new_pages (content f Target) h.rows = ap (λ (bytes : Option (List ℕ)). unwrap_or bytes []) h.target in
-    let view : IsView g (new_pages (content f Target) h.rows) = rw h.no_wal (sym held) in
-    inr (h.old, h.prepared, h.rows, h.can_insert, h.none_present, h.merged, view)
-after_sees (KeyPresent id) f g h = inl (KeepsView-same f g h.1)
-after_sees (Refused refusal) f g h = inl (KeepsView-same f g h.1)
-
-update_sees : (answer : Answer) (a b : Option Files) → IsUpdateAnswer a b answer → Leads SeesOldOrNew a b
-update_sees Usage a b h = absurd h
-update_sees (Ended outcome) a b h = Leads-weaken (AfterOutcome outcome) SeesOldOrNew a b h (after_sees outcome)
-update_sees (Fault file call) a b h = h
-update_sees NoMemory a b h = sees_same a b h
-
--- a reader sees the old database or the new one
-pub answer_sees : (words : List (List ℕ)) (a b : Option Files) (answer : Answer) → IsAnswer words a b answer → Leads SeesOldOrNew a b
-answer_sees words a b answer (inl h) = update_sees answer a b h.1
-answer_sees words a b answer (inr (inl h)) = sees_same a b h.2
-answer_sees words a b answer (inr (inr h)) = sees_same a b h.2
+-- an answer of the words, and what it left of the files
+pub record Settled (salt : ℕ × ℕ) (words : List (List ℕ)) (before after : Option Files) (answer : Answer) : Type 0 where
+  pub of_words : IsOfWords words answer
+  pub files : AsksUpdate words → Leads (EndsAs salt answer) before after
+  pub idle : (¬ AsksUpdate words) → after ≡ before
 
 -- the answer that is told: that of the command, or want of memory where the line of a constraint fault takes memory
 abbrev pub IsTellable : Answer → Answer → Type 0
-IsTellable answer told = (told ≡ answer) ⊎ ((told ≡ NoMemory) × ((data_rowid : ℤ) × (answer ≡ Ended (KeyPresent data_rowid))))
+IsTellable answer told = (told ≡ answer) ⊎ ((told ≡ NoMemory) × ((table : List ℕ) × (data_rowid : ℤ) × (answer ≡ Ended (KeyPresent table data_rowid))))
 
-no_memory : (words : List (List ℕ)) (a b : Option Files) (id : ℤ) → IsAnswer words a b (Ended (KeyPresent id)) → IsAnswer words a b NoMemory
-no_memory words a b id (inl h) = inl (h.0, kept_back (AfterOutcome (KeyPresent id)) a b h.1 (λ f g k. k.1))
-no_memory words a b id (inr (inl h)) = absurd (let e = h.1 in cc)
-no_memory words a b id (inr (inr h)) = absurd (let e = h.1 in cc)
+not_asked : (words : List (List ℕ)) → IsUsage words → ¬ AsksUpdate words
+not_asked words usage asks = usage (Apply 4294967295) asks
 
-pub told_answer : (words : List (List ℕ)) (a b : Option Files) (answer told : Answer) → IsAnswer words a b answer → IsTellable answer told → IsAnswer words a b told
-told_answer words a b answer told is (inl same) = subst (IsAnswer words a b) (sym same) is
-told_answer words a b answer told is (inr short) =
-    subst (IsAnswer words a b) (sym short.0) (no_memory words a b short.1.0 (subst (IsAnswer words a b) short.1.1 is))
+no_memory : (salt : ℕ × ℕ) (words : List (List ℕ)) (a b : Option Files) (table : List ℕ) (id : ℤ) → Settled salt words a b (Ended (KeyPresent table id)) → Settled salt words a b NoMemory
+no_memory salt words a b table id settled = record {
+  of_words = asked settled.of_words;
+  files = λ asks. Leads-weaken (settled.files asks) (λ f g ends. ends.0.1);
+  idle = settled.idle;
+}
+  where
+    asked : IsOfWords words (Ended (KeyPresent table id)) → IsOfWords words NoMemory
+    asked (inl asks) = inl (asks.0, λ e. let same : NoMemory ≡ Usage = e in cc)
+    asked (inr (inl more)) = absurd (let e = more.1 in cc)
+    asked (inr (inr usage)) = absurd (let e = usage.1 in cc)
 
-fault_kept : (words : List (List ℕ)) (a b : Option Files) (answer : Answer) → IsAnswer words a b answer → answer_status answer ≡ 3 → AsksUpdate words × Leads KeepsOnFault a b
-fault_kept words a b Usage is three = absurd (omega (arith, three))
-fault_kept words a b (Ended Done) is three = absurd (omega (arith, three))
-fault_kept words a b (Ended (KeyPresent id)) (inl h) three =
-    (h.0, Leads-weaken (AfterOutcome (KeyPresent id)) KeepsOnFault a b h.1 (λ f g k. ((id, k.0), k.1)))
-fault_kept words a b (Ended (KeyPresent id)) (inr (inl h)) three = absurd (let e = h.1 in cc)
-fault_kept words a b (Ended (KeyPresent id)) (inr (inr h)) three = absurd (let e = h.1 in cc)
-fault_kept words a b (Ended (Refused refusal)) is three = absurd (omega (arith, three))
-fault_kept words a b (Fault file call) is three = absurd (omega (arith, three))
-fault_kept words a b NoMemory is three = absurd (omega (arith, three))
+pub settled-told : (salt : ℕ × ℕ) (words : List (List ℕ)) (a b : Option Files) (answer told : Answer) → Settled salt words a b answer → IsTellable answer told → Settled salt words a b told
+settled-told salt words a b answer told settled (inl same) = subst (Settled salt words a b) (sym same) settled
+settled-told salt words a b answer told settled (inr short) =
+    subst (Settled salt words a b) (sym short.0) (no_memory salt words a b short.1.0 short.1.1 (subst (Settled salt words a b) short.1.2 settled))
 
--- status 3 is a constraint fault
-pub constraint_kept : (words : List (List ℕ)) (a b : Option Files) (answer : Answer) (status : ℕ) (x y : Option (List ℕ)) → IsAnswer words a b answer →
-    IsTold answer status x y → status ≡ 3 → AsksUpdate words × Leads KeepsOnFault a b
-constraint_kept words a b answer status x y is (inl told) three = fault_kept words a b answer is (sym told.0 ∙ three)
-constraint_kept words a b answer status x y is (inr told) three = absurd (omega (arith, told.0, three))
+pub counted-told : {D : Type 0} {d : disk.Ghosts D} {before after : D} (answer told : Answer) → IsCounted d before after answer → IsTellable answer told → IsCounted d before after told
+counted-told {d = d} {before = before} {after = after} answer told counted (inl same) = subst (IsCounted d before after) (sym same) counted
+counted-told {d = d} {before = before} {after = after} answer told counted (inr short) =
+    let present : IsCounted d before after (Ended (KeyPresent short.1.0 short.1.1)) = subst (IsCounted d before after) short.1.2 counted in
+    subst (IsCounted d before after) (sym short.0) (record { later = present.later; cause = present.cause })
 
-status_of_outcome : (outcome : Outcome) (answer : Answer) (status : ℕ) → IsOutcome outcome answer → status ≡ answer_status answer → (status ≡ outcome_status outcome) ⊎ IsHalted status
-status_of_outcome outcome Usage status is told = absurd is
-status_of_outcome outcome (Ended other) status is told = inl (told ∙ ap outcome_status (sym is))
-status_of_outcome outcome (Fault file call) status is told = inr (omega (arith, told), omega (arith, told))
-status_of_outcome outcome NoMemory status is told = inr (omega (arith, told), omega (arith, told))
+-- a fact of the files however the update ended, and of files that stay
+pub however : (salt : ℕ × ℕ) (words : List (List ℕ)) (a b : Option Files) (answer : Answer) {Q : Files → Files → Type 0} → Settled salt words a b answer →
+    ((f g : Files) → EndsAs salt answer f g → Q f g) → ((f : Files) → Q f f) → Leads Q a b
+however salt words a b answer {Q = Q} settled ends stays = by settled.of_words
+  where
+    by : IsOfWords words answer → Leads Q a b
+    by (inl asks) = Leads-weaken (settled.files asks.0) ends
+    by (inr (inl more)) = Leads-same (settled.idle more.0.0) stays
+    by (inr (inr usage)) = Leads-same (settled.idle (not_asked words usage.0)) stays
 
--- the status is that of the files' outcome unless the call was halted
-pub status_complete : (outcome : Outcome) (answer told : Answer) (status : ℕ) (x y : Option (List ℕ)) → IsOutcome outcome answer → IsTellable answer told →
-    IsTold told status x y → (status ≡ outcome_status outcome) ⊎ IsHalted status
-status_complete outcome answer told status x y is tellable (inr failed) = inr (omega (arith, failed.0), omega (arith, failed.0))
-status_complete outcome answer told status x y is (inl same) (inl ends) = status_of_outcome outcome answer status is (ends.0 ∙ ap answer_status same)
-status_complete outcome answer told status x y is (inr short) (inl ends) =
-    let seven : status ≡ 7 = ends.0 ∙ ap answer_status short.0 in inr (omega (arith, seven), omega (arith, seven))
+-- the answer of the words and the files
+update_answer : (salt : ℕ × ℕ) (a b : Option Files) (answer : Answer) → answer ≢ Usage → Leads (EndsAs salt answer) a b → IsUpdateAnswer small_inserts a b answer
+update_answer salt a b Usage other led = absurd (other refl)
+update_answer salt a b (Ended Done) other led = Leads-weaken led (λ f g ends. IsFinished-done f g ends.0)
+update_answer salt a b (Ended (KeyPresent table id)) other led = Leads-weaken led (λ f g ends. ends.0)
+update_answer salt a b (Ended (Refused refusal)) other led = Leads-weaken led (λ f g ends. ends.0)
+update_answer salt a b (Fault file call) other led = Leads-weaken led (fault-ends salt file call)
+update_answer salt a b NoMemory other led = same-Leads led
 
--- words of no command have one answer
-pub usage_only : (words : List (List ℕ)) (a b : Option Files) (answer told : Answer) (status : ℕ) (x y : Option (List ℕ)) → IsAnswer words a b answer →
-    IsTellable answer told → IsTold told status x y → IsUsage words → (status ≡ 2) ⊎ (status ≡ 8)
-usage_only words a b answer told status x y is tellable (inr failed) usage = inr failed.0
-usage_only words a b answer told status x y (inl asks) tellable ends usage = absurd (usage (Apply 4294967295) asks.0)
-usage_only words a b answer told status x y (inr (inl more)) tellable ends usage = absurd (usage more.0.1.0 more.0.1.1)
-usage_only words a b answer told status x y (inr (inr plain)) (inl same) (inl ends) usage = inl (ends.0 ∙ ap answer_status (same ∙ plain.1))
-usage_only words a b answer told status x y (inr (inr plain)) (inr short) ends usage = absurd (let e : Usage ≡ Ended (KeyPresent short.1.0) = sym plain.1 ∙ short.1.1 in cc)
+pub answers : (salt : ℕ × ℕ) (words : List (List ℕ)) (a b : Option Files) (answer : Answer) → Settled salt words a b answer → IsAnswer small_inserts words a b answer
+answers salt words a b answer settled = by settled.of_words
+  where
+    by : IsOfWords words answer → IsAnswer small_inserts words a b answer
+    by (inl asks) = inl (asks.0, update_answer salt a b answer asks.1 (settled.files asks.0))
+    by (inr (inl more)) = inr (inl (more.0, more.1, settled.idle more.0.0))
+    by (inr (inr usage)) = inr (inr (usage.0, usage.1, settled.idle (not_asked words usage.0)))
 
-named_fault : (answer : Answer) (before now : Failures) (x y : Option (List ℕ)) → CountsFault before now answer → answer_status answer ≡ 6 →
-    y ≡ option_map (λ text. text ++ answer_line answer) x → TellsFault before now x y
-named_fault Usage before now x y counts six line = absurd (omega (arith, six))
-named_fault (Ended Done) before now x y counts six line = absurd (omega (arith, six))
-named_fault (Ended (KeyPresent id)) before now x y counts six line = absurd (omega (arith, six))
-named_fault (Ended (Refused refusal)) before now x y counts six line = absurd (omega (arith, six))
-named_fault (Fault file call) before now x y counts six line = (file, call, counts, line)
-named_fault NoMemory before now x y counts six line = absurd (omega (arith, six))
+module _ (salt : ℕ × ℕ) (words : List (List ℕ)) (a b : Option Files) where
+  -- only the update has this answer
+  asked : (answer : Answer) → (answer ≢ Ended (Refused (NotYet part.Words))) → (answer ≢ Usage) → Settled salt words a b answer → AsksUpdate words × Leads (EndsAs salt answer) a b
+  asked answer other also settled = by settled.of_words
+    where
+      by : IsOfWords words answer → AsksUpdate words × Leads (EndsAs salt answer) a b
+      by (inl asks) = (asks.0, settled.files asks.0)
+      by (inr (inl more)) = absurd (other more.1)
+      by (inr (inr usage)) = absurd (also usage.1)
 
--- status 6 names the last call on the disk that failed
-pub fault_told : (answer told : Answer) (status : ℕ) (before now : Failures) (x y : Option (List ℕ)) → CountsFault before now answer →
-    IsTellable answer told → IsTold told status x y → status ≡ 6 → TellsFault before now x y
-fault_told answer told status before now x y counts tellable (inr failed) six = absurd (omega (arith, failed.0, six))
-fault_told answer told status before now x y counts (inl same) (inl ends) six =
-    named_fault answer before now x y counts (sym (ap answer_status same) ∙ (sym ends.0 ∙ six)) (subst (λ (a : Answer). y ≡ option_map (λ text. text ++ answer_line a) x) same ends.1)
-fault_told answer told status before now x y counts (inr short) (inl ends) six =
-    let seven : status ≡ 7 = ends.0 ∙ ap answer_status short.0 in absurd (omega (arith, seven, six))
+  done_status : (answer : Answer) → Settled salt words a b answer → answer_status answer ≡ 0 → AsksUpdate words × Leads IsFinished a b
+  done_status Usage settled zero = absurd (omega (arith, zero))
+  done_status (Ended Done) settled zero =
+      let is = asked (Ended Done) (λ e. let same : Ended Done ≡ Ended (Refused (NotYet part.Words)) = e in cc) (λ e. let same : Ended Done ≡ Usage = e in cc) settled in
+      (is.0, Leads-weaken is.1 (λ f g ends. ends.0))
+  done_status (Ended (KeyPresent table id)) settled zero = absurd (omega (arith, zero))
+  done_status (Ended (Refused refusal)) settled zero = absurd (omega (arith, zero))
+  done_status (Fault file call) settled zero = absurd (omega (arith, zero))
+  done_status NoMemory settled zero = absurd (omega (arith, zero))
 
-short_kept : (words : List (List ℕ)) (a b : Option Files) (answer : Answer) → IsAnswer words a b answer → answer_status answer ≡ 7 → b ≡ a
-short_kept words a b Usage is seven = absurd (omega (arith, seven))
-short_kept words a b (Ended Done) is seven = absurd (omega (arith, seven))
-short_kept words a b (Ended (KeyPresent id)) is seven = absurd (omega (arith, seven))
-short_kept words a b (Ended (Refused refusal)) is seven = absurd (omega (arith, seven))
-short_kept words a b (Fault file call) is seven = absurd (omega (arith, seven))
-short_kept words a b NoMemory (inl h) seven = h.1
-short_kept words a b NoMemory (inr (inl h)) seven = h.2
-short_kept words a b NoMemory (inr (inr h)) seven = h.2
+  fault_status : (answer : Answer) → Settled salt words a b answer → answer_status answer ≡ 3 → AsksUpdate words × Leads KeepsOnFault a b
+  fault_status Usage settled three = absurd (omega (arith, three))
+  fault_status (Ended Done) settled three = absurd (omega (arith, three))
+  fault_status (Ended (KeyPresent table id)) settled three =
+      let is = asked (Ended (KeyPresent table id)) (λ e. let same : Ended (KeyPresent table id) ≡ Ended (Refused (NotYet part.Words)) = e in cc) (λ e. let same : Ended (KeyPresent table id) ≡ Usage = e in cc) settled in
+      (is.0, Leads-weaken is.1 (λ f g ends. ((table, id, ends.0.0), ends.0.1)))
+  fault_status (Ended (Refused refusal)) settled three = absurd (omega (arith, three))
+  fault_status (Fault file call) settled three = absurd (omega (arith, three))
+  fault_status NoMemory settled three = absurd (omega (arith, three))
 
--- want of memory changes nothing
-pub memory_kept : (words : List (List ℕ)) (a b : Option Files) (answer : Answer) (status : ℕ) (x y : Option (List ℕ)) → IsAnswer words a b answer →
-    IsTold answer status x y → status ≡ 7 → b ≡ a
-memory_kept words a b answer status x y is (inl told) seven = short_kept words a b answer is (sym told.0 ∙ seven)
-memory_kept words a b answer status x y is (inr told) seven = absurd (omega (arith, told.0, seven))
+  refused_status : (answer : Answer) → Settled salt words a b answer → answer_status answer ≡ 4 → AsksMore words ⊎ (AsksUpdate words × Leads KeepsOnRefusal a b)
+  refused_status Usage settled four = absurd (omega (arith, four))
+  refused_status (Ended Done) settled four = absurd (omega (arith, four))
+  refused_status (Ended (KeyPresent table id)) settled four = absurd (omega (arith, four))
+  refused_status (Ended (Refused refusal)) settled four = by settled.of_words
+    where
+      by : IsOfWords words (Ended (Refused refusal)) → AsksMore words ⊎ (AsksUpdate words × Leads KeepsOnRefusal a b)
+      by (inl asks) = inr (asks.0, Leads-weaken (settled.files asks.0) (λ f g ends. ((refusal, ends.0.0), ends.0.1)))
+      by (inr (inl more)) = inl more.0
+      by (inr (inr usage)) = absurd (let e = usage.1 in cc)
+  refused_status (Fault file call) settled four = absurd (omega (arith, four))
+  refused_status NoMemory settled four = absurd (omega (arith, four))
+
+  short_status : (answer : Answer) → Settled salt words a b answer → answer_status answer ≡ 7 → Leads (λ f g. g ≡ f) a b
+  short_status Usage settled seven = absurd (omega (arith, seven))
+  short_status (Ended Done) settled seven = absurd (omega (arith, seven))
+  short_status (Ended (KeyPresent table id)) settled seven = absurd (omega (arith, seven))
+  short_status (Ended (Refused refusal)) settled seven = absurd (omega (arith, seven))
+  short_status (Fault file call) settled seven = absurd (omega (arith, seven))
+  short_status NoMemory settled seven = however salt words a b NoMemory settled (λ f g same. same) (λ f. refl)
+
+  usage_status : (answer : Answer) → Settled salt words a b answer → answer_status answer ≡ 2 → IsUsage words
+  usage_status Usage settled two = by settled.of_words
+    where
+      by : IsOfWords words Usage → IsUsage words
+      by (inl asks) = absurd (asks.1 refl)
+      by (inr (inl more)) = absurd (let e = more.1 in cc)
+      by (inr (inr usage)) = usage.0
+  usage_status (Ended Done) settled two = absurd (omega (arith, two))
+  usage_status (Ended (KeyPresent table id)) settled two = absurd (omega (arith, two))
+  usage_status (Ended (Refused refusal)) settled two = absurd (omega (arith, two))
+  usage_status (Fault file call) settled two = absurd (omega (arith, two))
+  usage_status NoMemory settled two = absurd (omega (arith, two))
+
+  outcome_status_of : (answer : Answer) (outcome : Outcome) (status : ℕ) → IsOutcome outcome answer → status ≡ answer_status answer → (status ≡ outcome_status outcome) ⊎ IsHalted status
+  outcome_status_of Usage outcome status is told = absurd is
+  outcome_status_of (Ended other) outcome status is told = inl (told ∙ ap outcome_status (sym is))
+  outcome_status_of (Fault file call) outcome status is told = inr (omega (arith, told), omega (arith, told))
+  outcome_status_of NoMemory outcome status is told = inr (omega (arith, told), omega (arith, told))
+
+  module _ {O : Type 0} {o : sink.Ghosts O} (x y : O) (answer : Answer) (status : ℕ) (settled : Settled salt words a b answer) (told : IsTold o answer x y status) where
+    pub at_status : {Q : Type 0} (n : ℕ) → n ≢ 8 → (answer_status answer ≡ n → Q) → status ≡ n → Q
+    at_status {Q} n other q is = by told
+      where
+        by : IsTold o answer x y status → Q
+        by (inl line) = q (sym line.0 ∙ is)
+        by (inr failed) = absurd (other (sym is ∙ failed.0))
+
+    pub done : status ≡ 0 → AsksUpdate words × Leads IsFinished a b
+    done = at_status 0 (λ e. omega (arith, e)) (done_status answer settled)
+
+    pub constraint : status ≡ 3 → AsksUpdate words × Leads KeepsOnFault a b
+    constraint = at_status 3 (λ e. omega (arith, e)) (fault_status answer settled)
+
+    pub refused : status ≡ 4 → AsksMore words ⊎ (AsksUpdate words × Leads KeepsOnRefusal a b)
+    refused = at_status 4 (λ e. omega (arith, e)) (refused_status answer settled)
+
+    pub memory : status ≡ 7 → Leads (λ f g. g ≡ f) a b
+    memory = at_status 7 (λ e. omega (arith, e)) (short_status answer settled)
+
+    pub usage : status ≡ 2 → IsUsage words
+    usage = at_status 2 (λ e. omega (arith, e)) (usage_status answer settled)
+
+    -- words that ask for no update have one answer
+    pub only_one : (other : Answer) → answer ≡ other → (status ≡ answer_status other) ⊎ (status ≡ 8)
+    only_one other same = by told
+      where
+        by : IsTold o answer x y status → (status ≡ answer_status other) ⊎ (status ≡ 8)
+        by (inl line) = inl (line.0 ∙ ap answer_status same)
+        by (inr failed) = inr failed.0
+
+    pub not_built : AsksMore words → (status ≡ 4) ⊎ (status ≡ 8)
+    not_built more = by settled.of_words
+      where
+        by : IsOfWords words answer → (status ≡ 4) ⊎ (status ≡ 8)
+        by (inl asks) = absurd (more.0 asks.0)
+        by (inr (inl is)) = only_one (Ended (Refused (NotYet part.Words))) is.1
+        by (inr (inr usage)) = absurd (usage.0 more.1.0 more.1.1)
+
+    pub usage_only : IsUsage words → (status ≡ 2) ⊎ (status ≡ 8)
+    usage_only usage = by settled.of_words
+      where
+        by : IsOfWords words answer → (status ≡ 2) ⊎ (status ≡ 8)
+        by (inl asks) = absurd (not_asked words usage asks.0)
+        by (inr (inl more)) = absurd (usage more.0.1.0 more.0.1.1)
+        by (inr (inr is)) = only_one Usage is.1
+
+    -- the status is that of the files' outcome unless the call was halted
+    pub complete : AsksUpdate words → Leads (λ f _. HasStatusOf status f) a b
+    complete asks = Leads-weaken (settled.files asks) (λ f g ends outcome has. by outcome (outcome-ends salt answer f g ends outcome has) told)
+      where
+        by : (outcome : Outcome) → IsOutcome outcome answer → IsTold o answer x y status → (status ≡ outcome_status outcome) ⊎ IsHalted status
+        by outcome is (inl line) = outcome_status_of answer outcome status is line.0
+        by outcome is (inr failed) = inr (omega (arith, failed.0), omega (arith, failed.0))
+
+-- the statuses of answers
+status-answer : (answer : Answer) → IsStatus (answer_status answer)
+status-answer Usage = (omega arith, λ e. omega (arith, e), λ e. omega (arith, e))
+status-answer (Ended Done) = (omega arith, λ e. omega (arith, e), λ e. omega (arith, e))
+status-answer (Ended (KeyPresent table id)) = (omega arith, λ e. omega (arith, e), λ e. omega (arith, e))
+status-answer (Ended (Refused refusal)) = (omega arith, λ e. omega (arith, e), λ e. omega (arith, e))
+status-answer (Fault file call) = (omega arith, λ e. omega (arith, e), λ e. omega (arith, e))
+status-answer NoMemory = (omega arith, λ e. omega (arith, e), λ e. omega (arith, e))
+
+pub status-told : {O : Type 0} {o : sink.Ghosts O} (x y : O) (answer : Answer) (status : ℕ) → IsTold o answer x y status → IsStatus status
+status-told x y answer status (inl line) = subst IsStatus (sym line.0) (status-answer answer)
+status-told x y answer status (inr failed) = subst IsStatus (sym failed.0) (omega arith, λ e. omega (arith, e), λ e. omega (arith, e))
+
+below_eight : (answer : Answer) → answer_status answer ≤ 7
+below_eight Usage = omega arith
+below_eight (Ended Done) = omega arith
+below_eight (Ended (KeyPresent table id)) = omega arith
+below_eight (Ended (Refused refusal)) = omega arith
+below_eight (Fault file call) = omega arith
+below_eight NoMemory = omega arith
+
+pub writes : {O : Type 0} {o : sink.Ghosts O} (x y : O) (answer : Answer) (status : ℕ) → IsTold o answer x y status → CountsWrites o x y status
+writes x y answer status (inl line) = record {
+  later = omega (arith, line.1.still);
+  none = λ other. line.1.still;
+  rose = λ eight. absurd (omega (arith, below_eight answer, line.0, eight));
+}
+writes x y answer status (inr failed) = record { later = failed.1.later; none = λ other. absurd (other failed.0); rose = λ eight. failed.1.rose }
+
+pub owed : {D : Type 0} {d : disk.Ghosts D} (salt : ℕ × ℕ) (words : List (List ℕ)) (before after : D) (answer : Answer) → Settled salt words (d.shown before) (d.shown after) answer →
+    IsCounted d before after answer → IsOwed d words before after answer
+owed {d = d} salt words before after answer settled counted = record {
+  answers = answers salt words (d.shown before) (d.shown after) answer settled;
+  outcome = λ asks. Leads-weaken (settled.files asks) (outcome-ends salt answer);
+  calls = counted;
+}
+
+-- the disk and the output of a call
+module _ {D O : Type 0} {d : disk.Ghosts D} {o : sink.Ghosts O} (salt : ℕ × ℕ) (words : List (List ℕ)) (before after : D) (x y : O) where
+  named : (answer : Answer) (status : ℕ) → Settled salt words (d.shown before) (d.shown after) answer → IsCounted d before after answer → IsTold o answer x y status →
+      answer_status answer ≡ 6 → TellsFault d o before after x y status
+  named Usage status settled counted told six = absurd (omega (arith, six))
+  named (Ended Done) status settled counted told six = absurd (omega (arith, six))
+  named (Ended (KeyPresent table id)) status settled counted told six = absurd (omega (arith, six))
+  named (Ended (Refused refusal)) status settled counted told six = absurd (omega (arith, six))
+  named (Fault file call) status settled counted told six =
+      (file, call, counted.cause, however salt words (d.shown before) (d.shown after) (Fault file call) settled (fault-ends salt file call) (λ f. inl refl), told)
+  named NoMemory status settled counted told six = absurd (omega (arith, six))
+
+  -- status 6 names the last call on the disk that failed
+  pub fault : (answer : Answer) (status : ℕ) → Settled salt words (d.shown before) (d.shown after) answer → IsCounted d before after answer → IsTold o answer x y status →
+      status ≡ 6 → TellsFault d o before after x y status
+  fault answer status settled counted told =
+      at_status salt words (d.shown before) (d.shown after) x y answer status settled told 6 (λ e. omega (arith, e)) (named answer status settled counted told)
+
+  -- no other status passes over a call that failed
+  pub calls : (answer : Answer) (status : ℕ) → IsCounted d before after answer → IsTold o answer x y status → CountsCalls d before after status
+  calls answer status counted (inr failed) = record { later = counted.later; none = λ six eight. absurd (eight failed.0) }
+  calls Usage status counted (inl line) = record { later = counted.later; none = λ six eight. counted.cause }
+  calls (Ended outcome) status counted (inl line) = record { later = counted.later; none = λ six eight. counted.cause }
+  calls (Fault file call) status counted (inl line) = record { later = counted.later; none = λ six eight. absurd (six line.0) }
+  calls NoMemory status counted (inl line) = record { later = counted.later; none = λ six eight. counted.cause }

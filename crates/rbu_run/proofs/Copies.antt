@@ -1,14 +1,14 @@
 -- What the copying of both pages leaves of the target.
-use Rattle.std.proofs.Common.{◌≡◌, ℕ, ◌+◌, ◌-◌, List, [], ◌++◌, length, take, drop, Option, Some, option_map, refl, sym, ap, ◌∙◌, subst, arith, append-nil, length-append, length-drop}
+use Rattle.std.proofs.Common.{◌≡◌, ℕ, ◌+◌, ◌-◌, List, [], ◌++◌, length, take, drop, Option, Some, refl, ap, ◌∙◌, arith, append-nil, length-append, length-drop}
 use Rattle.std.proofs.lemmas.List.{take_at}
 use Rattle.std.proofs.Math.ListN.{drop_of_length-le}
+use Rattle.common_spec.specs.Told.{Leads}
+use Rattle.common_spec.specs.ToldLaws.{Leads-then}
 use Rattle.file_spec.specs.declared.FileName.TheVariants.{Target}
 use Rattle.byte_fields.specs.Bytes.{overwritten}
-use Rattle.file_spec.specs.Files.{Files, content, with_file, after_write}
 use Rattle.byte_fields.specs.BytesLaws.{overwritten-front}
+use Rattle.file_spec.specs.Files.{Files, content, with_file, after_write}
 use Rattle.file_spec.specs.FilesLaws.{with_file-again}
-use Rattle.common_spec.specs.Told.{Leads}
-use Rattle.common_spec.specs.ToldLaws.{Leads-map, Leads-then}
 use Rattle.rbu_run.specs.Handover.{HasPages}
 
 -- the second page is written behind the first, over bytes of two pages
@@ -20,24 +20,17 @@ second_over first second rest a b c =
     let past : drop (4096 + length second) (first ++ rest) ≡ [] = drop_of_length-le (first ++ rest) (omega (arith, long)) in
     rw (kept, none, past, append-nil (first ++ [] ++ second), append-nil first) refl
 
-pub both_over : (old first second : List ℕ) → length old ≡ 8192 → length first ≡ 4096 → length second ≡ 4096 →
+both_over : (old first second : List ℕ) → length old ≡ 8192 → length first ≡ 4096 → length second ≡ 4096 →
     overwritten (overwritten old 0 first) 4096 second ≡ first ++ second
 both_over old first second a b c =
     let rest : length (drop (length first) old) ≡ 4096 = omega (arith, length-drop (length first) old) in
     ap (λ (bytes : List ℕ). overwritten bytes 4096 second) (overwritten-front old first) ∙ second_over first second (drop (length first) old) b c rest
 
-copied : (pages first second : List ℕ) → length first ≡ 4096 → length second ≡ 4096 → first ++ second ≡ pages → (f g h : Files) →
-    g ≡ after_write f Target 0 first → h ≡ after_write g Target 4096 second → length (content f Target) ≡ 8192 → HasPages pages f h
-copied pages first second a b whole f g h one two long =
-    two ∙ ap (λ (files : Files). after_write files Target 4096 second) one
+pub pages-copied : (pages first second : List ℕ) → length first ≡ 4096 → length second ≡ 4096 → first ++ second ≡ pages → {a b c : Option Files} →
+    Leads (λ f g. g ≡ after_write f Target 0 first) a b → Leads (λ f g. g ≡ after_write f Target 4096 second) b c →
+    Leads (λ f g. length (content f Target) ≡ 8192 → HasPages pages f g) a c
+pages-copied pages first second a b whole one two =
+    Leads-then one two (λ f g h once twice long.
+    twice ∙ ap (λ (files : Files). after_write files Target 4096 second) once
     ∙ with_file-again f Target (Some (overwritten (content f Target) 0 first)) (Some (overwritten (overwritten (content f Target) 0 first) 4096 second))
-    ∙ ap (λ (bytes : List ℕ). with_file f Target (Some bytes)) (both_over (content f Target) first second long a b ∙ whole)
-
-pub Copied : (pages first second : List ℕ) → length first ≡ 4096 → length second ≡ 4096 → first ++ second ≡ pages → (a b c d : Option Files) →
-    b ≡ option_map (λ files. after_write files Target 0 first) a → c ≡ option_map (λ files. after_write files Target 4096 second) b → d ≡ c →
-    Leads (λ f g. length (content f Target) ≡ 8192 → HasPages pages f g) a d
-Copied pages first second l1 l2 whole a b c d one two same =
-    subst (Leads (λ f g. length (content f Target) ≡ 8192 → HasPages pages f g) a) (sym same)
-    (Leads-then (λ f g. g ≡ after_write f Target 0 first) (λ f g. g ≡ after_write f Target 4096 second) (λ f g. length (content f Target) ≡ 8192 → HasPages pages f g) a b c
-    (Leads-map (λ files. after_write files Target 0 first) a b one) (Leads-map (λ files. after_write files Target 4096 second) b c two)
-    (copied pages first second l1 l2 whole))
+    ∙ ap (λ (bytes : List ℕ). with_file f Target (Some bytes)) (both_over (content f Target) first second long a b ∙ whole))

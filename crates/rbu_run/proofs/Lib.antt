@@ -1,10 +1,11 @@
 mod Answering
 mod Copies
+mod Endings
+mod FileReads
 mod Finishes
 mod Handovers
 mod Inspections
 mod LogWrites
 mod Numerals
-mod Others
 mod Outcomes
 mod Parts

@@ -2,10 +2,9 @@
 use Rattle.std.specs.Prelude.{◌≡◌, ◌⊎◌, ℕ, true, false, List, ◌++◌, length, take, drop, Some, None}
 use Rattle.file_spec.specs.declared.FileName.{FileName}
 use Rattle.file_spec.specs.declared.FileName.TheVariants.{Target, Oal, Wal}
-use Rattle.file_spec.specs.Files.{Files, content, is_name, with_file}
+use Rattle.file_spec.specs.Files.{Files, content, is_name, with_file, OnlyChanges}
 use Rattle.format_spec.specs.Log.{Frame, log_header, log_sums, frames_bytes}
 use Rattle.wal_codec.specs.LogLaws.{two_pages}
-use Rattle.update_spec.specs.View.{IsView, KeepsView}
 
 -- the frames of both pages, of which the second commits
 abbrev pub page_frames : List ℕ → List Frame
@@ -25,13 +24,13 @@ pub record IsAlone (files : Files) : Type 0 where
 abbrev pub HasPages : List ℕ → Files → Files → Type 0
 HasPages pages before after = after ≡ with_file before Target (Some pages)
 
--- from files that stand alone the target comes to the pages
-abbrev pub HandsOver : List ℕ → Files → Files → Type 0
-HandsOver pages before after = IsAlone before → HasPages pages before after
+-- the log is the target's write-ahead log, whole, and the target holds any bytes
+abbrev pub HasLog : ℕ × ℕ → List ℕ → Files → Files → Type 0
+HasLog salt pages before after = OnlyChanges Target (with_file before Wal (Some (log_of salt pages))) after
 
--- from files that stand alone, what a reader sees is as before, or the pages
-abbrev pub SeesPages : List ℕ → Files → Files → Type 0
-SeesPages pages before after = IsAlone before → KeepsView before after ⊎ IsView after pages
+-- Where the handover may stop: the hidden log is begun, or it is the write-ahead log, or that is gone and the target has the pages.
+abbrev pub IsMidway : ℕ × ℕ → List ℕ → Files → Files → Type 0
+IsMidway salt pages before after = OnlyChanges Oal before after ⊎ (HasLog salt pages before after ⊎ HasPages pages before after)
 
 -- every file but the target and its two logs is as before
 abbrev pub KeepsOthers : Files → Files → Type 0

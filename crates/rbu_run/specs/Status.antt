@@ -1,26 +1,35 @@
 -- What each status of a command says.
-use Rattle.std.specs.Prelude.{◌≡◌, ◌≤◌, ◌⊎◌, ◌++◌, ℕ, ℤ, List, Option, option_map}
+use Rattle.std.specs.Prelude.{◌≡◌, ◌≢◌, ◌≤◌, ◌⊎◌, ℕ, ℤ, List, Option, Some, None}
+use Rattle.common_spec.specs.Counts.{Rises}
 use Rattle.file_spec.specs.Files.{Files}
 use Rattle.file_spec.specs.declared.FileName.{FileName}
 use Rattle.file_spec.specs.declared.DiskCall.{DiskCall}
-use Rattle.rbu_disk.specs.Call.{Failures, Fails}
+use Rattle.rbu_disk.specs.declared.disk.Disk as disk
+use Rattle.rbu_disk.specs.declared.disk.DiskFault.{DiskFault}
+use Rattle.rbu_disk.specs.declared.sink.Sink as sink
+use Rattle.rbu_disk.specs.Call.{Fails}
+use Rattle.rbu_disk.specs.Disk.{Goes, IsCause}
+use Rattle.refusal.specs.declared.Part.TheVariants as part
 use Rattle.refusal.specs.declared.Refusal.{Refusal}
+use Rattle.refusal.specs.declared.Refusal.TheVariants.{NotYet}
 use Rattle.update_spec.specs.declared.Outcome.{Outcome}
 use Rattle.update_spec.specs.declared.Outcome.TheVariants.{KeyPresent, Refused}
 use Rattle.update_spec.specs.declared.Answer.{Answer}
 use Rattle.update_spec.specs.declared.Answer.TheVariants.{Usage, Ended, Fault, NoMemory}
-use Rattle.update_spec.specs.Answer.{HasOutcome, IsAnswer}
-use Rattle.update_spec.specs.Text.{outcome_status, answer_line}
+use Rattle.update_spec.specs.Answer.{IsAnswer}
+use Rattle.update_spec.specs.Update.{AfterFault}
+use Rattle.update_spec.specs.Words.{AsksUpdate, AsksMore, IsUsage}
+use Rattle.update_spec.specs.Text.{outcome_status}
+use Rattle.small_spec.specs.SmallUpdate.{HasOutcome, small_inserts}
 use Rattle.rbu_run.specs.Told.{IsTold}
 
--- the words and files have an answer, and it is told by the status and the output
-abbrev pub Tells : List (List ℕ) → Option Files → Option Files → ℕ → Option (List ℕ) → Option (List ℕ) → Type 0
-Tells words before after status text_before text_after =
-    (answer : Answer) × IsAnswer words before after answer × IsTold answer status text_before text_after
+-- the program ends with 0, 2, 3, 4, 6, 7 or 8
+abbrev pub IsStatus : ℕ → Type 0
+IsStatus status = (status ≤ 8) × (status ≢ 1) × (status ≢ 5)
 
 -- the transaction of all prepared rows has its constraint fault, and no file changed
 abbrev pub KeepsOnFault : Files → Files → Type 0
-KeepsOnFault before after = ((data_rowid : ℤ) × HasOutcome before (KeyPresent data_rowid)) × (after ≡ before)
+KeepsOnFault before after = ((table : List ℕ) × (data_rowid : ℤ) × HasOutcome before (KeyPresent table data_rowid)) × (after ≡ before)
 
 -- the files are refused, and none changed
 abbrev pub KeepsOnRefusal : Files → Files → Type 0
@@ -41,13 +50,52 @@ IsOutcome outcome (Ended other) = outcome ≡ other
 IsOutcome outcome (Fault file call) = Unit {0}
 IsOutcome outcome NoMemory = Unit {0}
 
--- a fault is answered where a call on the disk failed, and names the last that did; any other answer where none failed
-abbrev pub CountsFault : Failures → Failures → Answer → Type 0
-CountsFault before now (Fault file call) = Fails before now (record { file = file; call = call })
-CountsFault before now other = now ≡ before
+-- the answer is the outcome of the files, whichever they have
+abbrev pub IsOutcomeOf : Answer → Files → Type 0
+IsOutcomeOf answer files = (outcome : Outcome) → HasOutcome files outcome → IsOutcome outcome answer
 
--- a call on the disk failed, and the output has the line that names the last that did
-abbrev pub TellsFault : Failures → Failures → Option (List ℕ) → Option (List ℕ) → Type 0
-TellsFault before now text_before text_after =
-    (file : FileName) × (call : DiskCall) × Fails before now (record { file = file; call = call })
-    × (text_after ≡ option_map (λ text. text ++ answer_line (Fault file call)) text_before)
+-- the fault that is answered, if one is
+abbrev pub answer_fault : Answer → Option DiskFault
+answer_fault Usage = None
+answer_fault (Ended outcome) = None
+answer_fault (Fault file call) = Some (record { file = file; call = call })
+answer_fault NoMemory = None
+
+-- The calls on the disk that failed are counted: a fault that is answered is that of the last one, and with any other answer none failed.
+pub record IsCounted {D : Type 0} (d : disk.Ghosts D) (before after : D) (answer : Answer) : Type 0 where
+  pub later : (d.failures before).count ≤ (d.failures after).count
+  pub cause : IsCause (answer_fault answer) (d.failures before) (d.failures after)
+
+-- The answer is owed to these words: it is theirs over the files, it is the outcome of the files, and a fault has its cause.
+pub record IsOwed {D : Type 0} (d : disk.Ghosts D) (words : List (List ℕ)) (before after : D) (answer : Answer) : Type 0 where
+  pub answers : IsAnswer small_inserts words (d.shown before) (d.shown after) answer
+  pub outcome : AsksUpdate words → Goes d before after (λ f _. IsOutcomeOf answer f)
+  pub calls : IsCounted d before after answer
+
+-- which answers the words may have, whatever the files are
+abbrev pub IsOfWords : List (List ℕ) → Answer → Type 0
+IsOfWords words answer =
+    (AsksUpdate words × (answer ≢ Usage))
+    ⊎ ((AsksMore words × (answer ≡ Ended (Refused (NotYet part.Words)))) ⊎ (IsUsage words × (answer ≡ Usage)))
+
+-- the answer that is owed is told by the status and the output
+abbrev pub Tells : {D O : Type 0} → disk.Ghosts D → sink.Ghosts O → List (List ℕ) → D → D → O → O → ℕ → Type 0
+Tells d o words before after out_before out_after status =
+    (answer : Answer) × IsOwed d words before after answer × IsTold o answer out_before out_after status
+
+-- The line names the last call on the disk that failed, and the files are as a fault of this call may leave them.
+abbrev pub TellsFault : {D O : Type 0} → disk.Ghosts D → sink.Ghosts O → D → D → O → O → ℕ → Type 0
+TellsFault d o before after out_before out_after status =
+    (file : FileName) × (call : DiskCall) × Fails (d.failures before) (d.failures after) (record { file = file; call = call })
+    × Goes d before after (AfterFault small_inserts call) × IsTold o (Fault file call) out_before out_after status
+
+-- A call on the disk failed only where the status is 6 or 8, and the count of those that did never falls.
+pub record CountsCalls {D : Type 0} (d : disk.Ghosts D) (before after : D) (status : ℕ) : Type 0 where
+  pub later : (d.failures before).count ≤ (d.failures after).count
+  pub none : status ≢ 6 → status ≢ 8 → d.failures after ≡ d.failures before
+
+-- The output failed exactly where the status is 8, and the count of its faults never falls.
+pub record CountsWrites {O : Type 0} (o : sink.Ghosts O) (before after : O) (status : ℕ) : Type 0 where
+  pub later : o.faults before ≤ o.faults after
+  pub none : status ≢ 8 → o.faults after ≡ o.faults before
+  pub rose : status ≡ 8 → Rises (o.faults before) (o.faults after)

@@ -1,10 +1,10 @@
 // What is read of the files before anything is changed.
-ghost use Rattle.std.specs.Prelude.{◌≡◌, ◌≢◌, ◌≤◌, ◌↔◌, length, replicate, IsTrue, IfOk, IfErr, OnOk, OnErr, MatchOption};
+ghost use Rattle.std.specs.Prelude.{◌≡◌, ◌≢◌, ◌≤◌, ◌-◌, ◌↔◌, length, drop, replicate, IsTrue, IfOk, MatchOption};
+ghost use Rattle.byte_fields.specs.Bytes.{resized};
 ghost use Rattle.file_spec.specs.Files.{content};
-ghost use Rattle.common_spec.specs.Told.{Leads};
-ghost use Rattle.rbu_disk.specs.Call.{Fails};
-ghost use Rattle.update_spec.specs.Answer.{HasOtherFile};
-ghost use Rattle.rbu_run.specs.Halt.{HasCause};
+ghost use Rattle.rbu_disk.specs.Disk.{Looks, Owes, OwesBy};
+ghost use Rattle.small_spec.specs.SmallUpdate.{HasOtherFile};
+ghost use Rattle.rbu_run.specs.Halt.{fault_in};
 
 use crate::halt::Halt;
 use rbu_disk::{Disk, DiskFault, FileName};
@@ -15,11 +15,8 @@ pub const SMALL: usize = 8192;
 
 /// Whether a file of a running update, or a rollback journal, exists.
 pub fn has_other_file<D: Disk>(disk: &mut D) -> Result<bool, DiskFault>
-    ensures answer { IfOk result (λ there. Leads (λ f _. IsTrue there ↔ HasOtherFile f) (D.shown disk.old) (D.shown disk.new)) }
-    ensures same { D.shown disk.new ≡ D.shown disk.old }
-    ensures count { (D.failures disk.old).count ≤ (D.failures disk.new).count }
-    ensures still { OnOk result (D.failures disk.new ≡ D.failures disk.old) }
-    ensures cause { IfErr result (Fails (D.failures disk.old) (D.failures disk.new)) }
+    ensures files { Looks D.Disk disk.old disk.new result (λ there f. IsTrue there ↔ HasOtherFile f) }
+    ensures calls { Owes D.Disk disk.old disk.new result }
 {
     Ok(
         disk.exists(FileName::State)?
@@ -31,37 +28,34 @@ pub fn has_other_file<D: Disk>(disk: &mut D) -> Result<bool, DiskFault>
 }
 
 fn zeros(alloc: Global, n: usize) -> Result<Vec<u8>, AllocError>
-    ensures { IfOk result (λ v. v.items ≡ replicate n 0) }
+    ensures zeros { IfOk result (λ v. v.items ≡ replicate (length v.items) 0) }
+    ensures long { IfOk result (λ v. length v.items ≡ n) }
 {
     vec![in alloc; 0; n]
 }
 
-/// Fills the buffer with the bytes of a file that is as long. Bytes that the file does not give, though its length said
-/// so, stay.
-fn read_whole<D: Disk>(disk: &mut D, name: FileName, into: &mut [u8]) -> Result<(), DiskFault>
-    ensures answer { OnOk result (Leads (λ f _. length (content f name) ≡ length into.old → into.new ≡ content f name) (D.shown disk.old) (D.shown disk.new)) }
-    ensures same { D.shown disk.new ≡ D.shown disk.old }
-    ensures count { (D.failures disk.old).count ≤ (D.failures disk.new).count }
-    ensures still { OnOk result (D.failures disk.new ≡ D.failures disk.old) }
-    ensures cause { IfErr result (Fails (D.failures disk.old) (D.failures disk.new)) }
+/// Fills a buffer of zeros with the first bytes of a file, and answers how many it gave. Those that it did not give,
+/// though its length promised them, stay zero.
+fn read_whole<D: Disk>(disk: &mut D, name: FileName, into: &mut [u8]) -> Result<usize, DiskFault>
+    requires { into.old ≡ replicate (length into.old) 0 }
+    ensures files { Looks D.Disk disk.old disk.new result (λ _ f. into.new ≡ resized (content f name) (length into.old)) }
+    ensures bound { IfOk result (λ n. n ≤ length into.old) }
+    ensures missing { IfOk result (λ n. drop n into.new ≡ replicate (length into.old - n) 0) }
+    ensures calls { Owes D.Disk disk.old disk.new result }
 {
-    let _read = disk.read_at(name, 0, into)?;
-    Ok(())
+    let n = disk.read_at(name, 0, into)?;
+    Ok(n)
 }
 
 /// The bytes of a file of two pages, or `None` where it has another length. Bytes that the file does not give, though
-/// its length said so, are zero.
+/// its length promised them, are zero.
 pub fn small_bytes<D: Disk>(
     alloc: Global,
     disk: &mut D,
     name: FileName,
 ) -> Result<Option<Vec<u8>>, Halt>
-    ensures answer { IfOk result (λ bytes. Leads (λ f _. MatchOption bytes (length (content f name) ≢ 8192) (λ v. v.items ≡ content f name))
-        (D.shown disk.old) (D.shown disk.new)) }
-    ensures same { D.shown disk.new ≡ D.shown disk.old }
-    ensures count { (D.failures disk.old).count ≤ (D.failures disk.new).count }
-    ensures still { OnOk result (D.failures disk.new ≡ D.failures disk.old) }
-    ensures cause { IfErr result (HasCause (D.failures disk.old) (D.failures disk.new)) }
+    ensures files { Looks D.Disk disk.old disk.new result (λ bytes f. MatchOption bytes (length (content f name) ≢ 8192) (λ v. v.items ≡ content f name)) }
+    ensures calls { OwesBy D.Disk fault_in disk.old disk.new result }
 {
     if disk.len(name)? != SMALL as u64 {
         return Ok(None);

@@ -1,12 +1,12 @@
 // How the new pages reach the target: a whole log, its rename, and the copying of its pages.
-ghost use Rattle.std.specs.Prelude.{◌≡◌, ◌≤◌, ◌<◌, ◌^◌, ◌⊎◌, [], length, Some, None, OnOk, OnErr, IfErr, option_map};
+ghost use Rattle.std.specs.Prelude.{◌≡◌, ◌<◌, ◌^◌, ◌⊎◌, [], length, Some, None, OnOk, OnErr};
 ghost use Rattle.std.specs.List.{flat_map};
 ghost use Rattle.file_spec.specs.declared.FileName.TheVariants.{Target, Oal, Wal};
 ghost use Rattle.file_spec.specs.Files.{content, with_file, after_remove, after_rename, OnlyChanges};
-ghost use Rattle.common_spec.specs.Told.{Leads};
-ghost use Rattle.rbu_disk.specs.Call.{Fails};
+ghost use Rattle.rbu_disk.specs.Disk.{Goes, Owes};
 ghost use Rattle.format_spec.specs.Log.{AreWords, pair_of};
-ghost use Rattle.rbu_run.specs.Handover.{log_of, IsAlone, HasPages, HandsOver, SeesPages, KeepsOthers, LeavesLog};
+ghost use Rattle.rbu_run.specs.Halt.{FailsAtChange};
+ghost use Rattle.rbu_run.specs.Handover.{log_of, IsAlone, HasPages, IsMidway};
 
 use rbu_disk::{Disk, DiskFault, FileName};
 use wal_codec::{frame_bytes, header_bytes};
@@ -16,12 +16,11 @@ const PAGE_SIZE: usize = 4096;
 /// Writes the parts one after the other into the hidden log, which is empty.
 fn write_parts<D: Disk>(disk: &mut D, parts: &[&[u8]]) -> Result<(), DiskFault>
     requires { length (flat_map (λ part. part.now) parts.now) < 2 ^ 64 }
-    ensures done { OnOk result (Leads (λ f g. f Oal ≡ Some [] → g ≡ with_file f Oal (Some (flat_map (λ part. part.now) parts.now)))
-        (D.shown disk.old) (D.shown disk.new)) }
-    ensures only { Leads (OnlyChanges Oal) (D.shown disk.old) (D.shown disk.new) }
-    ensures count { (D.failures disk.old).count ≤ (D.failures disk.new).count }
-    ensures still { OnOk result (D.failures disk.new ≡ D.failures disk.old) }
-    ensures cause { IfErr result (Fails (D.failures disk.old) (D.failures disk.new)) }
+    ensures done { OnOk result (Goes D.Disk disk.old disk.new
+        (λ f g. f Oal ≡ Some [] → g ≡ with_file f Oal (Some (flat_map (λ part. part.now) parts.now)))) }
+    ensures only { Goes D.Disk disk.old disk.new (OnlyChanges Oal) }
+    ensures fault { FailsAtChange result }
+    ensures calls { Owes D.Disk disk.old disk.new result }
 {
     let mut at: u64 = 0;
     for part in parts {
@@ -34,13 +33,12 @@ fn write_parts<D: Disk>(disk: &mut D, parts: &[&[u8]]) -> Result<(), DiskFault>
 /// Writes the whole log of both pages to the hidden log, and makes it stable.
 fn write_log<D: Disk>(disk: &mut D, salt: [u32; 2], pages: &[u8]) -> Result<(), DiskFault>
     requires { length pages.now ≡ 8192 }
-    ensures done { OnOk result (Leads (λ f g. f Oal ≡ None → g ≡ with_file f Oal (Some (log_of (pair_of salt) pages.now)))
-        (D.shown disk.old) (D.shown disk.new)) }
-    ensures only { Leads (OnlyChanges Oal) (D.shown disk.old) (D.shown disk.new) }
-    ensures count { (D.failures disk.old).count ≤ (D.failures disk.new).count }
-    ensures still { OnOk result (D.failures disk.new ≡ D.failures disk.old) }
-    ensures cause { IfErr result (Fails (D.failures disk.old) (D.failures disk.new)) }
+    ensures done { OnOk result (Goes D.Disk disk.old disk.new
+        (λ f g. f Oal ≡ None → g ≡ with_file f Oal (Some (log_of (pair_of salt) pages.now)))) }
+    ensures only { Goes D.Disk disk.old disk.new (OnlyChanges Oal) }
     ensures words { AreWords (pair_of salt) }
+    ensures fault { FailsAtChange result }
+    ensures calls { Owes D.Disk disk.old disk.new result }
 {
     let (first_page, second_page) = pages.split_at(PAGE_SIZE);
     let mut header = [0; 32];
@@ -57,11 +55,10 @@ fn write_log<D: Disk>(disk: &mut D, salt: [u32; 2], pages: &[u8]) -> Result<(), 
 /// Copies both pages into the target, and makes it stable.
 fn copy_back<D: Disk>(disk: &mut D, pages: &[u8]) -> Result<(), DiskFault>
     requires { length pages.now ≡ 8192 }
-    ensures done { OnOk result (Leads (λ f g. length (content f Target) ≡ 8192 → HasPages pages.now f g) (D.shown disk.old) (D.shown disk.new)) }
-    ensures only { Leads (OnlyChanges Target) (D.shown disk.old) (D.shown disk.new) }
-    ensures count { (D.failures disk.old).count ≤ (D.failures disk.new).count }
-    ensures still { OnOk result (D.failures disk.new ≡ D.failures disk.old) }
-    ensures cause { IfErr result (Fails (D.failures disk.old) (D.failures disk.new)) }
+    ensures done { OnOk result (Goes D.Disk disk.old disk.new (λ f g. length (content f Target) ≡ 8192 → HasPages pages.now f g)) }
+    ensures only { Goes D.Disk disk.old disk.new (OnlyChanges Target) }
+    ensures fault { FailsAtChange result }
+    ensures calls { Owes D.Disk disk.old disk.new result }
 {
     let (first_page, second_page) = pages.split_at(PAGE_SIZE);
     disk.write_at(FileName::Target, 0, first_page)?;
@@ -71,11 +68,10 @@ fn copy_back<D: Disk>(disk: &mut D, pages: &[u8]) -> Result<(), DiskFault>
 
 /// Renames the log to be the target's write-ahead log, which readers see from then on.
 fn move_log<D: Disk>(disk: &mut D) -> Result<(), DiskFault>
-    ensures done { OnOk result (D.shown disk.new ≡ option_map (λ f. after_rename f Oal Wal) (D.shown disk.old)) }
-    ensures failed { OnErr result ((D.shown disk.new ≡ D.shown disk.old) ⊎ (D.shown disk.new ≡ option_map (λ f. after_rename f Oal Wal) (D.shown disk.old))) }
-    ensures count { (D.failures disk.old).count ≤ (D.failures disk.new).count }
-    ensures still { OnOk result (D.failures disk.new ≡ D.failures disk.old) }
-    ensures cause { IfErr result (Fails (D.failures disk.old) (D.failures disk.new)) }
+    ensures done { OnOk result (Goes D.Disk disk.old disk.new (λ f g. g ≡ after_rename f Oal Wal)) }
+    ensures failed { OnErr result (Goes D.Disk disk.old disk.new (λ f g. (g ≡ f) ⊎ (g ≡ after_rename f Oal Wal))) }
+    ensures fault { FailsAtChange result }
+    ensures calls { Owes D.Disk disk.old disk.new result }
 {
     disk.rename(FileName::Oal, FileName::Wal)?;
     disk.sync_folder()
@@ -83,26 +79,24 @@ fn move_log<D: Disk>(disk: &mut D) -> Result<(), DiskFault>
 
 /// Removes the write-ahead log, whose pages the target has.
 fn drop_log<D: Disk>(disk: &mut D) -> Result<(), DiskFault>
-    ensures done { OnOk result (D.shown disk.new ≡ option_map (λ f. after_remove f Wal) (D.shown disk.old)) }
-    ensures failed { OnErr result ((D.shown disk.new ≡ D.shown disk.old) ⊎ (D.shown disk.new ≡ option_map (λ f. after_remove f Wal) (D.shown disk.old))) }
-    ensures count { (D.failures disk.old).count ≤ (D.failures disk.new).count }
-    ensures still { OnOk result (D.failures disk.new ≡ D.failures disk.old) }
-    ensures cause { IfErr result (Fails (D.failures disk.old) (D.failures disk.new)) }
+    ensures done { OnOk result (Goes D.Disk disk.old disk.new (λ f g. g ≡ after_remove f Wal)) }
+    ensures failed { OnErr result (Goes D.Disk disk.old disk.new (λ f g. (g ≡ f) ⊎ (g ≡ after_remove f Wal))) }
+    ensures fault { FailsAtChange result }
+    ensures calls { Owes D.Disk disk.old disk.new result }
 {
     disk.remove(FileName::Wal)?;
     disk.sync_folder()
 }
 
-/// Brings the pages into the target. At each exit a reader of the files sees the target as it was, or the pages.
+/// Brings the pages into the target. Where a call fails it stops midway, and a reader of the files sees the target as it
+/// was, or the pages.
 pub fn hand_over<D: Disk>(disk: &mut D, salt: [u32; 2], pages: &[u8]) -> Result<(), DiskFault>
     requires { length pages.now ≡ 8192 }
-    ensures done { OnOk result (Leads (HandsOver pages.now) (D.shown disk.old) (D.shown disk.new)) }
-    ensures failed { OnErr result (Leads (SeesPages pages.now) (D.shown disk.old) (D.shown disk.new)) }
-    ensures others { Leads KeepsOthers (D.shown disk.old) (D.shown disk.new) }
-    ensures log { Leads (λ f g. IsAlone f → LeavesLog (pair_of salt) f g) (D.shown disk.old) (D.shown disk.new) }
-    ensures count { (D.failures disk.old).count ≤ (D.failures disk.new).count }
-    ensures still { OnOk result (D.failures disk.new ≡ D.failures disk.old) }
-    ensures cause { IfErr result (Fails (D.failures disk.old) (D.failures disk.new)) }
+    ensures done { OnOk result (Goes D.Disk disk.old disk.new (λ f g. IsAlone f → HasPages pages.now f g)) }
+    ensures failed { OnErr result (Goes D.Disk disk.old disk.new (λ f g. IsAlone f → IsMidway (pair_of salt) pages.now f g)) }
+    ensures words { AreWords (pair_of salt) }
+    ensures fault { FailsAtChange result }
+    ensures calls { Owes D.Disk disk.old disk.new result }
 {
     write_log(disk, salt, pages)?;
     move_log(disk)?;

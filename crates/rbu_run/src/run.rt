@@ -1,15 +1,15 @@
 // The commands, from the words in to the line out.
-ghost use Rattle.std.specs.Prelude.{◌≡◌, ◌≢◌, ◌≤◌, ◌⊎◌, ◌↔◌, List, ℕ, map, string_bytes, IsTrue};
-ghost use Rattle.common_spec.specs.Told.{Leads};
-ghost use Rattle.common_spec.specs.Counts.{Rises};
+ghost use Rattle.std.specs.Prelude.{◌≡◌, ◌≢◌, ◌⊎◌, ◌↔◌, map, string_bytes, IsTrue};
+ghost use Rattle.rbu_disk.specs.Disk.{Goes};
 ghost use Rattle.format_spec.specs.Log.{pair_of};
-ghost use Rattle.update_spec.specs.declared.Outcome.{Outcome};
 ghost use Rattle.update_spec.specs.declared.Command.TheVariants.{Apply};
-ghost use Rattle.update_spec.specs.Answer.{HasOutcome, IsAnswer, IsUpdateAnswer, IsFinished, SeesOldOrNew};
+ghost use Rattle.update_spec.specs.declared.Answer.TheVariants.{Usage};
+ghost use Rattle.update_spec.specs.Update.{SeesOldOrNew};
 ghost use Rattle.update_spec.specs.Words.{IsUsage, AsksUpdate, AsksMore};
-ghost use Rattle.update_spec.specs.Text.{answer_line};
+ghost use Rattle.small_spec.specs.SmallUpdate.{IsFinished, small_inserts};
+ghost use Rattle.rbu_run.specs.Ending.{EndsAs};
 ghost use Rattle.rbu_run.specs.Handover.{KeepsOthers, LeavesLog};
-ghost use Rattle.rbu_run.specs.Status.{Tells, KeepsOnFault, KeepsOnRefusal, IsHalted, HasStatusOf, IsOutcome, CountsFault, TellsFault};
+ghost use Rattle.rbu_run.specs.Status.{Tells, TellsFault, KeepsOnFault, KeepsOnRefusal, HasStatusOf, IsStatus, IsOfWords, IsCounted, CountsCalls, CountsWrites};
 
 use crate::halt::Halt;
 use crate::text::{tellable, write_line};
@@ -29,12 +29,9 @@ pub struct Ran<D> {
 
 /// The answer of the update.
 fn update_answer<D: Disk>(alloc: Global, salt: [u32; 2], disk: &mut D) -> Answer
-    ensures answer { IsUpdateAnswer (D.shown disk.old) (D.shown disk.new) result }
-    ensures others { Leads KeepsOthers (D.shown disk.old) (D.shown disk.new) }
-    ensures only { Leads (λ f _. (outcome : Outcome) → HasOutcome f outcome → IsOutcome outcome result) (D.shown disk.old) (D.shown disk.new) }
-    ensures log { Leads (LeavesLog (pair_of salt)) (D.shown disk.old) (D.shown disk.new) }
-    ensures count { (D.failures disk.old).count ≤ (D.failures disk.new).count }
-    ensures cause { CountsFault (D.failures disk.old) (D.failures disk.new) result }
+    ensures ended { result ≢ Usage }
+    ensures files { Goes D.Disk disk.old disk.new (EndsAs (pair_of salt) result) }
+    ensures calls { IsCounted D.Disk disk.old disk.new result }
 {
     match update(alloc, salt, disk) {
         Ok(outcome) => Answer::Ended { outcome },
@@ -58,14 +55,10 @@ fn is_whole_update(command: &Command) -> bool
 
 /// The answer of the command that the words ask for. Words that ask for no update make no call on the disk.
 fn answer_of<D: Disk>(alloc: Global, words: &[String], salt: [u32; 2], disk: &mut D) -> Answer
-    ensures answer { IsAnswer (map string_bytes words.now) (D.shown disk.old) (D.shown disk.new) result }
-    ensures only { AsksUpdate (map string_bytes words.now) →
-        Leads (λ f _. (outcome : Outcome) → HasOutcome f outcome → IsOutcome outcome result) (D.shown disk.old) (D.shown disk.new) }
-    ensures others { Leads KeepsOthers (D.shown disk.old) (D.shown disk.new) }
-    ensures log { Leads (LeavesLog (pair_of salt)) (D.shown disk.old) (D.shown disk.new) }
+    ensures words { IsOfWords (map string_bytes words.now) result }
+    ensures files { AsksUpdate (map string_bytes words.now) → Goes D.Disk disk.old disk.new (EndsAs (pair_of salt) result) }
     ensures idle { (¬ AsksUpdate (map string_bytes words.now)) → disk.new ≡ disk.old }
-    ensures count { (D.failures disk.old).count ≤ (D.failures disk.new).count }
-    ensures cause { CountsFault (D.failures disk.old) (D.failures disk.new) result }
+    ensures calls { IsCounted D.Disk disk.old disk.new result }
 {
     let Some(command) = command_of(words) else {
         return Answer::Usage;
@@ -91,37 +84,39 @@ pub fn run_command<D: Disk, O: Sink>(
     out: &mut O,
 ) -> Ran<D>
     // Whatever stopped the call, a reader of the files sees the old database, or all of the new one.
-    ensures headline { Leads SeesOldOrNew (D.shown disk) (D.shown result.disk) }
+    ensures headline { Goes D.Disk disk result.disk (SeesOldOrNew small_inserts) }
 
     // Nor is any other file than the target and its two logs changed.
-    ensures others { Leads KeepsOthers (D.shown disk) (D.shown result.disk) }
+    ensures others { Goes D.Disk disk result.disk KeepsOthers }
 
     // A write-ahead log that the call makes and leaves is whole, and has the salt.
-    ensures log { Leads (LeavesLog (pair_of salt)) (D.shown disk) (D.shown result.disk) }
+    ensures log { Goes D.Disk disk result.disk (LeavesLog (pair_of salt)) }
 
     // An update that ends has put every prepared row into the target, and neither log exists.
-    ensures finished { result.status ≡ 0 → AsksUpdate (map string_bytes words.now) × Leads IsFinished (D.shown disk) (D.shown result.disk) }
-    ensures constraint { result.status ≡ 3 → AsksUpdate (map string_bytes words.now) × Leads KeepsOnFault (D.shown disk) (D.shown result.disk) }
+    ensures finished { result.status ≡ 0 → AsksUpdate (map string_bytes words.now) × Goes D.Disk disk result.disk IsFinished }
+    ensures constraint { result.status ≡ 3 → AsksUpdate (map string_bytes words.now) × Goes D.Disk disk result.disk KeepsOnFault }
     ensures refused { result.status ≡ 4 → AsksMore (map string_bytes words.now)
-        ⊎ (AsksUpdate (map string_bytes words.now) × Leads KeepsOnRefusal (D.shown disk) (D.shown result.disk)) }
-    ensures memory { result.status ≡ 7 → D.shown result.disk ≡ D.shown disk }
+        ⊎ (AsksUpdate (map string_bytes words.now) × Goes D.Disk disk result.disk KeepsOnRefusal) }
+    ensures memory { result.status ≡ 7 → Goes D.Disk disk result.disk (λ f g. g ≡ f) }
 
     // The outcome of the files is the answer, exactly, unless a device failed or memory ran out.
-    ensures complete { AsksUpdate (map string_bytes words.now) → Leads (λ f _. HasStatusOf result.status f) (D.shown disk) (D.shown result.disk) }
+    ensures complete { AsksUpdate (map string_bytes words.now) → Goes D.Disk disk result.disk (λ f _. HasStatusOf result.status f) }
     ensures not_built { AsksMore (map string_bytes words.now) → (result.status ≡ 4) ⊎ (result.status ≡ 8) }
     ensures usage { result.status ≡ 2 → IsUsage (map string_bytes words.now) }
     ensures usage_only { IsUsage (map string_bytes words.now) → (result.status ≡ 2) ⊎ (result.status ≡ 8) }
     ensures idle { (¬ AsksUpdate (map string_bytes words.now)) → result.disk ≡ disk }
 
-    // The output has the one line of the answer, or a prefix of it where the output failed.
-    ensures told { Tells (map string_bytes words.now) (D.shown disk) (D.shown result.disk) result.status (O.written out.old) (O.written out.new) }
+    ensures status { IsStatus result.status }
 
-    // A fault has its cause, and none is passed over. Status 6 names the last call on the disk that failed.
-    ensures disk_fault { result.status ≡ 6 → TellsFault (D.failures disk) (D.failures result.disk) (O.written out.old) (O.written out.new) }
-    ensures output_fault { result.status ≡ 8 → Rises (O.faults out.old) (O.faults out.new) }
-    ensures no_disk_fault { result.status ≢ 6 → result.status ≢ 8 → D.failures result.disk ≡ D.failures disk }
-    ensures no_output_fault { result.status ≢ 8 → O.faults out.new ≡ O.faults out.old }
-    ensures counts { ((D.failures disk).count ≤ (D.failures result.disk).count) × (O.faults out.old ≤ O.faults out.new) }
+    // The output has the one line of the answer that is owed, or a prefix of it where the output failed.
+    ensures told { Tells D.Disk O.Sink (map string_bytes words.now) disk result.disk out.old out.new result.status }
+
+    // Status 6 names the last call on the disk that failed, and the files are as before unless the update was due.
+    ensures fault { result.status ≡ 6 → TellsFault D.Disk O.Sink disk result.disk out.old out.new result.status }
+
+    // A fault has its cause, and none is passed over.
+    ensures calls { CountsCalls D.Disk disk result.disk result.status }
+    ensures writes { CountsWrites O.Sink out.old out.new result.status }
 {
     let answer = answer_of(alloc, words, salt, &mut disk);
     let (answer, line) = tellable(alloc, answer);

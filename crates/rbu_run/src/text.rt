@@ -1,11 +1,11 @@
 // The line and the status of an answer.
-ghost use Rattle.std.specs.Prelude.{◌≡◌, ◌≢◌, ◌≤◌, ◌⊎◌, ◌++◌, ◌∷◌, [], ℤ, length, string_bytes, IfOk, OnErr};
+ghost use Rattle.std.specs.Prelude.{◌≡◌, ◌≤◌, ◌⊎◌, ◌++◌, ◌∷◌, [], List, ℕ, ℤ, length, string_bytes, IfOk, OnErr};
 ghost use Rattle.std.specs.Fmt.{signed_decimal};
-ghost use Rattle.common_spec.specs.Counts.{Rises};
 ghost use Rattle.refusal.specs.Refusal.{refusal_text};
 ghost use Rattle.update_spec.specs.Text.{answer_line, answer_status};
 ghost use Rattle.update_spec.specs.declared.Outcome.TheVariants.{KeyPresent, Refused};
 ghost use Rattle.update_spec.specs.declared.Answer.TheVariants.{Ended, Fault, NoMemory};
+ghost use Rattle.rbu_run.specs.Line.{line_bytes};
 ghost use Rattle.rbu_run.specs.Told.{IsTold};
 
 use arrayvec::ArrayString;
@@ -14,8 +14,23 @@ use refusal::{Part, Refusal};
 use std::alloc::{AllocError, Global};
 use update_spec::{Answer, Outcome};
 
-// A line of the program, with its line feed.
-pub type Line = ArrayString<64>;
+/// A line of the program, with its line feed. That of a constraint fault has a table's name, and so no bound.
+#[derive(Drop)]
+pub enum Line {
+    Short(ArrayString<64>),
+    Long(Vec<u8>),
+}
+
+impl Line {
+    fn as_bytes(&self) -> &[u8]
+        ensures { result.now ≡ line_bytes self.now }
+    {
+        match self {
+            Line::Short(text) => text.as_bytes(),
+            Line::Long(bytes) => bytes.as_slice(),
+        }
+    }
+}
 
 // The status where the output failed.
 const OUTPUT_FAULT: u8 = 8;
@@ -36,10 +51,10 @@ fn status_of(answer: &Answer) -> u8
     }
 }
 
-fn fault_line(file: FileName, call: DiskCall) -> Line
+fn fault_line(file: FileName, call: DiskCall) -> ArrayString<64>
     ensures { result.bytes ≡ answer_line (Fault file call) }
 {
-    let mut line = Line::new();
+    let mut line = ArrayString::new();
     line.push_str("fault ");
     line.push_str(file.word());
     line.push_str(" ");
@@ -48,11 +63,11 @@ fn fault_line(file: FileName, call: DiskCall) -> Line
     line
 }
 
-fn refused_line(refusal: Refusal) -> Line
+fn refused_line(refusal: Refusal) -> ArrayString<64>
     ensures { result.bytes ≡ answer_line (Ended (Refused refusal)) }
 {
     let Refusal::NotYet { part } = refusal;
-    let mut line = Line::new();
+    let mut line = ArrayString::new();
     line.push_str("refused 1 NotYet ");
     line.push_str(part.word());
     line.push_str("\n");
@@ -65,29 +80,24 @@ fn digits_of(alloc: Global, rowid: i64) -> Result<String, AllocError>
     rowid.to_string(alloc)
 }
 
-fn rowid_digits(alloc: Global, rowid: i64) -> Result<String, AllocError>
-    ensures digits { IfOk result (λ text. string_bytes text ≡ signed_decimal rowid) }
-    ensures short { IfOk result (λ text. length (string_bytes text) ≤ 20) }
+fn key_present_line(alloc: Global, table: &[u8], data_rowid: i64) -> Result<Vec<u8>, AllocError>
+    ensures { IfOk result (λ line. line.items ≡ answer_line (Ended (KeyPresent table.now data_rowid))) }
 {
-    digits_of(alloc, rowid)
-}
-
-fn key_present_line(alloc: Global, data_rowid: i64) -> Result<Line, AllocError>
-    ensures { IfOk result (λ line. line.bytes ≡ answer_line (Ended (KeyPresent data_rowid))) }
-{
-    let digits = rowid_digits(alloc, data_rowid)?;
-    let mut line = Line::new();
-    line.push_str("constraint key-present t1 ");
-    line.push_str(digits.as_str());
-    line.push_str("\n");
+    let digits = digits_of(alloc, data_rowid)?;
+    let mut line = Vec::new(alloc);
+    line.extend_from_slice(b"constraint key-present ")?;
+    line.extend_from_slice(table)?;
+    line.extend_from_slice(b" ")?;
+    line.extend_from_slice(digits.as_bytes())?;
+    line.extend_from_slice(b"\n")?;
     Ok(line)
 }
 
-fn plain_line(text: &'static str) -> Line
+fn plain_line(text: &'static str) -> ArrayString<64>
     requires { length text.now ≤ 9 }
     ensures { result.bytes ≡ text.now ++ 10 ∷ [] }
 {
-    let mut line = Line::new();
+    let mut line = ArrayString::new();
     line.push_str(text);
     line.push_str("\n");
     line
@@ -95,28 +105,27 @@ fn plain_line(text: &'static str) -> Line
 
 /// The line of an answer. Only that of a constraint fault takes memory.
 fn line_of(alloc: Global, answer: &Answer) -> Result<Line, AllocError>
-    ensures line { IfOk result (λ line. line.bytes ≡ answer_line answer.now) }
-    ensures memory { OnErr result ((data_rowid : ℤ) × (answer.now ≡ Ended (KeyPresent data_rowid))) }
+    ensures line { IfOk result (λ line. line_bytes line ≡ answer_line answer.now) }
+    ensures memory { OnErr result ((table : List ℕ) × (data_rowid : ℤ) × (answer.now ≡ Ended (KeyPresent table data_rowid))) }
 {
     match answer {
-        Answer::Usage => Ok(plain_line("usage")),
+        Answer::Usage => Ok(Line::Short(plain_line("usage"))),
         Answer::Ended { outcome } => match outcome {
-            Outcome::Done => Ok(plain_line("done")),
-            Outcome::KeyPresent { data_rowid } => key_present_line(alloc, *data_rowid),
-            Outcome::Refused { refusal } => Ok(refused_line(*refusal)),
+            Outcome::Done => Ok(Line::Short(plain_line("done"))),
+            Outcome::KeyPresent { table, data_rowid } => {
+                Ok(Line::Long(key_present_line(alloc, table.as_slice(), *data_rowid)?))
+            }
+            Outcome::Refused { refusal } => Ok(Line::Short(refused_line(*refusal))),
         },
-        Answer::Fault { file, call } => Ok(fault_line(*file, *call)),
-        Answer::NoMemory => Ok(plain_line("no memory")),
+        Answer::Fault { file, call } => Ok(Line::Short(fault_line(*file, *call))),
+        Answer::NoMemory => Ok(Line::Short(plain_line("no memory"))),
     }
 }
 
 /// Writes the line of an answer at once, and answers its status, or that of an output that failed.
 pub fn write_line<O: Sink>(answer: &Answer, line: &Line, out: &mut O) -> u8
-    requires { line.now.bytes ≡ answer_line answer.now }
-    ensures told { IsTold answer.now result (O.written out.old) (O.written out.new) }
-    ensures count { O.faults out.old ≤ O.faults out.new }
-    ensures still { result ≢ 8 → O.faults out.new ≡ O.faults out.old }
-    ensures cause { result ≡ 8 → Rises (O.faults out.old) (O.faults out.new) }
+    requires { line_bytes line.now ≡ answer_line answer.now }
+    ensures { IsTold O.Sink answer.now out.old out.new result }
 {
     match out.write_all(line.as_bytes()) {
         Ok(()) => status_of(answer),
@@ -126,11 +135,12 @@ pub fn write_line<O: Sink>(answer: &Answer, line: &Line, out: &mut O) -> u8
 
 /// The answer with its line; want of memory where the line takes memory and there is none.
 pub fn tellable(alloc: Global, answer: Answer) -> (Answer, Line)
-    ensures line { result.1.bytes ≡ answer_line result.0 }
-    ensures answer { (result.0 ≡ answer) ⊎ ((result.0 ≡ NoMemory) × ((data_rowid : ℤ) × (answer ≡ Ended (KeyPresent data_rowid)))) }
+    ensures line { line_bytes result.1 ≡ answer_line result.0 }
+    ensures answer { (result.0 ≡ answer)
+        ⊎ ((result.0 ≡ NoMemory) × ((table : List ℕ) × (data_rowid : ℤ) × (answer ≡ Ended (KeyPresent table data_rowid)))) }
 {
     match line_of(alloc, &answer) {
         Ok(line) => (answer, line),
-        Err(_) => (Answer::NoMemory, plain_line("no memory")),
+        Err(_) => (Answer::NoMemory, Line::Short(plain_line("no memory"))),
     }
 }

@@ -14,7 +14,7 @@ use Rattle.update_spec.specs.Words.{IsUsage, AsksUpdate, AsksMore}
 abbrev pub IsUpdateAnswer : Update → Option Files → Option Files → Answer → Type 0
 IsUpdateAnswer update before after Usage = ⊥
 IsUpdateAnswer update before after (Ended outcome) = Leads (AfterOutcome update outcome) before after
-IsUpdateAnswer update before after (Fault file call) = Leads (AfterFault update) before after
+IsUpdateAnswer update before after (Fault file call) = Leads (AfterFault update call) before after
 IsUpdateAnswer update before after NoMemory = after ≡ before
 
 -- the words of a command that is not built: nothing changes

@@ -2,6 +2,8 @@
 use Rattle.std.specs.Prelude.{◌≡◌, ◌⊎◌, false, None}
 use Rattle.file_spec.specs.declared.FileName.{FileName}
 use Rattle.file_spec.specs.declared.FileName.TheVariants.{Target, Oal, Wal}
+use Rattle.file_spec.specs.declared.DiskCall.{DiskCall}
+use Rattle.file_spec.specs.declared.DiskCall.TheVariants.{Exists, Len, Read}
 use Rattle.file_spec.specs.Files.{Files, is_name}
 use Rattle.format_spec.specs.PageMap.{PageMap}
 use Rattle.update_spec.specs.declared.Outcome.{Outcome}
@@ -34,6 +36,13 @@ AfterOutcome update Done before after = IsDone update before after
 AfterOutcome update (KeyPresent table data_rowid) before after = update.HasOutcome before (KeyPresent table data_rowid) × (after ≡ before)
 AfterOutcome update (Refused refusal) before after = update.HasOutcome before (Refused refusal) × (after ≡ before)
 
--- What a fault leaves: the files as they were, or, where the update was due, the old database or the new one.
-abbrev pub AfterFault : Update → Files → Files → Type 0
-AfterFault update before after = (after ≡ before) ⊎ (update.HasOutcome before Done × SeesOldOrNew update before after)
+-- a call that only looks at a file
+abbrev pub IsLook : DiskCall → Type 0
+IsLook Exists = Unit {0}
+IsLook Len = Unit {0}
+IsLook Read = Unit {0}
+IsLook other = ⊥
+
+-- What a fault of this call leaves: the files as they were, or, where the update was due and the call is no look, the old database or the new one.
+abbrev pub AfterFault : Update → DiskCall → Files → Files → Type 0
+AfterFault update call before after = (after ≡ before) ⊎ ((¬ IsLook call) × update.HasOutcome before Done × SeesOldOrNew update before after)

@@ -2,17 +2,13 @@ use Rattle.std.proofs.Common.{◌≡◌, ◌+◌, ℕ, [], List, ◌++◌, lengt
 use Rattle.std.specs.Borrow.{Bor}
 use Rattle.std.specs.List.{flat_map}
 use Rattle.file_spec.specs.declared.FileName.TheVariants.{Oal}
+use Rattle.file_spec.specs.OnlyChangesLaws.{only-same, only-then, only-torn, only-written}
 use Rattle.rbu_run.proofs.Parts.{flat_map-take_more}
-use Rattle.rbu_run.proofs.LogWrites.{Wrote-none, only-none, Wrote-more, only-more, only-torn}
+use Rattle.rbu_run.proofs.LogWrites.{Wrote-none, Wrote-more}
 use Rattle.rbu_run.proofs.handover.write_parts.Goals as goal
 
 pub loop-part-init : goal.loop-part-init
-loop-part-init g c = record {
-  place = refl;
-  wrote = Wrote-none (g.D.Disk.shown c.args.disk.now);
-  only = only-none Oal (g.D.Disk.shown c.args.disk.now) (g.D.Disk.shown c.args.disk.now) refl;
-  still = refl;
-}
+loop-part-init g c = record { place = refl; wrote = Wrote-none; only = only-same Oal refl; still = refl }
 
 pub loop-part-preserved : goal.loop-part-preserved
 loop-part-preserved g c =
@@ -23,15 +19,12 @@ loop-part-preserved g c =
     flat_map-take_more now c.args.parts.now c.loop-part.part-index (record { ref_ptr = (0, 0); now = [] }) c.loop-part-test.true in
     rw more (record {
       place = omega (arith, c.loop-part.invariant.place, length-append written part.now);
-      wrote = Wrote-more written part.now c.loop-part.at (g.D.Disk.shown c.args.disk.now) (g.D.Disk.shown c.loop-part.disk) (g.D.Disk.shown c.write_at.new.self)
-          c.loop-part.invariant.place c.loop-part.invariant.wrote c.in_ok-write_at.ensures.done;
-      only = only-more Oal part.now c.loop-part.at (g.D.Disk.shown c.args.disk.now) (g.D.Disk.shown c.loop-part.disk) (g.D.Disk.shown c.write_at.new.self)
-          c.loop-part.invariant.only c.in_ok-write_at.ensures.done;
-      still = c.in_ok-write_at.ensures.cause.still ∙ c.loop-part.invariant.still;
+      wrote = Wrote-more written part.now c.loop-part.at c.loop-part.invariant.place c.loop-part.invariant.wrote c.in_ok-write_at.ensures.done;
+      only = only-then Oal c.loop-part.invariant.only (only-written Oal c.loop-part.at part.now c.in_ok-write_at.ensures.done);
+      still = c.in_ok-write_at.ensures.cause.counts.still ∙ c.loop-part.invariant.still;
     })
 
 pub returns-in_err-write_at-clause-only : goal.returns-in_err-write_at-clause-only
 returns-in_err-write_at-clause-only g c =
-    only-torn Oal c.loop-part.at (length (get_or c.args.parts.now c.loop-part.part-index (record { ref_ptr = (0, 0); now = [] })).now)
-    (g.D.Disk.shown c.args.disk.now) (g.D.Disk.shown c.loop-part.disk) (g.D.Disk.shown c.write_at.new.self)
-    c.loop-part.invariant.only c.in_err-write_at.ensures.failed
+    only-then Oal c.loop-part.invariant.only
+    (only-torn Oal c.loop-part.at (length (get_or c.args.parts.now c.loop-part.part-index (record { ref_ptr = (0, 0); now = [] })).now) c.in_err-write_at.ensures.failed)

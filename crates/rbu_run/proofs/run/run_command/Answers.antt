@@ -1,49 +1,108 @@
-use Rattle.std.proofs.Common.{map, string_bytes}
-use Rattle.common_spec.specs.ToldLaws.{Leads-weaken}
-use Rattle.update_spec.specs.declared.Outcome.{Outcome}
-use Rattle.update_spec.specs.Answer.{HasOutcome, IsAnswer}
-use Rattle.rbu_run.specs.Status.{HasStatusOf, IsOutcome}
-use Rattle.rbu_run.proofs.Answering.{answer_sees, told_answer, constraint_kept, status_complete, usage_only, fault_told, memory_kept}
+use Rattle.std.proofs.Common.{map, string_bytes, inl, refl, ap}
+use Rattle.update_spec.specs.ViewLaws.{KeepsView-same}
+use Rattle.format_spec.specs.Log.{pair_of}
+use Rattle.rbu_run.specs.Status.{IsCounted}
+use Rattle.rbu_run.proofs.Endings.{sees-ends, others-ends, log-ends}
+use Rattle.rbu_run.proofs.Answering as answering
+use Rattle.rbu_run.proofs.Answering.{Settled, settled-told, counted-told, however, owed}
 use Rattle.rbu_run.proofs.run.run_command.Given as given
 use Rattle.rbu_run.proofs.run.run_command.Goals as goal
 
--- what was told is an answer of the words and the files
-told : (g : given.Over) (c : goal.After-write_line-status g) →
-    IsAnswer (map string_bytes c.args.words.now) (g.D.Disk.shown c.args.disk) (g.D.Disk.shown c.answer_of-answer.new.disk) c.tellable-answer.result.0
-told g c =
-    told_answer (map string_bytes c.args.words.now) (g.D.Disk.shown c.args.disk) (g.D.Disk.shown c.answer_of-answer.new.disk)
-    c.answer_of-answer.result c.tellable-answer.result.0 c.answer_of-answer.ensures.answer c.tellable-answer.ensures.answer
+-- the answer of the command is settled
+answered : (g : given.Over) (c : goal.Joined-answer g) →
+    Settled (pair_of c.args.salt) (map string_bytes c.args.words.now) (g.D.Disk.shown c.args.disk) (g.D.Disk.shown c.answer_of-answer.new.disk) c.answer_of-answer.result
+answered g c = record {
+  of_words = c.answer_of-answer.ensures.words;
+  files = c.answer_of-answer.ensures.files;
+  idle = λ other. ap g.D.Disk.shown (c.answer_of-answer.ensures.idle other);
+}
+
+-- and so is the one that is told
+settled : (g : given.Over) (c : goal.Joined-answer g) →
+    Settled (pair_of c.args.salt) (map string_bytes c.args.words.now) (g.D.Disk.shown c.args.disk) (g.D.Disk.shown c.answer_of-answer.new.disk) c.tellable-answer.result.0
+settled g c =
+    settled-told (pair_of c.args.salt) (map string_bytes c.args.words.now) (g.D.Disk.shown c.args.disk) (g.D.Disk.shown c.answer_of-answer.new.disk)
+    c.answer_of-answer.result c.tellable-answer.result.0 (answered g c) c.tellable-answer.ensures.answer
+
+counted : (g : given.Over) (c : goal.Joined-answer g) → IsCounted g.D.Disk c.args.disk c.answer_of-answer.new.disk c.tellable-answer.result.0
+counted g c = counted-told c.answer_of-answer.result c.tellable-answer.result.0 c.answer_of-answer.ensures.calls c.tellable-answer.ensures.answer
 
 pub returns-clause-headline : goal.returns-clause-headline
 returns-clause-headline g c =
-    answer_sees (map string_bytes c.args.words.now) (g.D.Disk.shown c.args.disk) (g.D.Disk.shown c.answer_of-answer.new.disk) c.answer_of-answer.result c.answer_of-answer.ensures.answer
+    however (pair_of c.args.salt) (map string_bytes c.args.words.now) (g.D.Disk.shown c.args.disk) (g.D.Disk.shown c.answer_of-answer.new.disk) c.tellable-answer.result.0
+    (settled g c) (sees-ends (pair_of c.args.salt) c.tellable-answer.result.0) (λ f. inl (KeepsView-same f f refl))
+
+pub returns-clause-others : goal.returns-clause-others
+returns-clause-others g c =
+    however (pair_of c.args.salt) (map string_bytes c.args.words.now) (g.D.Disk.shown c.args.disk) (g.D.Disk.shown c.answer_of-answer.new.disk) c.tellable-answer.result.0
+    (settled g c) (others-ends (pair_of c.args.salt) c.tellable-answer.result.0) (λ f name x y z. refl)
+
+pub returns-clause-log : goal.returns-clause-log
+returns-clause-log g c =
+    however (pair_of c.args.salt) (map string_bytes c.args.words.now) (g.D.Disk.shown c.args.disk) (g.D.Disk.shown c.answer_of-answer.new.disk) c.tellable-answer.result.0
+    (settled g c) (log-ends (pair_of c.args.salt) c.tellable-answer.result.0) (λ f. inl refl)
+
+pub returns-clause-finished : goal.returns-clause-finished
+returns-clause-finished g c =
+    answering.done (pair_of c.args.salt) (map string_bytes c.args.words.now) (g.D.Disk.shown c.args.disk) (g.D.Disk.shown c.answer_of-answer.new.disk)
+    c.args.out.now c.write_line-status.new.out c.tellable-answer.result.0 c.write_line-status.result (settled g c) c.write_line-status.ensures
 
 pub returns-clause-constraint : goal.returns-clause-constraint
 returns-clause-constraint g c =
-    constraint_kept (map string_bytes c.args.words.now) (g.D.Disk.shown c.args.disk) (g.D.Disk.shown c.answer_of-answer.new.disk) c.tellable-answer.result.0 c.write_line-status.result
-    (g.O.Sink.written c.args.out.now) (g.O.Sink.written c.write_line-status.new.out) (told g c) c.write_line-status.ensures.told
+    answering.constraint (pair_of c.args.salt) (map string_bytes c.args.words.now) (g.D.Disk.shown c.args.disk) (g.D.Disk.shown c.answer_of-answer.new.disk)
+    c.args.out.now c.write_line-status.new.out c.tellable-answer.result.0 c.write_line-status.result (settled g c) c.write_line-status.ensures
 
-pub returns-clause-complete : goal.returns-clause-complete
-returns-clause-complete g c asks =
-    Leads-weaken (λ f _. (outcome : Outcome) → HasOutcome f outcome → IsOutcome outcome c.answer_of-answer.result) (λ f _. HasStatusOf c.write_line-status.result f)
-    (g.D.Disk.shown c.args.disk) (g.D.Disk.shown c.answer_of-answer.new.disk) (c.answer_of-answer.ensures.only asks)
-    (λ f _ only outcome has. status_complete outcome c.answer_of-answer.result c.tellable-answer.result.0 c.write_line-status.result
-    (g.O.Sink.written c.args.out.now) (g.O.Sink.written c.write_line-status.new.out) (only outcome has) c.tellable-answer.ensures.answer c.write_line-status.ensures.told)
-
-pub returns-clause-usage_only : goal.returns-clause-usage_only
-returns-clause-usage_only g c =
-    usage_only (map string_bytes c.args.words.now) (g.D.Disk.shown c.args.disk) (g.D.Disk.shown c.answer_of-answer.new.disk) c.answer_of-answer.result c.tellable-answer.result.0 c.write_line-status.result
-    (g.O.Sink.written c.args.out.now) (g.O.Sink.written c.write_line-status.new.out) c.answer_of-answer.ensures.answer c.tellable-answer.ensures.answer c.write_line-status.ensures.told
-
-pub returns-clause-told : goal.returns-clause-told
-returns-clause-told g c = (c.tellable-answer.result.0, told g c, c.write_line-status.ensures.told)
-
-pub returns-clause-disk_fault : goal.returns-clause-disk_fault
-returns-clause-disk_fault g c =
-    fault_told c.answer_of-answer.result c.tellable-answer.result.0 c.write_line-status.result (g.D.Disk.failures c.args.disk) (g.D.Disk.failures c.answer_of-answer.new.disk)
-    (g.O.Sink.written c.args.out.now) (g.O.Sink.written c.write_line-status.new.out) c.answer_of-answer.ensures.cause c.tellable-answer.ensures.answer c.write_line-status.ensures.told
+pub returns-clause-refused : goal.returns-clause-refused
+returns-clause-refused g c =
+    answering.refused (pair_of c.args.salt) (map string_bytes c.args.words.now) (g.D.Disk.shown c.args.disk) (g.D.Disk.shown c.answer_of-answer.new.disk)
+    c.args.out.now c.write_line-status.new.out c.tellable-answer.result.0 c.write_line-status.result (settled g c) c.write_line-status.ensures
 
 pub returns-clause-memory : goal.returns-clause-memory
 returns-clause-memory g c =
-    memory_kept (map string_bytes c.args.words.now) (g.D.Disk.shown c.args.disk) (g.D.Disk.shown c.answer_of-answer.new.disk) c.tellable-answer.result.0 c.write_line-status.result
-    (g.O.Sink.written c.args.out.now) (g.O.Sink.written c.write_line-status.new.out) (told g c) c.write_line-status.ensures.told
+    answering.memory (pair_of c.args.salt) (map string_bytes c.args.words.now) (g.D.Disk.shown c.args.disk) (g.D.Disk.shown c.answer_of-answer.new.disk)
+    c.args.out.now c.write_line-status.new.out c.tellable-answer.result.0 c.write_line-status.result (settled g c) c.write_line-status.ensures
+
+pub returns-clause-usage : goal.returns-clause-usage
+returns-clause-usage g c =
+    answering.usage (pair_of c.args.salt) (map string_bytes c.args.words.now) (g.D.Disk.shown c.args.disk) (g.D.Disk.shown c.answer_of-answer.new.disk)
+    c.args.out.now c.write_line-status.new.out c.tellable-answer.result.0 c.write_line-status.result (settled g c) c.write_line-status.ensures
+
+pub returns-clause-not_built : goal.returns-clause-not_built
+returns-clause-not_built g c =
+    answering.not_built (pair_of c.args.salt) (map string_bytes c.args.words.now) (g.D.Disk.shown c.args.disk) (g.D.Disk.shown c.answer_of-answer.new.disk)
+    c.args.out.now c.write_line-status.new.out c.tellable-answer.result.0 c.write_line-status.result (settled g c) c.write_line-status.ensures
+
+pub returns-clause-usage_only : goal.returns-clause-usage_only
+returns-clause-usage_only g c =
+    answering.usage_only (pair_of c.args.salt) (map string_bytes c.args.words.now) (g.D.Disk.shown c.args.disk) (g.D.Disk.shown c.answer_of-answer.new.disk)
+    c.args.out.now c.write_line-status.new.out c.tellable-answer.result.0 c.write_line-status.result (settled g c) c.write_line-status.ensures
+
+pub returns-clause-complete : goal.returns-clause-complete
+returns-clause-complete g c =
+    answering.complete (pair_of c.args.salt) (map string_bytes c.args.words.now) (g.D.Disk.shown c.args.disk) (g.D.Disk.shown c.answer_of-answer.new.disk)
+    c.args.out.now c.write_line-status.new.out c.tellable-answer.result.0 c.write_line-status.result (settled g c) c.write_line-status.ensures
+
+pub returns-clause-told : goal.returns-clause-told
+returns-clause-told g c = (
+  c.tellable-answer.result.0,
+  owed (pair_of c.args.salt) (map string_bytes c.args.words.now) c.args.disk c.answer_of-answer.new.disk c.tellable-answer.result.0 (settled g c) (counted g c),
+  c.write_line-status.ensures,
+)
+
+pub returns-clause-fault : goal.returns-clause-fault
+returns-clause-fault g c =
+    answering.fault (pair_of c.args.salt) (map string_bytes c.args.words.now) c.args.disk c.answer_of-answer.new.disk
+    c.args.out.now c.write_line-status.new.out c.tellable-answer.result.0 c.write_line-status.result (settled g c) (counted g c) c.write_line-status.ensures
+
+pub returns-clause-calls : goal.returns-clause-calls
+returns-clause-calls g c =
+    answering.calls (pair_of c.args.salt) (map string_bytes c.args.words.now) c.args.disk c.answer_of-answer.new.disk
+    c.args.out.now c.write_line-status.new.out c.tellable-answer.result.0 c.write_line-status.result (counted g c) c.write_line-status.ensures
+
+pub returns-clause-writes : goal.returns-clause-writes
+returns-clause-writes g c =
+    answering.writes c.args.out.now c.write_line-status.new.out c.tellable-answer.result.0 c.write_line-status.result c.write_line-status.ensures
+
+pub returns-clause-status : goal.returns-clause-status
+returns-clause-status g c =
+    answering.status-told c.args.out.now c.write_line-status.new.out c.tellable-answer.result.0 c.write_line-status.result c.write_line-status.ensures

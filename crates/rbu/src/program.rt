@@ -1,5 +1,5 @@
 // The program, from its words in to the status with which it ends.
-ghost use Rattle.std.specs.Prelude.{◌≢◌};
+ghost use Rattle.std.specs.Prelude.{◌≢◌, IfOk};
 
 use crate::example::{example_rbu, example_target};
 use disk_memory::MemoryDisk;
@@ -51,11 +51,14 @@ fn salt<R: RandomSource>(rt: &R) -> io::Result<[u32; 2]> {
     ])
 }
 
-// What a command runs on: its words, the log's salt and the disk.
-fn input<R: Env + RandomSource + AllocGlobal>(
-    rt: &R,
-) -> io::Result<(Vec<String>, [u32; 2], MemoryDisk)> {
-    Ok((words_of(rt)?, salt(rt)?, example_disk(rt.alloc())?))
+// Runs the command, where its words, the log's salt and a disk can be had.
+fn run<R: Env + RandomSource + AllocGlobal, O: Sink>(rt: &R, out: &mut O) -> io::Result<u8>
+    ensures { IfOk result (λ status. status ≢ 1) }
+{
+    let words = words_of(rt)?;
+    let salt = salt(rt)?;
+    let disk = example_disk(rt.alloc())?;
+    Ok(run_command(rt.alloc(), &words, salt, disk, out).status)
 }
 
 /// Runs the program, and answers the status with which it ends. That is never 1, with which a runtime ends a program
@@ -63,8 +66,8 @@ fn input<R: Env + RandomSource + AllocGlobal>(
 pub fn program<R: Env + RandomSource + AllocGlobal, O: Sink>(rt: &R, out: &mut O) -> u8
     ensures { result ≢ 1 }
 {
-    match input(rt) {
-        Ok((words, salt, disk)) => run_command(rt.alloc(), &words, salt, disk, out).status,
+    match run(rt, out) {
+        Ok(status) => status,
         Err(_) => UNAVAILABLE,
     }
 }

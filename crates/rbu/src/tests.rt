@@ -5,12 +5,12 @@ use disk_memory::{MemoryDisk, MemorySink};
 use rbu_disk::{Disk, FileName};
 use rbu_run::{Ran, run_command};
 use sha2::{Digest, Sha256};
-use std::alloc::{AllocError, Global};
+use std::alloc::{Alloc, AllocError, Global};
 use std::env::FillError;
 use std::io;
 use std::process::Abort;
 use std::random::RandomSource;
-use std::rt::{Alloc, Env};
+use std::rt::Env;
 use std::test::Fail;
 
 const NAMES: [FileName; 7] = [
@@ -562,6 +562,7 @@ fn rows_fill_their_page_to_the_last_byte(rt: HostRuntime) -> Result<(), Fail> {
 }
 
 // A runtime with these words, whose salt may be missing.
+#[derive(Drop)]
 struct Machine {
     words: &'static [&'static [u8]],
     has_salt: bool,

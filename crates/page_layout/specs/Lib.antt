@@ -1,2 +1,3 @@
 pub mod NoRoom
+pub mod Views
 pub mod Written

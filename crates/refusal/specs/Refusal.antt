@@ -2,6 +2,8 @@
 use Rattle.std.specs.Prelude.{ℕ, List, ◌++◌, codes}
 use Rattle.refusal.specs.declared.Part.{Part}
 use Rattle.refusal.specs.declared.Part.TheVariants as part
+use Rattle.refusal.specs.declared.Rule.{Rule}
+use Rattle.refusal.specs.declared.Rule.TheVariants as rule
 use Rattle.refusal.specs.declared.Refusal.{Refusal}
 use Rattle.refusal.specs.declared.Refusal.TheVariants.{NotYet}
 
@@ -13,6 +15,18 @@ part_word part.Target = codes "target"
 part_word part.Rbu = codes "rbu"
 part_word part.Rows = codes "rows"
 part_word part.Room = codes "room"
+
+-- the word of a rule
+abbrev pub rule_word : Rule → List ℕ
+rule_word rule.Kind = codes "kind"
+rule_word rule.Cells = codes "cells"
+rule_word rule.Child = codes "child"
+rule_word rule.Depth = codes "depth"
+rule_word rule.Empty = codes "empty"
+rule_word rule.Chain = codes "chain"
+rule_word rule.Trunk = codes "trunk"
+rule_word rule.Count = codes "count"
+rule_word rule.Record = codes "record"
 
 -- what is printed of a refusal
 abbrev pub refusal_text : Refusal → List ℕ

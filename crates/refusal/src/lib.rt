@@ -42,6 +42,51 @@ impl Part {
     }
 }
 
+/// What is wrong with a page, a tree or a chain.
+#[derive(Clone, Copy, Debug, PartialEq, Eq)]
+pub enum Rule {
+    /// A page of a wrong type.
+    Kind,
+    /// Cells that do not decode, or whose rooms leave their bounds or overlap.
+    Cells,
+    /// A child out of range.
+    Child,
+    /// Leaves at two depths, or past the greatest depth.
+    Depth,
+    /// A page without the cells that it needs.
+    Empty,
+    /// An overflow chain.
+    Chain,
+    /// A trunk of the freelist.
+    Trunk,
+    /// The number of free pages in the database header.
+    Count,
+    /// A record.
+    Record,
+}
+
+impl Rule {
+    ghost use Rattle.refusal.specs.Refusal.{rule_word};
+
+    /// The word that is printed for the rule, of at most 6 bytes.
+    pub fn word(self) -> &'static str
+        ensures word { result.now ≡ rule_word self }
+        ensures short { length result.now ≤ 6 }
+    {
+        match self {
+            Rule::Kind => "kind",
+            Rule::Cells => "cells",
+            Rule::Child => "child",
+            Rule::Depth => "depth",
+            Rule::Empty => "empty",
+            Rule::Chain => "chain",
+            Rule::Trunk => "trunk",
+            Rule::Count => "count",
+            Rule::Record => "record",
+        }
+    }
+}
+
 /// What the updater refuses.
 #[derive(Clone, Copy, Debug, PartialEq, Eq)]
 pub enum Refusal {

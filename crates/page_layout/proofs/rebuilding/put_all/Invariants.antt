@@ -1,7 +1,7 @@
 use Rattle.std.proofs.Common.{ℕ, List, ◌++◌, take}
 use Rattle.page_spec.specs.Rooms.{KeepsRest}
 use Rattle.page_layout.specs.Written.{IsLaid, LaidOn}
-use Rattle.page_layout.proofs.rebuild.put_all.Given as goal
+use Rattle.page_layout.proofs.rebuilding.put_all.Given as goal
 
 abbrev pub invariant-loop-cell : goal.invariant-loop-cell
 invariant-loop-cell l = record {

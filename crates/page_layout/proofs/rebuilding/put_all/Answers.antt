@@ -9,7 +9,7 @@ use Rattle.format_spec.specs.Page.{cell_room}
 use Rattle.page_spec.specs.Rooms.{IsOneCell, KeepsRest, rooms}
 use Rattle.page_layout.specs.declared.put.Layout.{Layout}
 use Rattle.page_layout.specs.Written.{IsLaid, laid_more}
-use Rattle.page_layout.proofs.rebuild.put_all.Goals as goal
+use Rattle.page_layout.proofs.rebuilding.put_all.Goals as goal
 
 -- the cells up to one more
 more : (cells : List (List ℕ)) (i : ℕ) (x : List ℕ) → i < length cells → x ≡ get_or cells i x → take (i + 1) cells ≡ take i cells ++ x ∷ []

@@ -1,7 +1,7 @@
 use Rattle.std.proofs.Common.{◌≡◌, ◌+◌, ◌%◌, ◌^◌, ◌<◌, ◌≤◌, ℕ, List, length, ap, ◌∙◌, arith, lit<}
 use Rattle.byte_fields.specs.Numbers.{with_number_at}
 use Rattle.page_layout.proofs.Clearing.{empty_header, wrote, kind_byte-lt}
-use Rattle.page_layout.proofs.rebuild.put_header.Goals as goal
+use Rattle.page_layout.proofs.rebuilding.put_header.Goals as goal
 
 pub returns : goal.returns
 returns c =

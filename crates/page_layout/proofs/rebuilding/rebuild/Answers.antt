@@ -5,7 +5,7 @@ use Rattle.std.specs.List.{All}
 use Rattle.page_spec.specs.Rooms.{IsOneCell, IsWritten, right_kept}
 use Rattle.page_layout.specs.declared.put.Layout.{Layout}
 use Rattle.page_layout.specs.Written.{IsLaid}
-use Rattle.page_layout.proofs.rebuild.rebuild.Goals as goal
+use Rattle.page_layout.proofs.rebuilding.rebuild.Goals as goal
 
 pub put_all-requires-clause-cells : goal.put_all-requires-clause-cells
 put_all-requires-clause-cells c =

@@ -1,0 +1,167 @@
+-- The marks of the bytes that the cells of a page take.
+use Rattle.std.proofs.Common.{◌≡◌, ℕ, ◌+◌, ◌-◌, ◌<◌, ◌≤◌, ◌⊎◌, max, true, false, Bool, List, [], ◌∷◌, ◌++◌, length, take, drop, get_or, replicate, refl, sym, ◌∙◌, ap, subst, inl, inr, length-take, length-drop, arith}
+use Rattle.std.proofs.lemmas.Bool.{both_ways, cases_lt}
+use Rattle.std.proofs.lemmas.List.{get_or-take, get_or-drop, get_or-append_right, get_or_append_left, get_or-replicate, length-take-le, length-replicate, get_or_push, length_push, get_or_default}
+use Rattle.std.specs.List.{AllWithin}
+use Rattle.format_spec.specs.declared.PageKind.{PageKind}
+use Rattle.format_spec.specs.declared.CellView.{CellView}
+use Rattle.format_spec.specs.Page.{AreApart, cell_place}
+use Rattle.page_layout.specs.Views.{IsViewAt, AreViews}
+use Rattle.page_layout.proofs.Viewing.{same_view_at}
+use mathlib.Core.Bool.{beq}
+
+same_true : (y : Bool) → beq y true ≡ true → y ≡ true
+same_true true h = refl
+same_true false h = h
+
+same_false : (y : Bool) → beq y true ≡ false → y ≡ false
+same_false true h = h
+same_false false h = refl
+
+-- the marks of so many bytes from a place on
+unfoldable pub part : List Bool → ℕ → ℕ → List Bool
+part marks place size = take (place + size - place) (drop place marks)
+
+module _ (marks : List Bool) (place size : ℕ) (fits : place + size ≤ length marks) where
+  part_length : length (part marks place size) ≡ size
+  unfolding part
+  part_length = omega (arith, length-take (place + size - place) (drop place marks), length-drop place marks)
+
+  part_at : (k : ℕ) → k < size → get_or (part marks place size) k false ≡ get_or marks (place + k) false
+  unfolding part
+  part_at k h = get_or-take (place + size - place) (drop place marks) k false (omega arith) ∙ get_or-drop place marks k false
+
+  pub one_set : (k : ℕ) × (k < length (part marks place size)) × ((d : Bool) → beq (get_or (part marks place size) k d) true ≡ true)
+      → (b : ℕ) × (place ≤ b) × (b < place + size) × (get_or marks b false ≡ true)
+  one_set w =
+      let below : w.0 < size = omega (arith, part_length, w.1) in
+      (place + w.0, omega arith, omega arith, sym (part_at w.0 below) ∙ same_true _ (w.2 false))
+
+  pub none_set : AllWithin (λ y. beq y true ≡ false) (part marks place size) 0 (length (part marks place size))
+      → (b : ℕ) → place ≤ b → b < place + size → get_or marks b false ≡ false
+  none_set w b l h =
+      let k = b - place in
+      let back : place + k ≡ b = omega arith in
+      ap (λ n. get_or marks n false) (sym back) ∙ sym (part_at k (omega arith)) ∙ same_false _ (w k false (omega arith) (omega (arith, part_length)))
+
+  pub filled : (ys rest : List Bool) (b : ℕ) → ys ≡ replicate (length (part marks place size)) true → place ≤ b → b < place + size → get_or (take place marks ++ (ys ++ rest)) b false ≡ true
+  filled ys rest b e l h =
+      let long : length ys ≡ size = ap length e ∙ length-replicate (length (part marks place size)) true ∙ part_length in
+      let front : length (take place marks) ≡ place = length-take-le place marks (omega arith) in
+      get_or-append_right (take place marks) (ys ++ rest) place b false front l
+      ∙ get_or_append_left ys rest false (b - place) (omega arith)
+      ∙ ap (λ s. get_or s (b - place) false) e
+      ∙ get_or-replicate (length (part marks place size)) (b - place) true false (omega (arith, part_length))
+
+-- spans that share no byte are apart
+apart_from_free : (a m b n : ℕ) → 0 < m → 0 < n → ((k : ℕ) → a ≤ k → k < a + m → b ≤ k → k < b + n → ⊥) → AreApart a m b n
+apart_from_free a m b n p q h =
+    elim (cases_lt b (a + m)) [
+      | inl low ↦ elim (cases_lt a (b + n)) [
+        | inl other ↦ elim (cases_lt a b) [
+          | inl before ↦ absurd (h b (omega arith) low (omega arith) (omega arith))
+          | inr after ↦ absurd (h a (omega arith) (omega arith) after other)
+        ]
+        | inr high ↦ inr high
+      ]
+      | inr high ↦ inl high
+    ]
+
+-- and those that share one are not
+not_apart : (a m b n k : ℕ) → a ≤ k → k < a + m → b ≤ k → k < b + n → AreApart a m b n → ⊥
+not_apart a m b n k h i j l (inl x) = omega arith
+not_apart a m b n k h i j l (inr x) = omega arith
+
+-- one more element
+pub push_all : {X : Type 0} (P : ℕ → X → Type 0) (xs : List X) (x : X) → ((k : ℕ) (d : X) → k < length xs → P k (get_or xs k d)) → P (length xs) x
+    → (k : ℕ) (d : X) → k < length (xs ++ x ∷ []) → P k (get_or (xs ++ x ∷ []) k d)
+push_all P xs x old new k d h =
+    elim (cases_lt k (length xs)) [
+      | inl l ↦ subst (P k) (sym (get_or_append_left xs (x ∷ []) d k l)) (old k d l)
+      | inr g ↦
+          let e : length xs ≡ k = omega (arith, length_push xs x) in
+          subst (P k) (sym (get_or_push xs x d k e)) (subst (λ n. P n x) e new)
+    ]
+
+-- whether a byte is among those from a place on
+in_or_out : (place size b : ℕ) → ((place ≤ b) × (b < place + size)) ⊎ ((b < place) ⊎ (place + size ≤ b))
+in_or_out place size b =
+    elim (cases_lt b place) [
+      | inl l ↦ inr (inl l)
+      | inr g ↦ elim (cases_lt b (place + size)) [ inl l ↦ inl (g, l) | inr h ↦ inr (inr h) ]
+    ]
+
+-- a byte outside a span that is known by another name
+pub outside : (place size other room b : ℕ) → place ≡ other → size ≡ room → (b < other) ⊎ (other + room ≤ b) → (b < place) ⊎ (place + size ≤ b)
+outside place size other room b e f (inl low) = inl (omega arith)
+outside place size other room b e f (inr high) = inr (omega arith)
+
+-- how many bytes a cell takes
+abbrev pub view_room : CellView → ℕ
+view_room view = max 4 view.size
+
+module _ (page : List ℕ) (number : ℕ) (kind : PageKind) where
+  -- a byte is among those that a cell with this view takes at an index
+  abbrev pub Takes : ℕ → CellView → ℕ → Type 0
+  Takes k view b = (cell_place page number kind k ≤ b) × (b < cell_place page number kind k + view_room view)
+
+  -- a byte is marked exactly where one of the cells takes it
+  pub record AreMarked (views : List CellView) (marks : List Bool) : Type 0 where
+    pub set : (b k : ℕ) (d : CellView) → k < length views → Takes k (get_or views k d) b → get_or marks b false ≡ true
+    pub only : (b : ℕ) → get_or marks b false ≡ true → (k : ℕ) × (k < length views) × ((d : CellView) → Takes k (get_or views k d) b)
+
+  pub nothing_marked : (marks : List Bool) → ((b : ℕ) → get_or marks b false ≡ false) → AreMarked [] marks
+  nothing_marked marks unset = record {
+    set = λ b k d h. absurd (omega arith);
+    only = λ b e. absurd (both_ways (get_or marks b false) (unset b) e);
+  }
+
+  module _ (views : List CellView) (view : CellView) (marks : List Bool) (marked : AreMarked views marks) where
+    pub one_more_marked : (now : List Bool)
+        → ((b : ℕ) → cell_place page number kind (length views) ≤ b → b < cell_place page number kind (length views) + view_room view → get_or now b false ≡ true)
+        → ((b : ℕ) → (b < cell_place page number kind (length views)) ⊎ (cell_place page number kind (length views) + view_room view ≤ b) → get_or now b false ≡ get_or marks b false)
+        → AreMarked (views ++ view ∷ []) now
+    one_more_marked now set kept = record {
+      set = λ b. push_all (λ k v. Takes k v b → get_or now b false ≡ true) views view
+          (λ j e i takes. elim (in_or_out (cell_place page number kind (length views)) (view_room view) b) [ inl among ↦ set b among.0 among.1 | inr out ↦ kept b out ∙ marked.set b j e i takes ])
+          (λ takes. set b takes.0 takes.1);
+      only = λ b e. elim (in_or_out (cell_place page number kind (length views)) (view_room view) b) [
+        | inl among ↦ (
+          length views,
+          omega (arith, length_push views view),
+          λ d. subst (λ v. Takes (length views) v b) (sym (get_or_push views view d (length views) refl)) among,
+        )
+        | inr out ↦
+            let w = marked.only b (sym (kept b out) ∙ e) in
+            (w.0, omega (arith, length_push views view, w.1), λ d. subst (λ v. Takes w.0 v b) (sym (get_or_append_left views (view ∷ []) d w.0 w.1)) (w.2 d))
+      ];
+    }
+
+    pub one_more_view : (usable count : ℕ) → AreViews page number usable kind count views → IsViewAt page number usable kind count (length views) view
+        → ((b : ℕ) → cell_place page number kind (length views) ≤ b → b < cell_place page number kind (length views) + view_room view → get_or marks b false ≡ false)
+        → AreViews page number usable kind count (views ++ view ∷ [])
+    one_more_view usable count first placed free = record {
+      each = push_all (IsViewAt page number usable kind count) views view first.each placed;
+      apart = λ j k d order low. push_all (λ n v. j < n → AreApart (cell_place page number kind j) (view_room (get_or (views ++ view ∷ []) j d)) (cell_place page number kind n) (view_room v)) views view
+          (λ n e i m. subst (λ v. AreApart (cell_place page number kind j) (view_room v) (cell_place page number kind n) (view_room (get_or views n e))) (sym (get_or_append_left views (view ∷ []) d j (omega arith)))
+          (subst (λ v. AreApart (cell_place page number kind j) (view_room (get_or views j d)) (cell_place page number kind n) (view_room v)) (get_or_default views n d e i) (first.apart j n d m i)))
+          (λ m. subst (λ v. AreApart (cell_place page number kind j) (view_room v) (cell_place page number kind (length views)) (view_room view)) (sym (get_or_append_left views (view ∷ []) d j m))
+          (apart_from_free (cell_place page number kind j) (view_room (get_or views j d)) (cell_place page number kind (length views)) (view_room view) (omega arith) (omega arith)
+          (λ b p q r s. both_ways (get_or marks b false) (free b r s) (marked.set b j d m (p, q)))))
+          k d low order;
+    }
+
+    -- no page has a further cell that takes a byte of one of these
+    pub overlaps : (usable count : ℕ) → usable ≤ length page → AreViews page number usable kind count views → (n : ℕ) → length views ≡ n → (one : CellView) → IsViewAt page number usable kind count n one
+        → (b : ℕ) × (cell_place page number kind n ≤ b) × (b < cell_place page number kind n + view_room one) × (get_or marks b false ≡ true)
+        → (others : List CellView) → n < length others → AreViews page number usable kind count others → ⊥
+    overlaps usable count whole first n many one at w others less are =
+        let j = marked.only w.0 w.3 in
+        let k = j.0 in
+        let takes = j.2 one in
+        let mine : get_or others n one ≡ one = same_view_at page number usable kind whole count count n (get_or others n one) one (are.each n one less) at in
+        let theirs : get_or others k one ≡ get_or views k one = same_view_at page number usable kind whole count count k (get_or others k one) (get_or views k one) (are.each k one (omega (arith, j.1))) (first.each k one j.1) in
+        let my_room : view_room (get_or others n one) ≡ view_room one = ap view_room mine in
+        let their_room : view_room (get_or others k one) ≡ view_room (get_or views k one) = ap view_room theirs in
+        not_apart (cell_place page number kind k) (view_room (get_or others k one)) (cell_place page number kind n) (view_room (get_or others n one)) w.0
+        takes.0 (omega (arith, takes.1, their_room)) w.1 (omega (arith, w.2, my_room)) (are.apart k n one (omega (arith, j.1)) less)

@@ -1,0 +1,96 @@
+-- The views of a page's cells, and the cells that they are views of.
+use Rattle.std.proofs.Common.{◌≡◌, ℕ, zero, suc, pos, ◌+◌, ◌-◌, ◌*◌, ◌<◌, ◌≤◌, ◌⊎◌, max, List, [], ◌∷◌, length, take, drop, slice_index, slice_index_or, get_or, refl, sym, ap, ◌∙◌, subst, inl, inr, arith, length-drop}
+use Rattle.std.proofs.Math.Path.{subst⁻¹}
+use Rattle.std.proofs.lemmas.List.{take-take, length-take, same_lists, get_or_default}
+use Rattle.byte_fields.specs.Bytes.{part_of}
+use Rattle.format_spec.specs.declared.PageKind.{PageKind}
+use Rattle.format_spec.specs.declared.PageKind.TheVariants.{IndexInterior, TableInterior, IndexLeaf, TableLeaf}
+use Rattle.format_spec.specs.declared.CellView.{CellView}
+use Rattle.format_spec.specs.Cell.{IsCell}
+use Rattle.format_spec.specs.Page.{IsPage, IsCellAt, AreApart, RightChild, header_place, array_place, cell_place, cell_room, cell_count, kind_byte}
+use Rattle.cell_codec.specs.Cells.{BeginsWithCell}
+use Rattle.cell_codec.specs.CellLaws.{same_first_cell}
+use Rattle.page_spec.specs.PlacesLaws.{length-part_of}
+use Rattle.page_layout.specs.Views.{HasViews, HasKind, IsViewAt, AreViews}
+
+-- a view says how many bytes its cell has
+pub view-size : (kind : PageKind) (usable : ℕ) (cell : List ℕ) (view : CellView) → IsCell kind usable cell view → view.size ≡ length cell
+view-size TableLeaf usable cell view is = is.size
+view-size TableInterior usable cell view is = is.size
+view-size IndexLeaf usable cell view is = is.size
+view-size IndexInterior usable cell view is = is.size
+
+-- a page has one kind
+pub kind_byte-same : (a b : PageKind) → kind_byte a ≡ kind_byte b → a ≡ b
+kind_byte-same TableLeaf TableLeaf e = refl
+kind_byte-same TableLeaf TableInterior e = absurd (omega (arith, e))
+kind_byte-same TableLeaf IndexLeaf e = absurd (omega (arith, e))
+kind_byte-same TableLeaf IndexInterior e = absurd (omega (arith, e))
+kind_byte-same TableInterior TableLeaf e = absurd (omega (arith, e))
+kind_byte-same TableInterior TableInterior e = refl
+kind_byte-same TableInterior IndexLeaf e = absurd (omega (arith, e))
+kind_byte-same TableInterior IndexInterior e = absurd (omega (arith, e))
+kind_byte-same IndexLeaf TableLeaf e = absurd (omega (arith, e))
+kind_byte-same IndexLeaf TableInterior e = absurd (omega (arith, e))
+kind_byte-same IndexLeaf IndexLeaf e = refl
+kind_byte-same IndexLeaf IndexInterior e = absurd (omega (arith, e))
+kind_byte-same IndexInterior TableLeaf e = absurd (omega (arith, e))
+kind_byte-same IndexInterior TableInterior e = absurd (omega (arith, e))
+kind_byte-same IndexInterior IndexLeaf e = absurd (omega (arith, e))
+kind_byte-same IndexInterior IndexInterior e = refl
+
+module _ (page : List ℕ) (number usable : ℕ) (kind : PageKind) (whole : usable ≤ length page) where
+  -- a cell of a page has a view
+  pub view_of : (count k : ℕ) (cell : List ℕ) (at : IsCellAt page number usable kind count k cell) → IsViewAt page number usable kind count k at.view
+  view_of count k cell at =
+      let size = view-size kind usable cell at.view at.is_cell in
+      let bytes : part_of page (cell_place page number kind k) at.view.size ≡ cell = ap (part_of page (cell_place page number kind k)) size ∙ at.stands in
+      record {
+        is_cell = subst⁻¹ (λ (c : List ℕ). IsCell kind usable c at.view) bytes at.is_cell;
+        behind_array = at.behind_array;
+        inside = omega (arith, at.inside, size);
+      }
+
+  -- and a view is that of a cell
+  pub cell_of : (count k : ℕ) (view : CellView) → IsViewAt page number usable kind count k view
+      → IsCellAt page number usable kind count k (part_of page (cell_place page number kind k) view.size)
+  cell_of count k view at =
+      let place = cell_place page number kind k in
+      let long : length (part_of page place view.size) ≡ view.size = length-part_of page place view.size (omega (arith, at.inside)) in
+      record {
+        view = view;
+        is_cell = at.is_cell;
+        stands = ap (part_of page place) long;
+        behind_array = at.behind_array;
+        inside = omega (arith, at.inside, long);
+      }
+
+  -- a view is that of the bytes from its place on
+  pub begins : (count k : ℕ) (view : CellView) → IsViewAt page number usable kind count k view
+      → BeginsWithCell kind usable (take (usable - cell_place page number kind k) (drop (cell_place page number kind k) page)) view
+  begins count k view at =
+      let place = cell_place page number kind k in
+      let bytes = drop place page in
+      let fits : view.size ≤ usable - place = omega (arith, at.inside) in
+      (omega (arith, at.inside, length-take (usable - place) bytes, length-drop place page),
+      subst⁻¹ (λ (c : List ℕ). IsCell kind usable c view) (take-take view.size (usable - place) bytes fits) at.is_cell)
+
+  pub begun : (count k : ℕ) (view : CellView) → array_place number kind + 2 * count ≤ cell_place page number kind k → cell_place page number kind k + max 4 view.size ≤ usable
+      → BeginsWithCell kind usable (take (usable - cell_place page number kind k) (drop (cell_place page number kind k) page)) view → IsViewAt page number usable kind count k view
+  begun count k view behind inside begins =
+      let place = cell_place page number kind k in
+      let fits : view.size ≤ usable - place = omega arith in
+      record {
+        is_cell = subst (λ (c : List ℕ). IsCell kind usable c view) (take-take view.size (usable - place) (drop place page) fits) begins.1;
+        behind_array = behind;
+        inside = inside;
+      }
+
+  -- one view stands at an index
+  pub same_view_at : (count other k : ℕ) (a b : CellView) → IsViewAt page number usable kind count k a → IsViewAt page number usable kind other k b → a ≡ b
+  same_view_at count other k a b one two = same_first_cell kind usable _ a b (begins count k a one) (begins other k b two)
+
+  -- one list of views
+  pub same_views : (count : ℕ) (a b : List CellView) → length a ≡ count → length b ≡ count → AreViews page number usable kind count a → AreViews page number usable kind count b → a ≡ b
+  same_views count a b many also one two =
+      same_lists a b (many ∙ sym also) (λ k d low. same_view_at count count k (get_or a k d) (get_or b k d) (one.each k d low) (two.each k d (omega (arith, low, many, also))))

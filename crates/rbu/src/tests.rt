@@ -1,6 +1,4 @@
 // Whole commands over disks in memory, and the program over runtimes that fail.
-ghost use Rattle.std.specs.Prelude.{◌≤◌};
-
 use crate::example::{empty_disk, example_disk};
 use crate::output::Output;
 use crate::program::program;
@@ -169,78 +167,145 @@ fn has_rows(left: &Left, front: &[u8], back: &[u8]) -> bool {
     }
 }
 
-// The cells of the second target lie the other way round, with a freeblock between them and bytes that are not zero
+// A page of both rows whose cells lie the other way round, with a freeblock between them and bytes that are not zero
 // where nothing is kept.
+const GAPS_FRONT: &[u8] = b"\x0d\x0f\xe8\x00\x02\x0f\xe0\x07\x0f\xe0\x0f\xf8\xff\xff";
+
+const GAPS_BACK: &[u8] =
+    b"\x06\x01\x03\x00\x13one\x00\x00\x00\x10\xff\xff\xff\xff\xff\xff\xff\xff\xff\xff\xff\xff\x06\x02\x03\x00\x13two";
+
+fn disk_with_gaps(alloc: Global) -> Result<MemoryDisk, DiskFault> {
+    let mut disk = example_disk(alloc)?;
+    disk.write_at(FileName::Target, 4096, GAPS_FRONT)?;
+    disk.write_at(FileName::Target, 8160, GAPS_BACK)?;
+    Ok(disk)
+}
+
+// The files are those of the example after its update.
+fn are_updated(alloc: Global, disk: &MemoryDisk) -> Result<bool, AllocError> {
+    Ok(
+        has_sum(alloc, disk, FileName::Target, TARGET_AFTER)?
+            && has_sum(alloc, disk, FileName::Rbu, RBU)?
+            && is_clean(disk),
+    )
+}
+
+fn inserts_drei(alloc: Global, before: &MemoryDisk) -> Result<(), Fail> {
+    let left = updated(alloc, before, 0, "done\n")?;
+    ensure(are_updated(alloc, &left.disk)?, "the updated files")
+}
+
 #[test]
 fn prepared_row_is_inserted_whatever_gaps_the_page_has(rt: HostRuntime) -> Result<(), Fail> {
-    let alloc = rt.alloc();
-    let before = example_disk(alloc)?;
+    let before = example_disk(rt.alloc())?;
     ensure(
-        has_sum(alloc, &before, FileName::Target, TARGET_BEFORE)?,
-        "target before",
+        has_sum(rt.alloc(), &before, FileName::Target, TARGET_BEFORE)?,
+        "the target before",
     )?;
-    let mut gaps = example_disk(alloc)?;
-    let front = b"\x0d\x0f\xe8\x00\x02\x0f\xe0\x07\x0f\xe0\x0f\xf8\xff\xff";
-    gaps.write_at(FileName::Target, 4096, front)?;
-    let back =
-        b"\x06\x01\x03\x00\x13one\x00\x00\x00\x10\xff\xff\xff\xff\xff\xff\xff\xff\xff\xff\xff\xff\x06\x02\x03\x00\x13two";
-    gaps.write_at(FileName::Target, 8160, back)?;
-    for disk in [&before, &gaps] {
-        let left = updated(alloc, disk, 0, "done\n")?;
-        ensure(
-            has_sum(alloc, &left.disk, FileName::Target, TARGET_AFTER)?,
-            "target after",
-        )?;
-        ensure(
-            has_sum(alloc, &left.disk, FileName::Rbu, RBU)?,
-            "RBU database",
-        )?;
-        ensure(is_clean(&left.disk), "a log is left")?;
-    }
-    Ok(())
+    inserts_drei(rt.alloc(), &before)?;
+    inserts_drei(rt.alloc(), &disk_with_gaps(rt.alloc())?)
 }
 
-// Without prepared rows the bytes that differ are the last of the change counter, of the schema cookie, and of the
-// change counter for which the size is valid. With (9, NULL) and (-1, '') the first comes behind the old rows, and the
-// second before them.
+// The disk without prepared rows after the update: the bytes that differ are the last of the change counter, of the
+// schema cookie, and of the change counter for which the size is valid.
+fn raised(alloc: Global) -> Result<MemoryDisk, DiskFault> {
+    let mut disk = disk_with(alloc, &[])?;
+    disk.write_at(FileName::Target, 27, b"\x08")?;
+    disk.write_at(FileName::Target, 43, b"\x02")?;
+    disk.write_at(FileName::Target, 95, b"\x08")?;
+    Ok(disk)
+}
+
+#[test]
+fn update_without_prepared_rows_raises_the_counters_alone(rt: HostRuntime) -> Result<(), Fail> {
+    let left = updated(rt.alloc(), &disk_with(rt.alloc(), &[])?, 0, "done\n")?;
+    ensure(
+        has_same_files(&left.disk, &raised(rt.alloc())?),
+        "no prepared row",
+    )
+}
+
+// Prepared rows: (9, NULL), which comes behind the old rows, and (-1, ''), which comes before them.
+const NINE: &[u8] = b"\x05\x01\x04\x01\x00\x08\x09";
+
+const MINUS_ONE: &[u8] = b"\x05\x02\x04\x01\x0d\x08\xff";
+
+const IN_ORDER_FRONT: &[u8] =
+    b"\x0d\x00\x00\x00\x04\x0f\xde\x00\x0f\xf3\x0f\xeb\x0f\xe3\x0f\xde\x00";
+
+const IN_ORDER_BACK: &[u8] =
+    b"\x00\x03\x09\x03\x00\x00\x06\x02\x03\x00\x13two\x06\x01\x03\x00\x13one\
+    \x03\xff\xff\xff\xff\xff\xff\xff\xff\xff\x03\x00\x0d";
+
 #[test]
 fn inserted_rows_stand_in_the_order_of_their_rowids(rt: HostRuntime) -> Result<(), Fail> {
-    let alloc = rt.alloc();
-    let none = disk_with(alloc, &[])?;
-    let left = updated(alloc, &none, 0, "done\n")?;
-    let mut raised = copy_of(alloc, &none, &[])?;
-    raised.write_at(FileName::Target, 27, &[8])?;
-    raised.write_at(FileName::Target, 43, &[2])?;
-    raised.write_at(FileName::Target, 95, &[8])?;
-    ensure(has_same_files(&left.disk, &raised), "no prepared row")?;
-    let nine = b"\x05\x01\x04\x01\x00\x08\x09";
-    let minus_one = b"\x05\x02\x04\x01\x0d\x08\xff";
-    let left = updated(alloc, &disk_with(alloc, &[nine, minus_one])?, 0, "done\n")?;
-    let front = b"\x0d\x00\x00\x00\x04\x0f\xde\x00\x0f\xf3\x0f\xeb\x0f\xe3\x0f\xde\x00";
-    let back = b"\x00\x03\x09\x03\x00\x00\x06\x02\x03\x00\x13two\x06\x01\x03\x00\x13one\
-        \x03\xff\xff\xff\xff\xff\xff\xff\xff\xff\x03\x00\x0d";
-    ensure(has_rows(&left, front, back), "rows in order")
+    let before = disk_with(rt.alloc(), &[NINE, MINUS_ONE])?;
+    let left = updated(rt.alloc(), &before, 0, "done\n")?;
+    ensure(
+        has_rows(&left, IN_ORDER_FRONT, IN_ORDER_BACK),
+        "rows in order",
+    )
 }
 
-// The prepared rows: (2, 'x'); keys 2 and 1 behind a free one; key 2 at rowid -1, before a free one.
-#[test]
-fn insert_on_a_present_key_is_a_constraint_fault(rt: HostRuntime) -> Result<(), Fail> {
-    let alloc = rt.alloc();
-    let two = disk_with(alloc, &[b"\x06\x01\x04\x01\x0f\x08\x02x"])?;
-    stopped(alloc, &two, 3, "constraint key-present t1 1\n")?;
-    let nine = b"\x06\x01\x04\x01\x0f\x08\x09x";
-    let both = disk_with(
-        alloc,
+// Cells of prepared rows, and what the update says of them: (2, 'x'); keys 2 and 1 behind a free one; key 2 at rowid
+// -1, before a free one; one key twice, also where the old rows have it; and one key twice where the second control
+// does not insert.
+const STOPPED: &[(&[&[u8]], u8, &str)] = &[
+    (
+        &[b"\x06\x01\x04\x01\x0f\x08\x02x"],
+        3,
+        "constraint key-present t1 1\n",
+    ),
+    (
         &[
-            nine,
+            b"\x06\x01\x04\x01\x0f\x08\x09x",
             b"\x06\x02\x04\x01\x0f\x08\x02x",
             b"\x05\x03\x04\x09\x0f\x08x",
         ],
-    )?;
-    stopped(alloc, &both, 3, "constraint key-present t1 3\n")?;
-    let early = b"\x05\xff\xff\xff\xff\xff\xff\xff\xff\xff\x04\x01\x00\x08\x02";
-    let negative = disk_with(alloc, &[early, b"\x06\x02\x04\x01\x0f\x08\x09x"])?;
-    stopped(alloc, &negative, 3, "constraint key-present t1 -1\n")
+        3,
+        "constraint key-present t1 3\n",
+    ),
+    (
+        &[
+            b"\x05\xff\xff\xff\xff\xff\xff\xff\xff\xff\x04\x01\x00\x08\x02",
+            b"\x06\x02\x04\x01\x0f\x08\x09x",
+        ],
+        3,
+        "constraint key-present t1 -1\n",
+    ),
+    (
+        &[
+            b"\x05\x01\x04\x01\x00\x08\x05",
+            b"\x05\x02\x04\x01\x00\x08\x05",
+        ],
+        4,
+        "refused 1 NotYet rows\n",
+    ),
+    (
+        &[
+            b"\x05\x01\x04\x01\x00\x08\x02",
+            b"\x05\x02\x04\x01\x00\x08\x02",
+        ],
+        4,
+        "refused 1 NotYet rows\n",
+    ),
+    (
+        &[
+            b"\x05\x01\x04\x01\x00\x08\x05",
+            b"\x05\x02\x04\x01\x00\x09\x05",
+        ],
+        4,
+        "refused 1 NotYet rbu\n",
+    ),
+];
+
+#[test]
+fn prepared_rows_that_are_not_inserted_change_no_file(rt: HostRuntime) -> Result<(), Fail> {
+    for (prepared, status, line) in STOPPED {
+        let before = disk_with(rt.alloc(), prepared)?;
+        stopped(rt.alloc(), &before, *status, line)?;
+    }
+    Ok(())
 }
 
 const CLEAN: &str = "done\n";
@@ -299,30 +364,31 @@ fn is_named(
     Ok(left)
 }
 
-// The call with the number 17 renames the log, which is whole then.
+// After the rename failed the log is whole, and the target is as it was.
+fn keeps_whole_log(alloc: Global, disk: &MemoryDisk) -> Result<bool, AllocError> {
+    Ok(
+        has_sum(alloc, disk, FileName::Oal, LOG)?
+            && has_sum(alloc, disk, FileName::Target, TARGET_BEFORE)?
+            && disk.contents(FileName::Wal).is_none(),
+    )
+}
+
 #[test]
 fn each_failing_call_is_named_and_leaves_files_for_a_second_update(
     rt: HostRuntime,
 ) -> Result<(), Fail> {
-    let alloc = rt.alloc();
-    let before = example_disk(alloc)?;
+    let before = example_disk(rt.alloc())?;
     let mut number: u64 = 0;
     for (call, second) in CALLS {
-        let left = is_named(alloc, &before, number, call, second)?;
-        if number == 17 {
-            ensure(has_sum(alloc, &left.disk, FileName::Oal, LOG)?, "log")?;
-            ensure(
-                has_sum(alloc, &left.disk, FileName::Target, TARGET_BEFORE)?,
-                "target",
-            )?;
-            ensure(
-                left.disk.contents(FileName::Wal).is_none(),
-                "write-ahead log",
-            )?;
-        }
+        let left = is_named(rt.alloc(), &before, number, call, second)?;
+        let is_rename = *call == "Oal Rename";
+        ensure(
+            !is_rename || keeps_whole_log(rt.alloc(), &left.disk)?,
+            "a whole log",
+        )?;
         number = number.saturating_add(1);
     }
-    let left = run_with_faults(alloc, UPDATE, &before, &[number], &[])?;
+    let left = run_with_faults(rt.alloc(), UPDATE, &before, &[number], &[])?;
     ensure(left.status == 0, "a call more")
 }
 
@@ -337,19 +403,14 @@ fn leaves_its_files(alloc: Global, words: &'static str, before: &MemoryDisk) -> 
 // A failing output takes nothing from the update, which is made.
 #[test]
 fn failing_output_leaves_the_files_of_the_command(rt: HostRuntime) -> Result<(), Fail> {
-    let alloc = rt.alloc();
-    let free = example_disk(alloc)?;
-    leaves_its_files(alloc, UPDATE, &free)?;
-    let left = run_with_faults(alloc, UPDATE, &free, &[], &[0])?;
-    ensure(
-        has_sum(alloc, &left.disk, FileName::Target, TARGET_AFTER)?,
-        "target after",
-    )?;
-    ensure(is_clean(&left.disk), "a log is left")?;
-    leaves_its_files(alloc, "check", &free)?;
-    leaves_its_files(alloc, "apply|0", &free)?;
-    let present = disk_with(alloc, &[b"\x06\x01\x04\x01\x0f\x08\x02x"])?;
-    leaves_its_files(alloc, UPDATE, &present)
+    let free = example_disk(rt.alloc())?;
+    for words in [UPDATE, "check", "apply|0"] {
+        leaves_its_files(rt.alloc(), words, &free)?;
+    }
+    let left = run_with_faults(rt.alloc(), UPDATE, &free, &[], &[0])?;
+    ensure(are_updated(rt.alloc(), &left.disk)?, "the updated files")?;
+    let present = disk_with(rt.alloc(), &[b"\x06\x01\x04\x01\x0f\x08\x02x"])?;
+    leaves_its_files(rt.alloc(), UPDATE, &present)
 }
 
 // Words between bars, a command on each line.
@@ -413,51 +474,100 @@ fn words_are_judged_before_the_disk_is_called(rt: HostRuntime) -> Result<(), Fai
     are_judged(alloc, &before, NOT_BUILT, 4, "refused 1 NotYet words\n")
 }
 
-const OTHER_FILE: &str = "refused 1 NotYet files\n";
+// A change of one file of the example.
+enum Change {
+    Make(FileName),
+    Remove(FileName),
+    Cut(FileName),
+}
 
-const OTHER_TARGET: &str = "refused 1 NotYet target\n";
+// The disk with one more change; a file that is cut has 8191 bytes.
+fn changed(disk: &mut MemoryDisk, change: &Change) -> Result<(), DiskFault> {
+    match change {
+        Change::Make(name) => disk.create(*name),
+        Change::Remove(name) => disk.remove(*name),
+        Change::Cut(name) => disk.set_len(*name, 8191),
+    }
+}
 
-const OTHER_RBU: &str = "refused 1 NotYet rbu\n";
+// Changes of the example, and the part that is named. A file that is there, though empty, counts before a target that
+// is missing, and so on from part to part.
+const OTHER_FILES: &[(&[Change], &str)] = &[
+    (&[Change::Make(FileName::State)], "refused 1 NotYet files\n"),
+    (
+        &[Change::Make(FileName::StateTemp)],
+        "refused 1 NotYet files\n",
+    ),
+    (&[Change::Make(FileName::Wal)], "refused 1 NotYet files\n"),
+    (&[Change::Make(FileName::Oal)], "refused 1 NotYet files\n"),
+    (
+        &[Change::Make(FileName::Journal)],
+        "refused 1 NotYet files\n",
+    ),
+    (
+        &[
+            Change::Make(FileName::State),
+            Change::Remove(FileName::Target),
+        ],
+        "refused 1 NotYet files\n",
+    ),
+    (
+        &[
+            Change::Make(FileName::StateTemp),
+            Change::Remove(FileName::Target),
+        ],
+        "refused 1 NotYet files\n",
+    ),
+    (
+        &[
+            Change::Make(FileName::Wal),
+            Change::Remove(FileName::Target),
+        ],
+        "refused 1 NotYet files\n",
+    ),
+    (
+        &[
+            Change::Make(FileName::Oal),
+            Change::Remove(FileName::Target),
+        ],
+        "refused 1 NotYet files\n",
+    ),
+    (
+        &[
+            Change::Make(FileName::Journal),
+            Change::Remove(FileName::Target),
+        ],
+        "refused 1 NotYet files\n",
+    ),
+    (
+        &[Change::Cut(FileName::Target)],
+        "refused 1 NotYet target\n",
+    ),
+    (&[Change::Cut(FileName::Rbu)], "refused 1 NotYet rbu\n"),
+    (&[Change::Remove(FileName::Rbu)], "refused 1 NotYet rbu\n"),
+    (
+        &[Change::Remove(FileName::Rbu), Change::Cut(FileName::Target)],
+        "refused 1 NotYet target\n",
+    ),
+    (
+        &[
+            Change::Remove(FileName::Rbu),
+            Change::Remove(FileName::Target),
+        ],
+        "refused 1 NotYet target\n",
+    ),
+];
 
-const SAME_KEYS: &str = "refused 1 NotYet rows\n";
-
-const NO_ROOM: &str = "refused 1 NotYet room\n";
-
-// A file that is there, though empty, counts before a target that is missing, and so on from part to part. Of two rows
-// with one key the second may have a control that does not insert, and the key may be that of an old row.
 #[test]
 fn first_part_that_is_not_built_is_named(rt: HostRuntime) -> Result<(), Fail> {
-    let alloc = rt.alloc();
-    for name in [
-        FileName::State,
-        FileName::StateTemp,
-        FileName::Wal,
-        FileName::Oal,
-        FileName::Journal,
-    ] {
-        let mut disk = example_disk(alloc)?;
-        disk.create(name)?;
-        stopped(alloc, &disk, 4, OTHER_FILE)?;
-        disk.remove(FileName::Target)?;
-        stopped(alloc, &disk, 4, OTHER_FILE)?;
+    for (changes, line) in OTHER_FILES {
+        let mut disk = example_disk(rt.alloc())?;
+        for change in *changes {
+            changed(&mut disk, change)?;
+        }
+        stopped(rt.alloc(), &disk, 4, line)?;
     }
-    for (control, key, part) in [(8, 5, SAME_KEYS), (8, 2, SAME_KEYS), (9, 5, OTHER_RBU)] {
-        let first = [5, 1, 4, 1, 0, 8, key];
-        let second = [5, 2, 4, 1, 0, control, key];
-        stopped(alloc, &disk_with(alloc, &[&first, &second])?, 4, part)?;
-    }
-    let mut short = example_disk(alloc)?;
-    short.set_len(FileName::Target, 8191)?;
-    stopped(alloc, &short, 4, OTHER_TARGET)?;
-    let mut disk = example_disk(alloc)?;
-    disk.set_len(FileName::Rbu, 8191)?;
-    stopped(alloc, &disk, 4, OTHER_RBU)?;
-    disk.remove(FileName::Rbu)?;
-    stopped(alloc, &disk, 4, OTHER_RBU)?;
-    disk.set_len(FileName::Target, 8191)?;
-    stopped(alloc, &disk, 4, OTHER_TARGET)?;
-    disk.remove(FileName::Target)?;
-    stopped(alloc, &disk, 4, OTHER_TARGET)
+    Ok(())
 }
 
 // A prepared row with a key and a text of so many letters, at least 1017 and at most 8184.
@@ -489,24 +599,27 @@ fn disk_with_long_rows(
     Ok(disk_with(alloc, &[&first, &second])?)
 }
 
+const FULL_FRONT: &[u8] =
+    b"\x0d\x00\x00\x00\x04\x00\x10\x00\x0f\xf8\x0f\xf0\x08\x00\x00\x10\x8f\x6d\x04\x04\x00\x9f\x5fx";
+
+const FULL_BACK: &[u8] = b"x\x06\x02\x03\x00\x13two\x06\x01\x03\x00\x13one";
+
 // With the old rows, two rows of 2025 letters fill their page: 8 + 4 * 2 + 8 + 8 + 2032 + 2032 is 4096. Then a byte
 // more, and that with a key that is present, and that with one key twice.
 #[test]
 fn rows_fill_their_page_to_the_last_byte(rt: HostRuntime) -> Result<(), Fail> {
-    let alloc = rt.alloc();
-    let left = updated(alloc, &disk_with_long_rows(alloc, 4, 2025, 3)?, 0, "done\n")?;
-    let front =
-        b"\x0d\x00\x00\x00\x04\x00\x10\x00\x0f\xf8\x0f\xf0\x08\x00\x00\x10\x8f\x6d\x04\x04\x00\x9f\x5fx";
-    let back = b"x\x06\x02\x03\x00\x13two\x06\x01\x03\x00\x13one";
-    ensure(has_rows(&left, front, back), "a full page")?;
-    stopped(alloc, &disk_with_long_rows(alloc, 3, 2026, 4)?, 4, NO_ROOM)?;
-    stopped(alloc, &disk_with_long_rows(alloc, 2, 2026, 4)?, 4, NO_ROOM)?;
-    stopped(
-        alloc,
-        &disk_with_long_rows(alloc, 4, 2026, 4)?,
-        4,
-        SAME_KEYS,
-    )
+    let full = disk_with_long_rows(rt.alloc(), 4, 2025, 3)?;
+    let left = updated(rt.alloc(), &full, 0, "done\n")?;
+    ensure(has_rows(&left, FULL_FRONT, FULL_BACK), "a full page")?;
+    for (first, second, line) in [
+        (3, 4, "refused 1 NotYet room\n"),
+        (2, 4, "refused 1 NotYet room\n"),
+        (4, 4, "refused 1 NotYet rows\n"),
+    ] {
+        let before = disk_with_long_rows(rt.alloc(), first, 2026, second)?;
+        stopped(rt.alloc(), &before, 4, line)?;
+    }
+    Ok(())
 }
 
 // A runtime with these words, whose salt may be missing.
@@ -558,37 +671,35 @@ const NO_TEXT: &[&[u8]] = &[b"rbu", b"apply", b"a", b"b", b"c", b"\xff"];
 
 const TOO_FEW: &[&[u8]] = &[b"rbu", b"apply", b"a", b"b"];
 
-// The program ends with this status, and its output, which has so much room, begins with this line.
+// The program ends with this status, and its output, which has room for no more, is this.
 fn ends_with(
     alloc: Global,
     words: &'static [&'static [u8]],
     has_salt: bool,
-    room: usize,
     status: u8,
-    line: &'static str,
-) -> Result<(), Fail>
-    requires { room ≤ 9 }
-{
+    output: &'static str,
+) -> Result<(), Fail> {
     let machine = Machine {
         words,
         has_salt,
         alloc,
     };
-    let mut bytes = [0; 9];
-    let mut out = Output::new(&mut bytes[..room]);
-    let ended = program(&machine, &mut out);
-    ensure(ended == status && bytes.starts_with(line.as_bytes()), line)
+    let mut bytes = vec![in alloc; 0; output.len()]?;
+    let ended = program(&machine, &mut Output::new(bytes.as_mut_slice()));
+    ensure(
+        ended == status && bytes.as_slice() == output.as_bytes(),
+        output,
+    )
 }
 
 #[test]
 fn program_ends_with_each_status(rt: HostRuntime) -> Result<(), Fail> {
-    let alloc = rt.alloc();
-    ends_with(alloc, WHOLE_UPDATE, true, 5, 0, "done\n")?;
-    ends_with(alloc, NO_TEXT, true, 9, 2, "usage\n")?;
-    ends_with(alloc, TOO_FEW, true, 9, 2, "usage\n")?;
-    ends_with(alloc, &[], true, 9, 2, "usage\n")?;
-    ends_with(alloc, WHOLE_UPDATE, false, 9, 7, "\0")?;
-    ends_with(alloc, WHOLE_UPDATE, true, 4, 8, "done\0")?;
-    ends_with(alloc, NO_TEXT, true, 0, 8, "\0")?;
-    ends_with(alloc, TOO_FEW, true, 3, 8, "usa\0")
+    ends_with(rt.alloc(), WHOLE_UPDATE, true, 0, "done\n")?;
+    ends_with(rt.alloc(), NO_TEXT, true, 2, "usage\n")?;
+    ends_with(rt.alloc(), TOO_FEW, true, 2, "usage\n")?;
+    ends_with(rt.alloc(), &[], true, 2, "usage\n")?;
+    ends_with(rt.alloc(), WHOLE_UPDATE, false, 7, "\0")?;
+    ends_with(rt.alloc(), WHOLE_UPDATE, true, 8, "done")?;
+    ends_with(rt.alloc(), NO_TEXT, true, 8, "")?;
+    ends_with(rt.alloc(), TOO_FEW, true, 8, "usa")
 }

@@ -1,18 +1,10 @@
 // Tests the database header of small files (Database File Format, section 1.3).
 ghost use Rattle.std.specs.Prelude.{◌≡◌, ◌↔◌, ◌≤◌, IsTrue, length};
-ghost use Rattle.format_spec.specs.Header.{HasMagic, version_valid_for, change_counter};
+ghost use Rattle.format_spec.specs.Header.{version_valid_for, change_counter};
 ghost use Rattle.small_spec.specs.SmallFile.{IsSmallHeader, HasFields, small_layout, small_state};
 
 use byte_fields::{u16_at, u32_at};
-
-const MAGIC: [u8; 16] = *b"SQLite format 3\0";
-
-fn has_magic(bytes: &[u8]) -> bool
-    requires { 16 ≤ length bytes.now }
-    ensures { IsTrue result ↔ HasMagic bytes.now }
-{
-    &bytes[..16] == MAGIC.as_slice()
-}
+use db_header::has_magic;
 
 // Whether the fields of one and two bytes are those of a small file.
 fn has_layout(bytes: &[u8]) -> bool

@@ -55,8 +55,7 @@ mod worked;
 pub use laws::{log_has_one_reading, overlay_has_one_result};
 pub use sqlite_rows::{
     worked_file_pages, worked_frame_header, worked_header, worked_index_interior,
-    worked_little_log_header, worked_log, worked_overlay, worked_spellings,
-    worked_table_leaf,
+    worked_little_log_header, worked_log, worked_overlay, worked_spellings, worked_table_leaf,
 };
 pub use worked::{
     worked_cell, worked_empty_leaf, worked_greatest_log_header, worked_header_sizes,

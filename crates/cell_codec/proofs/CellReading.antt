@@ -13,7 +13,7 @@ use Rattle.format_spec.specs.Varint.{IsVarint}
 use Rattle.format_spec.specs.Cell.{IsTableLeafCell, payload_limit, local_size, overflow_size}
 use Rattle.common_spec.specs.Reading.{Reads, OrNone}
 use Rattle.cell_codec.specs.Varints.{BeginsWithVarint}
-use Rattle.cell_codec.specs.VarintLaws.{same_front}
+use Rattle.cell_codec.specs.VarintLaws.{varint-same_front}
 use Rattle.cell_codec.specs.Cells.{BeginsWithCell, BeginsWithLengthOver, part_size, IsLocalPart}
 use Rattle.cell_codec.specs.declared.cell.LocalPart.{LocalPart}
 use Rattle.cell_codec.specs.declared.cell.CellFault.{CellFault}
@@ -120,7 +120,7 @@ head_of usable bytes cell h =
     }
 
 pub same_varint_front : (bytes : List ℕ) (m n i j : ℕ) → VarintIs bytes m i → VarintIs bytes n j → (m ≡ n) × (i ≡ j)
-same_varint_front bytes m n i j v w = same_front bytes i j m n v.within w.within v.spelled w.spelled
+same_varint_front bytes m n i j v w = varint-same_front bytes i j m n v.within w.within v.spelled w.spelled
 
 -- bytes with no payload's length
 pub no_payload : (usable : ℕ) (bytes : List ℕ) → BeginsWithNoLength bytes → (cell : CellView) → BeginsWithCell TableLeaf usable bytes cell → ⊥
@@ -131,7 +131,7 @@ no_payload usable bytes none cell h =
 -- bytes with a payload within it
 pub not_over : (bytes : List ℕ) (payload i : ℕ) → VarintIs bytes payload i → payload ≤ payload_limit → BeginsWithLengthOver bytes → ⊥
 not_over bytes payload i v limit h =
-    omega (arith, h.4, same_front bytes i h.1 payload h.0 v.within h.2 v.spelled h.3)
+    omega (arith, h.4, varint-same_front bytes i h.1 payload h.0 v.within h.2 v.spelled h.3)
 
 -- bytes with no rowid
 pub no_rowid : (usable : ℕ) (bytes : List ℕ) (payload i : ℕ) → VarintIs bytes payload i → BeginsWithNone (drop i bytes) → (cell : CellView) → BeginsWithCell TableLeaf usable bytes cell → ⊥

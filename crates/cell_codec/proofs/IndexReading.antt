@@ -7,7 +7,7 @@ use Rattle.format_spec.specs.declared.PageKind.{PageKind}
 use Rattle.format_spec.specs.declared.CellView.{CellView}
 use Rattle.format_spec.specs.Varint.{IsVarint}
 use Rattle.format_spec.specs.Cell.{IsIndexCell, payload_limit, local_size, child_size, overflow_size}
-use Rattle.cell_codec.specs.CellLaws.{same_index_cell}
+use Rattle.cell_codec.specs.CellLaws.{index_cell-same}
 use Rattle.cell_codec.specs.Cells.{part_size, IsLocalPart}
 use Rattle.cell_codec.specs.declared.cell.LocalPart.{LocalPart}
 use Rattle.cell_codec.proofs.CellReading.{BeginsWithNoLength, VarintIs, same_varint_front, part_whole, part_local_length, part_overflow_length}
@@ -18,7 +18,7 @@ BeginsWithIndex kind usable bytes cell = (cell.size ≤ length bytes) × IsIndex
 -- bytes begin with one cell at most
 pub same_first_index : (kind : PageKind) (usable : ℕ) (bytes : List ℕ) (c d : CellView) → BeginsWithIndex kind usable bytes c → BeginsWithIndex kind usable bytes d → c ≡ d
 same_first_index kind usable bytes c d v w =
-    (same_index_cell (drop c.size bytes) (drop d.size bytes) v.1 w.1 (take-append-drop c.size bytes ∙ sym (take-append-drop d.size bytes))).1
+    (index_cell-same (drop c.size bytes) (drop d.size bytes) v.1 w.1 (take-append-drop c.size bytes ∙ sym (take-append-drop d.size bytes))).1
 
 -- the parts of an index page's cell, in the bytes that begin with it
 record HasIndexHead (kind : PageKind) (usable : ℕ) (bytes : List ℕ) (cell : CellView) : Type 0 where

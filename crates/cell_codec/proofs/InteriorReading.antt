@@ -7,7 +7,7 @@ use Rattle.byteorder.specs.Endian.{big_number}
 use Rattle.format_spec.specs.declared.CellView.{CellView}
 use Rattle.format_spec.specs.Varint.{IsVarint}
 use Rattle.format_spec.specs.Cell.{IsTableInteriorCell}
-use Rattle.cell_codec.specs.CellLaws.{same_table_interior_cell}
+use Rattle.cell_codec.specs.CellLaws.{table_interior_cell-same}
 use Rattle.cell_codec.proofs.CellReading.{BeginsWithNone, VarintIs}
 
 abbrev pub BeginsWithInterior : List ℕ → CellView → Type 0
@@ -16,7 +16,7 @@ BeginsWithInterior bytes cell = (cell.size ≤ length bytes) × IsTableInteriorC
 -- bytes begin with one cell at most
 pub same_first_interior : (bytes : List ℕ) (c d : CellView) → BeginsWithInterior bytes c → BeginsWithInterior bytes d → c ≡ d
 same_first_interior bytes c d v w =
-    (same_table_interior_cell (drop c.size bytes) (drop d.size bytes) v.1 w.1 (take-append-drop c.size bytes ∙ sym (take-append-drop d.size bytes))).1
+    (table_interior_cell-same (drop c.size bytes) (drop d.size bytes) v.1 w.1 (take-append-drop c.size bytes ∙ sym (take-append-drop d.size bytes))).1
 
 -- bytes with no rowid behind the child
 pub no_interior_rowid : (bytes : List ℕ) → BeginsWithNone (drop 4 bytes) → (cell : CellView) → BeginsWithInterior bytes cell → ⊥

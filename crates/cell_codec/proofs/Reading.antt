@@ -4,7 +4,7 @@ use Rattle.std.proofs.Math.Nat.{pow-le-pow_right}
 use Rattle.std.proofs.lemmas.List.{length-take-le, take_all, take_more}
 use Rattle.std.specs.List.{AllByRecursion}
 use Rattle.format_spec.specs.Varint.{HasHighBit, IsVarint, groups_value, last_weight}
-use Rattle.cell_codec.specs.VarintLaws.{groups_value-push, groups_value_lt, high_append, none_in_high, same_front}
+use Rattle.cell_codec.specs.VarintLaws.{groups_value-push, groups_value-lt, high-append, high-none, varint-same_front}
 
 -- the first i bytes all have their high bit, and the number so far is theirs
 pub record IsHighFront (bytes : List ℕ) (i high : ℕ) : Type 0 where
@@ -14,7 +14,7 @@ pub record IsHighFront (bytes : List ℕ) (i high : ℕ) : Type 0 where
 
 pub high_below : (bytes : List ℕ) (i high : ℕ) → IsHighFront bytes i high → i ≤ 8 → high < 2 ^ 56
 high_below bytes i high f h =
-    let below = groups_value_lt (take i bytes) f.all in
+    let below = groups_value-lt (take i bytes) f.all in
     let size = length-take-le i bytes f.within in
     let few : length (take i bytes) ≤ 8 = omega (arith, size) in
     let less : 128 ^ length (take i bytes) ≤ 128 ^ 8 = pow-le-pow_right (lit< tt) few in
@@ -26,7 +26,7 @@ one_more bytes i high b f h e low fits =
     let next : take (i + 1) bytes ≡ take i bytes ++ b ∷ [] = take_more bytes i 0 h ∙ ap (λ (c : ℕ). take i bytes ++ c ∷ []) (sym e) in
     record {
       within = omega arith;
-      all = subst (AllByRecursion HasHighBit) (sym next) (high_append (take i bytes) (b ∷ []) f.all ((low, fits), tt));
+      all = subst (AllByRecursion HasHighBit) (sym next) (high-append (take i bytes) (b ∷ []) f.all ((low, fits), tt));
       number = ap (λ (n : ℕ). n * 128 + (b - 128)) f.number ∙ sym (ap groups_value next ∙ groups_value-push (take i bytes) b);
     }
 
@@ -48,14 +48,14 @@ spelled bytes i high b f most h e low =
 pub only_found : (bytes : List ℕ) (m i : ℕ) → i ≤ length bytes → IsVarint (take i bytes) m
     → (value n : ℕ) → n ≤ length bytes → IsVarint (take n bytes) value → ◌≡◌ {A = Option (ℕ × ℕ)} (Some (m, i)) (Some (value, n))
 only_found bytes m i h v value n k w =
-    let same = same_front bytes i n m value h k v w in
+    let same = varint-same_front bytes i n m value h k v w in
     let first : m ≡ value = same.0 in
     let second : i ≡ n = same.1 in
     cc
 
 -- a byte that ends a varint is not among fewer than nine bytes with their high bit set
 pub never_none : (bytes : List ℕ) (m i : ℕ) → IsVarint (take i bytes) m → IsNone {T = ℕ × ℕ} (Some (m, i)) ↔ (AllByRecursion HasHighBit bytes × (length bytes < 9))
-never_none bytes m i v = (λ h. absurd (cc), λ h. absurd (none_in_high bytes i m h.0 h.1 v))
+never_none bytes m i v = (λ h. absurd (cc), λ h. absurd (high-none bytes i m h.0 h.1 v))
 
 -- the bytes end inside a varint
 pub all_high : (bytes : List ℕ) (i high : ℕ) → IsHighFront bytes i high → length bytes ≤ i → AllByRecursion HasHighBit bytes
@@ -63,7 +63,7 @@ all_high bytes i high f h = subst (AllByRecursion HasHighBit) (take_all i bytes 
 
 pub only_none : (bytes : List ℕ) (i high : ℕ) → IsHighFront bytes i high → length bytes ≤ i → i ≤ 8
     → (r : Option (ℕ × ℕ)) (value n : ℕ) → n ≤ length bytes → IsVarint (take n bytes) value → r ≡ Some (value, n)
-only_none bytes i high f h most r value n k v = absurd (none_in_high bytes n value (all_high bytes i high f h) (omega arith) v)
+only_none bytes i high f h most r value n k v = absurd (high-none bytes n value (all_high bytes i high f h) (omega arith) v)
 
 pub always_none : (bytes : List ℕ) (i high : ℕ) → IsHighFront bytes i high → length bytes ≤ i → i ≤ 8
     → (r : Option (ℕ × ℕ)) → r ≡ None → IsNone r ↔ (AllByRecursion HasHighBit bytes × (length bytes < 9))

@@ -13,9 +13,9 @@ power_positive : (n : ℕ) → 0 < 128 ^ n
 power_positive n = omega (arith, one-le-pow n 128 (omega arith))
 
 -- bytes with their high bit set, after such bytes
-pub high_append : (xs ys : List ℕ) → AllByRecursion HasHighBit xs → AllByRecursion HasHighBit ys → AllByRecursion HasHighBit (xs ++ ys)
-high_append [] ys h k = k
-high_append (x ∷ xs) ys h k = (h.0, high_append xs ys h.1 k)
+pub high-append : (xs ys : List ℕ) → AllByRecursion HasHighBit xs → AllByRecursion HasHighBit ys → AllByRecursion HasHighBit (xs ++ ys)
+high-append [] ys h k = k
+high-append (x ∷ xs) ys h k = (h.0, high-append xs ys h.1 k)
 
 -- one more group
 pub groups_value-push : (xs : List ℕ) (b : ℕ) → groups_value (xs ++ b ∷ []) ≡ groups_value xs * 128 + (b - 128)
@@ -27,10 +27,10 @@ groups_value-push (x ∷ xs) b =
     rw (p, h) (omega arith)
 
 -- so many groups of seven bits
-pub groups_value_lt : (xs : List ℕ) → AllByRecursion HasHighBit xs → groups_value xs < 128 ^ length xs
-groups_value_lt [] h = omega arith
-groups_value_lt (x ∷ xs) h =
-    let rest = groups_value_lt xs h.1 in
+pub groups_value-lt : (xs : List ℕ) → AllByRecursion HasHighBit xs → groups_value xs < 128 ^ length xs
+groups_value-lt [] h = omega arith
+groups_value-lt (x ∷ xs) h =
+    let rest = groups_value-lt xs h.1 in
     let b : 128 ≤ x = h.0.0 in
     let t : x < 256 = h.0.1 in
     let m : x - 128 + 1 ≤ 128 = omega arith in
@@ -65,17 +65,17 @@ high_inside [] x ys h = h.0.0
 high_inside (a ∷ xs) x ys h = high_inside xs x ys h.1
 
 -- what the last byte of a varint is below
-pub last_weight_short : (n : ℕ) → n < 8 → last_weight n ≡ 128
-last_weight_short n h = grind (arith, nat_tests)
+pub last_weight-short : (n : ℕ) → n < 8 → last_weight n ≡ 128
+last_weight-short n h = grind (arith, nat_tests)
 
 -- no spelling begins another, and what was written is read again whatever follows it
-pub same_varint : {a b : List ℕ} {m n : ℕ} (x y : List ℕ) → IsVarint a m → IsVarint b n → a ++ x ≡ b ++ y → (a ≡ b) × (m ≡ n)
-same_varint {a} {b} {m} {n} x y v w e =
+pub varint-same : {a b : List ℕ} {m n : ℕ} (x y : List ℕ) → IsVarint a m → IsVarint b n → a ++ x ≡ b ++ y → (a ≡ b) × (m ≡ n)
+varint-same {a} {b} {m} {n} x y v w e =
     let left : a ++ x ≡ v.front ++ v.last ∷ x = ap (λ s. s ++ x) v.whole ∙ append_assoc v.front (v.last ∷ []) x in
     let right : b ++ y ≡ w.front ++ w.last ∷ y = ap (λ s. s ++ y) w.whole ∙ append_assoc w.front (w.last ∷ []) y in
     let same = same_split 8 v.front w.front v.last w.last x y v.at_most_nine w.at_most_nine v.high w.high
-    (λ h. omega (arith, v.low, last_weight_short (length v.front) h))
-    (λ h. omega (arith, w.low, last_weight_short (length w.front) h))
+    (λ h. omega (arith, v.low, last_weight-short (length v.front) h))
+    (λ h. omega (arith, w.low, last_weight-short (length w.front) h))
     (sym left ∙ e ∙ right) in
     let fronts : v.front ≡ w.front = same.0 in
     let lasts : v.last ≡ w.last = same.1 in (
@@ -84,20 +84,20 @@ same_varint {a} {b} {m} {n} x y v w e =
     )
 
 -- a varint in front of bytes is the only one
-pub same_front : (bytes : List ℕ) (i j m n : ℕ) → i ≤ length bytes → j ≤ length bytes → IsVarint (take i bytes) m → IsVarint (take j bytes) n → (m ≡ n) × (i ≡ j)
-same_front bytes i j m n p q v w =
-    let same = same_varint (drop i bytes) (drop j bytes) v w (take-append-drop i bytes ∙ sym (take-append-drop j bytes)) in
+pub varint-same_front : (bytes : List ℕ) (i j m n : ℕ) → i ≤ length bytes → j ≤ length bytes → IsVarint (take i bytes) m → IsVarint (take j bytes) n → (m ≡ n) × (i ≡ j)
+varint-same_front bytes i j m n p q v w =
+    let same = varint-same (drop i bytes) (drop j bytes) v w (take-append-drop i bytes ∙ sym (take-append-drop j bytes)) in
     let lengths : length (take i bytes) ≡ length (take j bytes) = ap length same.0 in
     (same.1, omega (arith, lengths, length-take-le i bytes p, length-take-le j bytes q))
 
 -- fewer than nine bytes with their high bit set spell nothing
-pub none_in_high : (bytes : List ℕ) (n value : ℕ) → AllByRecursion HasHighBit bytes → length bytes < 9 → IsVarint (take n bytes) value → ⊥
-none_in_high bytes n value h l v =
+pub high-none : (bytes : List ℕ) (n value : ℕ) → AllByRecursion HasHighBit bytes → length bytes < 9 → IsVarint (take n bytes) value → ⊥
+high-none bytes n value h l v =
     let whole : v.front ++ v.last ∷ drop n bytes ≡ bytes = sym (append_assoc v.front (v.last ∷ []) (drop n bytes)) ∙ ap (λ s. s ++ drop n bytes) (sym v.whole) ∙ take-append-drop n bytes in
     let lengths : length (v.front ++ v.last ∷ drop n bytes) ≡ length bytes = ap length whole in
     let last = high_inside v.front v.last (drop n bytes) (subst (AllByRecursion HasHighBit) (sym whole) h) in
     let short : length v.front < 8 = omega (arith, lengths, length-append v.front (v.last ∷ drop n bytes)) in
-    omega (arith, last, v.low, last_weight_short (length v.front) short)
+    omega (arith, last, v.low, last_weight-short (length v.front) short)
 
 -- there are n groups
 pub length-groups : (n x : ℕ) → length (groups n x) ≡ n
@@ -105,11 +105,11 @@ length-groups zero x = refl
 length-groups (suc n) x = ap (λ (k : ℕ). suc k) (length-groups n x)
 
 -- and each has its high bit set
-pub high_groups : (n x : ℕ) → AllByRecursion HasHighBit (groups n x)
-high_groups zero x = tt
-high_groups (suc n) x =
+pub high-groups : (n x : ℕ) → AllByRecursion HasHighBit (groups n x)
+high-groups zero x = tt
+high-groups (suc n) x =
     let low = mod_below (x / 128 ^ n) 128 (omega arith) in
-    ((omega arith, omega arith), high_groups n x)
+    ((omega arith, omega arith), high-groups n x)
 
 -- the groups are the digits of the number to the base 128
 pub groups_value-groups : (n x : ℕ) → groups_value (groups n x) ≡ x % 128 ^ n
@@ -150,23 +150,23 @@ front_fits x top =
     record { most = omega arith; fits = omega arith; least = λ z. omega arith }))))))))
 
 -- the number of bytes in front of the last one
-pub varint_front_most : (x : ℕ) → x < 2 ^ 64 → varint_front x ≤ 8
-varint_front_most x top = (front_fits x top).most
+pub varint_front-most : (x : ℕ) → x < 2 ^ 64 → varint_front x ≤ 8
+varint_front-most x top = (front_fits x top).most
 
 last_weight_positive : (n : ℕ) → 0 < last_weight n
 last_weight_positive n = grind (arith, nat_tests)
 
 -- the shortest spelling has one byte more
-pub varint_size : (x : ℕ) → length (varint x) ≡ varint_front x + 1
+pub varint-size : (x : ℕ) → length (varint x) ≡ varint_front x + 1
 unfolding varint
-varint_size x =
+varint-size x =
     let w = last_weight (varint_front x) in
     omega (arith, length_push (groups (varint_front x) (x / w)) (x % w), length-groups (varint_front x) (x / w))
 
 -- the shortest spelling spells the number
-pub varint_spells : (x : ℕ) → x < 2 ^ 64 → IsVarint (varint x) x
+pub varint-spells : (x : ℕ) → x < 2 ^ 64 → IsVarint (varint x) x
 unfolding varint
-varint_spells x top =
+varint-spells x top =
     let f = varint_front x in
     let w = last_weight f in
     let fits = front_fits x top in
@@ -179,14 +179,14 @@ varint_spells x top =
       last = x % w;
       whole = refl;
       at_most_nine = omega (arith, size, fits.most);
-      high = high_groups f (x / w);
+      high = high-groups f (x / w);
       low = rw same (mod_below x w (last_weight_positive f));
       sum = rw (same, value) (sym (div-add-mod' x w));
     }
 
 -- no spelling of the number is shorter
-pub varint_shortest : (x : ℕ) (bytes : List ℕ) → x < 2 ^ 64 → IsVarint bytes x → length (varint x) ≤ length bytes
-varint_shortest x bytes top v =
+pub varint-shortest : (x : ℕ) (bytes : List ℕ) → x < 2 ^ 64 → IsVarint bytes x → length (varint x) ≤ length bytes
+varint-shortest x bytes top v =
     let k = length v.front in
     let size : length bytes ≡ k + 1 = ap length v.whole ∙ length_push v.front v.last in
     elim (cases_lt k (varint_front x)) [
@@ -194,34 +194,34 @@ varint_shortest x bytes top v =
           let fits = front_fits x top in
           let least = fits.least (omega arith) in
           let short : k < 8 = omega (arith, fits.most) in
-          let weight = last_weight_short k short in
+          let weight = last_weight-short k short in
           let low : v.last < 128 = omega (arith, v.low, weight) in
           let sum : x ≡ groups_value v.front * 128 + v.last = v.sum ∙ ap (λ (w : ℕ). groups_value v.front * w + v.last) weight in
-          let below = groups_value_lt v.front v.high in
+          let below = groups_value-lt v.front v.high in
           let more : 128 ^ k * 128 ≤ 128 ^ varint_front x = subst (λ (p : ℕ). p ≤ 128 ^ varint_front x) (pow-suc 128 k) (pow-le-pow_right (lit< tt) (omega arith)) in
           absurd (omega arith)
-      | inr enough ↦ omega (arith, varint_size x)
+      | inr enough ↦ omega (arith, varint-size x)
     ]
 
 -- one to nine bytes
-pub varint_one_to_nine : (x : ℕ) → x < 2 ^ 64 → (1 ≤ length (varint x)) × (length (varint x) ≤ 9)
-varint_one_to_nine x top = (omega (arith, varint_size x), omega (arith, varint_size x, varint_front_most x top))
+pub varint-one_to_nine : (x : ℕ) → x < 2 ^ 64 → (1 ≤ length (varint x)) × (length (varint x) ≤ 9)
+varint-one_to_nine x top = (omega (arith, varint-size x), omega (arith, varint-size x, varint_front-most x top))
 
 -- any spelling has one to nine bytes
-pub spelling_one_to_nine : (bytes : List ℕ) (x : ℕ) → IsVarint bytes x → (1 ≤ length bytes) × (length bytes ≤ 9)
-spelling_one_to_nine bytes x v =
+pub spelling-one_to_nine : (bytes : List ℕ) (x : ℕ) → IsVarint bytes x → (1 ≤ length bytes) × (length bytes ≤ 9)
+spelling-one_to_nine bytes x v =
     let size : length bytes ≡ length v.front + 1 = ap length v.whole ∙ length_push v.front v.last in
     (omega arith, omega (arith, v.at_most_nine))
 
 -- and its number fits 64 bits
-pub spelled_number_fits : (bytes : List ℕ) (x : ℕ) → IsVarint bytes x → x < 2 ^ 64
-spelled_number_fits bytes x v =
+pub spelling-number_fits : (bytes : List ℕ) (x : ℕ) → IsVarint bytes x → x < 2 ^ 64
+spelling-number_fits bytes x v =
     let k = length v.front in
-    let below = groups_value_lt v.front v.high in
+    let below = groups_value-lt v.front v.high in
     let few : k ≤ 8 = v.at_most_nine in
     elim (cases_lt k 8) [
       | inl less ↦
-          let weight = last_weight_short k less in
+          let weight = last_weight-short k less in
           let sum : x ≡ groups_value v.front * 128 + v.last = v.sum ∙ ap (λ (w : ℕ). groups_value v.front * w + v.last) weight in
           let most : 128 ^ k ≤ 128 ^ 8 = pow-le-pow_right (lit< tt) few in
           omega (arith, v.low, weight)

@@ -8,14 +8,14 @@ use Rattle.db_header.specs.declared.fields.Header.{Header}
 use Rattle.db_header.specs.declared.fields.HeaderFault.{HeaderFault}
 use Rattle.db_header.specs.declared.fields.HeaderFault.TheVariants.{SizeMismatch}
 use Rattle.db_header.specs.Reading.{IsSupported, HasItsPages, counted_pages, read_format, IsHeaderOf, IsFirstFault}
-use Rattle.db_header.specs.HeaderLaws.{one_answer, first-size_mismatch}
+use Rattle.db_header.specs.HeaderLaws.{answer-one, first-size_mismatch}
 
 -- the answer of a file
 abbrev pub Answers : List ℕ → ℕ → Result Header HeaderFault → Type 0
 Answers bytes file_len = OrFault (IsHeaderOf bytes file_len) (IsFirstFault bytes file_len)
 
 pub reads : (bytes : List ℕ) (file_len : ℕ) (result : Result Header HeaderFault) → Answers bytes file_len result → Reads (Answers bytes file_len) result
-reads bytes file_len result = Reads-one (Answers bytes file_len) result (one_answer bytes file_len)
+reads bytes file_len result = Reads-one (Answers bytes file_len) result (answer-one bytes file_len)
 
 -- the pages that count, as they were computed
 abbrev pub HasPages : ℕ → ℕ → ℕ → Type 0

@@ -52,8 +52,8 @@ same_order bytes file_len (SizeMismatch p l) (SizeMismatch q m) hf hg e = ap₂ 
 same_order bytes file_len (SizeMismatch p l) g hf hg e = absurd (omega arith)
 
 -- a file reads as one header
-pub same_header : (bytes : List ℕ) (file_len : ℕ) (h k : Header) → IsHeaderOf bytes file_len h → IsHeaderOf bytes file_len k → h ≡ k
-same_header bytes file_len h k rh rk = λ i. record {
+pub header-same : (bytes : List ℕ) (file_len : ℕ) (h k : Header) → IsHeaderOf bytes file_len h → IsHeaderOf bytes file_len k → h ≡ k
+header-same bytes file_len h k rh rk = λ i. record {
   page_size = (rh.page_size_is ∙ sym rk.page_size_is) i;
   reserved = (rh.reserved_is ∙ sym rk.reserved_is) i;
   change_counter = (rh.change_counter_is ∙ sym rk.change_counter_is) i;
@@ -65,10 +65,10 @@ same_header bytes file_len h k rh rk = λ i. record {
 }
 
 -- a file has one header or one first fault
-pub one_answer : (bytes : List ℕ) (file_len : ℕ) → IsOne (OrFault (IsHeaderOf bytes file_len) (IsFirstFault bytes file_len))
-one_answer bytes file_len =
+pub answer-one : (bytes : List ℕ) (file_len : ℕ) → IsOne (OrFault (IsHeaderOf bytes file_len) (IsFirstFault bytes file_len))
+answer-one bytes file_len =
     OrFault-one (IsHeaderOf bytes file_len) (IsFirstFault bytes file_len)
-    (same_header bytes file_len)
+    (header-same bytes file_len)
     (IsFirst-one fault_order (HasFault bytes file_len) (same_order bytes file_len))
     (λ header fault reads first. reads-no_fault bytes file_len header fault reads first.holds)
 

@@ -41,10 +41,10 @@ record ShareHeader (big other : Bool) (page_size size sequence next : ℕ) (salt
   words : salt ≡ salts
 
 -- equal headers
-same_header : (big other : Bool) (page_size size sequence next : ℕ) (salt salts : ℕ × ℕ) → page_size < 2 ^ 32 → size < 2 ^ 32 → sequence < 2 ^ 32 → next < 2 ^ 32
+header-same : (big other : Bool) (page_size size sequence next : ℕ) (salt salts : ℕ × ℕ) → page_size < 2 ^ 32 → size < 2 ^ 32 → sequence < 2 ^ 32 → next < 2 ^ 32
     → AreWords salt → AreWords salts → log_header big page_size sequence salt ≡ log_header other size next salts → ShareHeader big other page_size size sequence next salt salts
 unfolding log_header
-same_header big other page_size size sequence next salt salts fits also counts counts_too words words_too e =
+header-same big other page_size size sequence next salt salts fits also counts counts_too words words_too e =
     let fronts = append-same (log_front big page_size sequence salt) (log_front other size next salts)
     (pair_bytes (log_sums big page_size sequence salt)) (pair_bytes (log_sums other size next salts)) refl e in
     let magics = append-same (big_bytes 4 (magic big)) (big_bytes 4 (magic other)) _ _ refl fronts.0 in
@@ -131,15 +131,15 @@ same_frames big salt sums page_size bytes (frame ∷ frames) (other ∷ others) 
     (same_frames big salt after page_size left frames others ours (subst (λ (s : ℕ × ℕ). HaveFrames big salt s page_size left others) sums_same theirs))
 
 -- bytes are a log in one way
-pub same_reading : {bytes : List ℕ} {p q : ℕ} {frames others : List Frame} (v : IsLog bytes p frames) (w : IsLog bytes q others) → reading_of v ≡ reading_of w
-same_reading {bytes} {p} {q} {frames} {others} v w =
+pub log-same_reading : {bytes : List ℕ} {p q : ℕ} {frames others : List Frame} (v : IsLog bytes p frames) (w : IsLog bytes q others) → reading_of v ≡ reading_of w
+log-same_reading {bytes} {p} {q} {frames} {others} v w =
     let sums = log_sums v.big p v.sequence v.salt in
     let left = frames_bytes v.big v.salt sums frames ++ v.rest in
     let right = frames_bytes w.big w.salt (log_sums w.big q w.sequence w.salt) others ++ w.rest in
     let long : length (log_header v.big p v.sequence v.salt) ≡ length (log_header w.big q w.sequence w.salt) =
     length-log_header v.big p v.sequence v.salt ∙ sym (length-log_header w.big q w.sequence w.salt) in
     let halves = append-same (log_header v.big p v.sequence v.salt) (log_header w.big q w.sequence w.salt) left right long (sym v.whole ∙ w.whole) in
-    let header = same_header v.big w.big p q v.sequence w.sequence v.salt w.salt v.page_size_fits w.page_size_fits v.sequence_fits w.sequence_fits v.salt_fits w.salt_fits halves.0 in
+    let header = header-same v.big w.big p q v.sequence w.sequence v.salt w.salt v.page_size_fits w.page_size_fits v.sequence_fits w.sequence_fits v.salt_fits w.salt_fits halves.0 in
     let order : v.big ≡ w.big = header.order in
     let sizes : p ≡ q = header.sizes in
     let sequences : v.sequence ≡ w.sequence = header.sequences in
@@ -159,8 +159,8 @@ same_reading {bytes} {p} {q} {frames} {others} v w =
     }
 
 -- a log has one page size and one list of frames
-pub same_log : (bytes : List ℕ) (p q : ℕ) (frames others : List Frame) → IsLog bytes p frames → IsLog bytes q others → (p ≡ q) × (frames ≡ others)
-same_log bytes p q frames others v w = let same = same_reading v w in (ap (λ (r : LogReading). r.page_size) same, ap (λ (r : LogReading). r.frames) same)
+pub log-same : (bytes : List ℕ) (p q : ℕ) (frames others : List Frame) → IsLog bytes p frames → IsLog bytes q others → (p ≡ q) × (frames ≡ others)
+log-same bytes p q frames others v w = let same = log-same_reading v w in (ap (λ (r : LogReading). r.page_size) same, ap (λ (r : LogReading). r.frames) same)
 
 -- an empty list does not begin with a part that is not empty
 empty-append : (a b : List ℕ) → 0 < length a → [] ≡ a ++ b → ⊥
@@ -203,5 +203,5 @@ sums_behind-one_more big sums [] frame = refl
 sums_behind-one_more big sums (first ∷ frames) frame = sums_behind-one_more big (frame_sums big sums first.number first.commit first.page) frames frame
 
 -- the overlay of pages by frames is one, as far as they matter
-pub same_overlay : (base : PageMap) (frames : List Frame) (a b : PageMap) → IsOverlay base frames a → IsOverlay base frames b → SamePages a b
-same_overlay base frames a b v w = SamePages-trans a (overlay base frames) b (SamePages-sym (overlay base frames) a v) w
+pub overlay-same : (base : PageMap) (frames : List Frame) (a b : PageMap) → IsOverlay base frames a → IsOverlay base frames b → SamePages a b
+overlay-same base frames a b v w = SamePages-trans a (overlay base frames) b (SamePages-sym (overlay base frames) a v) w

@@ -168,8 +168,8 @@ module _ (page : List ℕ) (number usable : ℕ) (whole : usable ≤ length page
   not_both views (BadPage rule.Record) has f = f
   not_both views (Memory e) has f = f
 
-  pub one_answer : IsOne (OrFault (HasViews page number usable) (HasPageFault page number usable))
-  one_answer = OrFault-one (HasViews page number usable) (HasPageFault page number usable) one_list one_fault not_both
+  pub answer-one : IsOne (OrFault (HasViews page number usable) (HasPageFault page number usable))
+  answer-one = OrFault-one (HasViews page number usable) (HasPageFault page number usable) one_list one_fault not_both
 
   -- each page has views
   pub has_views : (kind : PageKind) (cells : List (List ℕ)) (right : ℕ) → IsPage page number usable kind cells right → (views : List CellView) × HasViews page number usable views

@@ -14,7 +14,7 @@ use Rattle.format_spec.specs.declared.CellView.{CellView}
 use Rattle.format_spec.specs.Cell.{IsCell}
 use Rattle.format_spec.specs.Page.{IsPage, IsCellAt, AreApart, RightChild, header_place, header_length, array_place, cell_place, cell_room}
 use Rattle.page_spec.specs.PlacesLaws.{SameBytes, number_at-same, part_of-same}
-use Rattle.cell_codec.specs.VarintLaws.{spelling_one_to_nine}
+use Rattle.cell_codec.specs.VarintLaws.{spelling-one_to_nine}
 use Rattle.page_spec.specs.Rooms.{array_end, rooms, IsOneCell, IsWritten, KeepsRest}
 use Rattle.page_layout.specs.declared.put.Layout.{Layout}
 use Rattle.page_layout.specs.Written.{PutsCell, IsLaid, laid_more}
@@ -234,10 +234,10 @@ module _ (old new : List ℕ) (number usable : ℕ) (kind : PageKind) (cells : L
 -- a cell has a byte
 pub cell-some : (kind : PageKind) (usable : ℕ) (cell : List ℕ) (view : CellView) → IsCell kind usable cell view → 0 < length cell
 cell-some TableLeaf usable cell view is =
-    omega (arith, ap length is.whole, length-append is.payload_bytes (is.rowid_bytes ++ (is.local_bytes ++ is.overflow_bytes)), spelling_one_to_nine is.payload_bytes view.payload is.payload)
+    omega (arith, ap length is.whole, length-append is.payload_bytes (is.rowid_bytes ++ (is.local_bytes ++ is.overflow_bytes)), spelling-one_to_nine is.payload_bytes view.payload is.payload)
 cell-some TableInterior usable cell view is = omega (arith, ap length is.whole, length-append is.child_bytes is.rowid_bytes, is.child_length)
 cell-some IndexLeaf usable cell view is =
-    omega (arith, ap length is.whole, length-append is.child_bytes (is.payload_bytes ++ (is.local_bytes ++ is.overflow_bytes)), length-append is.payload_bytes (is.local_bytes ++ is.overflow_bytes), spelling_one_to_nine is.payload_bytes view.payload is.payload)
+    omega (arith, ap length is.whole, length-append is.child_bytes (is.payload_bytes ++ (is.local_bytes ++ is.overflow_bytes)), length-append is.payload_bytes (is.local_bytes ++ is.overflow_bytes), spelling-one_to_nine is.payload_bytes view.payload is.payload)
 cell-some IndexInterior usable cell view is =
     omega (arith, ap length is.whole, length-append is.child_bytes (is.payload_bytes ++ (is.local_bytes ++ is.overflow_bytes)), is.child_length)
 

@@ -9,7 +9,7 @@ use Rattle.format_spec.specs.declared.CellView.{CellView}
 use Rattle.format_spec.specs.Cell.{IsCell}
 use Rattle.format_spec.specs.Page.{IsPage, IsCellAt, AreApart, RightChild, header_place, array_place, cell_place, cell_room, cell_count, kind_byte}
 use Rattle.cell_codec.specs.Cells.{BeginsWithCell}
-use Rattle.cell_codec.specs.CellLaws.{same_first_cell}
+use Rattle.cell_codec.specs.CellLaws.{cell-same_first}
 use Rattle.page_spec.specs.PlacesLaws.{length-part_of}
 use Rattle.page_layout.specs.Views.{HasViews, HasKind, IsViewAt, AreViews}
 
@@ -88,7 +88,7 @@ module _ (page : List ℕ) (number usable : ℕ) (kind : PageKind) (whole : usab
 
   -- one view stands at an index
   pub same_view_at : (count other k : ℕ) (a b : CellView) → IsViewAt page number usable kind count k a → IsViewAt page number usable kind other k b → a ≡ b
-  same_view_at count other k a b one two = same_first_cell kind usable _ a b (begins count k a one) (begins other k b two)
+  same_view_at count other k a b one two = cell-same_first kind usable _ a b (begins count k a one) (begins other k b two)
 
   -- one list of views
   pub same_views : (count : ℕ) (a b : List CellView) → length a ≡ count → length b ≡ count → AreViews page number usable kind count a → AreViews page number usable kind count b → a ≡ b

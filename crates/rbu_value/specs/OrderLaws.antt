@@ -43,8 +43,8 @@ unfolding value_cmp
 value_cmp-blobs collation x y = refl
 
 -- no order of bytes makes two lists of bytes equal that differ
-pub bytes_equal : (xs ys : List ℕ) → slice_cmp nat_cmp xs ys ≡ Equal → xs ≡ ys
-bytes_equal xs ys e = (bytes_decides xs ys).0 (texts_ties xs ys ∙ ap is_eq e)
+pub bytes-equal : (xs ys : List ℕ) → slice_cmp nat_cmp xs ys ≡ Equal → xs ≡ ys
+bytes-equal xs ys e = (bytes_decides xs ys).0 (texts_ties xs ys ∙ ap is_eq e)
 
 -- values that are equal under BINARY are the same
 pub value_cmp-same : (a b : Value) → value_cmp Binary a b ≡ Equal → a ≡ b
@@ -59,9 +59,9 @@ value_cmp-same (Int x) (Text y) e = cc
 value_cmp-same (Int x) (Blob y) e = cc
 value_cmp-same (Text x) Null e = cc
 value_cmp-same (Text x) (Int y) e = cc
-value_cmp-same (Text x) (Text y) e = ap Text (bytes_equal x y e)
+value_cmp-same (Text x) (Text y) e = ap Text (bytes-equal x y e)
 value_cmp-same (Text x) (Blob y) e = cc
 value_cmp-same (Blob x) Null e = cc
 value_cmp-same (Blob x) (Int y) e = cc
 value_cmp-same (Blob x) (Text y) e = cc
-value_cmp-same (Blob x) (Blob y) e = ap Blob (bytes_equal x y e)
+value_cmp-same (Blob x) (Blob y) e = ap Blob (bytes-equal x y e)

@@ -8,18 +8,18 @@ use Rattle.rbu_value.specs.declared.value.Value.TheVariants.{Null, Int, Text, Bl
 use Rattle.format_spec.specs.Varint.{IsVarint}
 use Rattle.format_spec.specs.Record.{IsField, AreFields, IsRecord}
 use Rattle.cell_codec.specs.Varints.{IsCut}
-use Rattle.cell_codec.specs.VarintLaws.{same_varint, none_in_high}
+use Rattle.cell_codec.specs.VarintLaws.{varint-same, high-none}
 use Rattle.record_codec.specs.declared.read.RecordFault.{RecordFault}
 use Rattle.record_codec.specs.declared.read.RecordFault.TheVariants.{ShortHeader, ReservedType, RealValue, BodyLength, Memory}
 use Rattle.record_codec.specs.Faults.{IsReserved, IsValueType, body_size, BeginsWith, After, StopsWith, FieldsHaveFault, HasHeader, HasNoHeader, HasFault}
-use Rattle.record_codec.specs.RecordLaws.{field_size, no_varint_ends, same_header, same_record}
+use Rattle.record_codec.specs.RecordLaws.{field-size, varint-not_empty, header-same, record-same}
 use Rattle.common_spec.specs.Reading.{OrFault}
 use Rattle.common_spec.specs.ReadingLaws.{IsOne, OrFault-one}
 
 -- no varint stands at the front of bytes that end inside it
 pub cut_short : (bytes spelling rest : List ℕ) (type : ℕ) → IsCut bytes → IsVarint spelling type → bytes ≡ spelling ++ rest → ⊥
 cut_short bytes spelling rest type c v e =
-    none_in_high bytes (length spelling) type c.0 c.1 (subst (λ s. IsVarint s type) (sym (ap (take (length spelling)) e ∙ take_at spelling rest (length spelling) refl)) v)
+    high-none bytes (length spelling) type c.0 c.1 (subst (λ s. IsVarint s type) (sym (ap (take (length spelling)) e ∙ take_at spelling rest (length spelling) refl)) v)
 
 no_value_reserved : (type : ℕ) → IsReserved type → IsValueType type → ⊥
 no_value_reserved type r k = elim r [ inl e ↦ k.1 e | inr e ↦ k.2 e ]
@@ -28,9 +28,9 @@ no_value_reserved type r k = elim r [ inl e ↦ k.1 e | inr e ↦ k.2 e ]
 pub stops_not : (fault : RecordFault) (bytes spelling rest : List ℕ) (type : ℕ) → StopsWith fault bytes → IsVarint spelling type → IsValueType type → bytes ≡ spelling ++ rest → ⊥
 stops_not ShortHeader bytes spelling rest type s v k e = cut_short bytes spelling rest type s.1 v e
 stops_not ReservedType bytes spelling rest type s v k e =
-    no_value_reserved type (subst IsReserved (same_varint s.rest rest s.varint v (sym s.whole ∙ e)).1 s.holds) k
-stops_not RealValue bytes spelling rest type s v k e = k.0 (sym (same_varint s.rest rest s.varint v (sym s.whole ∙ e)).1 ∙ s.holds)
-stops_not BodyLength bytes spelling rest type s v k e = no_varint_ends bytes spelling rest type v e s
+    no_value_reserved type (subst IsReserved (varint-same s.rest rest s.varint v (sym s.whole ∙ e)).1 s.holds) k
+stops_not RealValue bytes spelling rest type s v k e = k.0 (sym (varint-same s.rest rest s.varint v (sym s.whole ∙ e)).1 ∙ s.holds)
+stops_not BodyLength bytes spelling rest type s v k e = varint-not_empty bytes spelling rest type v e s
 stops_not (Memory error) bytes spelling rest type s v k e = s
 
 -- a varint at the front is neither cut nor the end
@@ -38,11 +38,11 @@ not_cut : (P : ℕ → Type 0) (bytes : List ℕ) → BeginsWith P bytes → IsC
 not_cut P bytes b c = cut_short bytes b.spelling b.rest b.type c b.varint b.whole
 
 not_end : (P : ℕ → Type 0) (bytes : List ℕ) → BeginsWith P bytes → bytes ≡ [] → ⊥
-not_end P bytes b e = no_varint_ends bytes b.spelling b.rest b.type b.varint b.whole e
+not_end P bytes b e = varint-not_empty bytes b.spelling b.rest b.type b.varint b.whole e
 
 not_both : (bytes : List ℕ) → BeginsWith IsReserved bytes → BeginsWith (λ type. type ≡ 7) bytes → ⊥
 not_both bytes b c =
-    let same : b.type ≡ c.type = (same_varint b.rest c.rest b.varint c.varint (sym b.whole ∙ c.whole)).1 in
+    let same : b.type ≡ c.type = (varint-same b.rest c.rest b.varint c.varint (sym b.whole ∙ c.whole)).1 in
     let seven : c.type ≡ 7 = c.holds in
     elim b.holds [ inl e ↦ omega (arith, e, same, seven) | inr e ↦ omega (arith, e, same, seven) ]
 
@@ -71,14 +71,14 @@ same_stop BodyLength (Memory error) bytes s t = absurd t
 same_stop (Memory error) g bytes s t = absurd s
 
 -- and after the same serial types
-pub same_reading : (f g : RecordFault) (rs ss types : List ℕ) → After (StopsWith f) rs types → After (StopsWith g) ss types → (rs ≡ ss) × (f ≡ g)
-same_reading f g [] [] types a b = (refl, same_stop f g types a b)
-same_reading f g [] (s ∷ ss) types a b = absurd (stops_not f types b.0 b.1 s a b.2 b.3 b.4)
-same_reading f g (r ∷ rs) [] types a b = absurd (stops_not g types a.0 a.1 r b a.2 a.3 a.4)
-same_reading f g (r ∷ rs) (s ∷ ss) types a b =
-    let same = same_varint a.1 b.1 a.2 b.2 (sym a.4 ∙ b.4) in
+pub log-same_reading : (f g : RecordFault) (rs ss types : List ℕ) → After (StopsWith f) rs types → After (StopsWith g) ss types → (rs ≡ ss) × (f ≡ g)
+log-same_reading f g [] [] types a b = (refl, same_stop f g types a b)
+log-same_reading f g [] (s ∷ ss) types a b = absurd (stops_not f types b.0 b.1 s a b.2 b.3 b.4)
+log-same_reading f g (r ∷ rs) [] types a b = absurd (stops_not g types a.0 a.1 r b a.2 a.3 a.4)
+log-same_reading f g (r ∷ rs) (s ∷ ss) types a b =
+    let same = varint-same a.1 b.1 a.2 b.2 (sym a.4 ∙ b.4) in
     let rests : a.1 ≡ b.1 = append_cancel_left a.0 a.1 b.1 (sym a.4 ∙ b.4 ∙ ap (λ t. t ++ b.1) (sym same.0)) in
-    let behind = same_reading f g rs ss b.1 (subst (After (StopsWith f) rs) rests a.5) b.5 in
+    let behind = log-same_reading f g rs ss b.1 (subst (After (StopsWith f) rs) rests a.5) b.5 in
     let first : r ≡ s = same.1 in
     let others : rs ≡ ss = behind.0 in
     (cc, behind.1)
@@ -101,13 +101,13 @@ fields_types types bodies (v ∷ vs) f =
     let rest = fields_types f.3 f.4 vs f.9 in (
       f.0 ∷ rest.0,
       (f.1, f.3, f.5, field_type f.0 f.2 v f.8, f.6, rest.1),
-      ap length f.7 ∙ length-append f.2 f.4 ∙ ap (λ n. n + length f.4) (field_size f.0 f.2 v f.8) ∙ ap (λ n. body_size f.0 + n) rest.2 ∙ sym (sum_by-cons body_size f.0 rest.0),
+      ap length f.7 ∙ length-append f.2 f.4 ∙ ap (λ n. n + length f.4) (field-size f.0 f.2 v f.8) ∙ ap (λ n. body_size f.0 + n) rest.2 ∙ sym (sum_by-cons body_size f.0 rest.0),
     )
 
 fields_no_fault : (types bodies : List ℕ) (values : List Value) (fault : RecordFault) → AreFields types bodies values → FieldsHaveFault types bodies fault → ⊥
 fields_no_fault types bodies values fault f h =
     let read = fields_types types bodies values f in
-    let same = same_reading fault BodyLength h.read read.0 types h.stop read.1 in
+    let same = log-same_reading fault BodyLength h.read read.0 types h.stop read.1 in
     h.sizes same.1 (read.2 ∙ ap (sum_by body_size) (sym same.0))
 
 header_whole : (bytes types bodies : List ℕ) → HasHeader bytes types bodies → HasNoHeader bytes → ⊥
@@ -115,7 +115,7 @@ header_whole bytes types bodies h n =
     elim n [
       | inl cut ↦ cut_short bytes h.size (types ++ bodies) (length h.size + length types) cut h.header h.whole
       | inr w ↦
-          let same = same_varint (types ++ bodies) w.1 h.header w.4 (sym h.whole ∙ w.3) in
+          let same = varint-same (types ++ bodies) w.1 h.header w.4 (sym h.whole ∙ w.3) in
           let sizes : length h.size ≡ length w.0 = ap length same.0 in
           let header : length h.size + length types ≡ w.2 = same.1 in
           let all : length bytes ≡ length h.size + (length types + length bodies) =
@@ -130,7 +130,7 @@ record_no_fault bytes values fault r h =
     elim h [
       | inl n ↦ header_whole bytes r.types r.bodies own n.1
       | inr f ↦
-          let parts = same_header r.size r.types r.bodies f.2.size f.0 f.1 r.header f.2.header (sym r.whole ∙ f.2.whole) in
+          let parts = header-same r.size r.types r.bodies f.2.size f.0 f.1 r.header f.2.header (sym r.whole ∙ f.2.whole) in
           fields_no_fault f.0 f.1 values fault (subst (λ t. AreFields t f.1 values) parts.1 (subst (λ b. AreFields r.types b values) parts.2 r.fields)) f.3
     ]
 
@@ -143,15 +143,15 @@ same_fault bytes f g h k =
           elim k [
             | inl n ↦ absurd (header_whole bytes v.0 v.1 v.2 n.1)
             | inr w ↦
-                let parts = same_header v.2.size v.0 v.1 w.2.size w.0 w.1 v.2.header w.2.header (sym v.2.whole ∙ w.2.whole) in
-                (same_reading f g v.3.read w.3.read w.0 (subst (After (StopsWith f) v.3.read) parts.1 v.3.stop) w.3.stop).1
+                let parts = header-same v.2.size v.0 v.1 w.2.size w.0 w.1 v.2.header w.2.header (sym v.2.whole ∙ w.2.whole) in
+                (log-same_reading f g v.3.read w.3.read w.0 (subst (After (StopsWith f) v.3.read) parts.1 v.3.stop) w.3.stop).1
           ]
     ]
 
 -- bytes are a record of one list of values, or have one fault
-pub one_answer : (bytes : List ℕ) → IsOne (OrFault (IsRecord bytes) (HasFault bytes))
-one_answer bytes =
+pub answer-one : (bytes : List ℕ) → IsOne (OrFault (IsRecord bytes) (HasFault bytes))
+answer-one bytes =
     OrFault-one (IsRecord bytes) (HasFault bytes)
-    (λ a b r s. (same_record a b bytes bytes [] [] r s refl).0)
+    (λ a b r s. (record-same a b bytes bytes [] [] r s refl).0)
     (same_fault bytes)
     (λ values fault. record_no_fault bytes values fault)

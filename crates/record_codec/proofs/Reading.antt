@@ -1,6 +1,6 @@
 -- What the loops of the reader keep.
 use Rattle.std.proofs.Common.{◌≡◌, ℕ, ◌-◌, ◌<◌, ◌≤◌, ◌⊎◌, List, [], ◌∷◌, ◌++◌, length, take, drop, inl, inr, refl, sym, ◌∙◌, ap, subst, append_assoc, length-append, arith, Option, Some}
-use Rattle.cell_codec.specs.VarintLaws.{spelling_one_to_nine}
+use Rattle.cell_codec.specs.VarintLaws.{spelling-one_to_nine}
 use Rattle.std.proofs.lemmas.List.{nil_from_length, length-take-le, length-drop, take_all, drop-drop, take-append-drop}
 use Rattle.std.proofs.lemmas.List.Sums.{sum_by-cons}
 use Rattle.std.proofs.lemmas.Bool.{cases_lt}
@@ -10,7 +10,7 @@ use Rattle.format_spec.specs.Record.{IsField, AreFields, IsRecord}
 use Rattle.record_codec.specs.declared.read.RecordFault.{RecordFault}
 use Rattle.record_codec.specs.declared.read.RecordFault.TheVariants.{BodyLength}
 use Rattle.record_codec.specs.Faults.{IsMemory, IsReserved, IsValueType, body_size, BeginsWith, After, StopsWith, FieldsHaveFault, HasHeader, HasNoHeader, HasFault}
-use Rattle.record_codec.specs.RecordLaws.{field_size}
+use Rattle.record_codec.specs.RecordLaws.{field-size}
 use Rattle.common_spec.specs.Reading.{Reads, OrNone}
 use Rattle.cell_codec.specs.Varints.{BeginsWithVarint}
 
@@ -32,7 +32,7 @@ one_more_type types rest behind type c s =
 
 -- a varint takes something off the serial types
 pub shorter : (types behind : List ℕ) (type : ℕ) → Splits types type behind → length behind < length types
-shorter types behind type s = omega (arith, ap length s.1.2, length-append s.1.0 behind, spelling_one_to_nine s.1.0 type s.1.1)
+shorter types behind type s = omega (arith, ap length s.1.2, length-append s.1.0 behind, spelling-one_to_nine s.1.0 type s.1.1)
 
 -- the fields that were read stand in front of those of the rest, and the rest has the fault of the whole
 pub record FieldsContinue (types bodies types_left bodies_left : List ℕ) (values : List Value) : Type 0 where
@@ -60,7 +60,7 @@ one_more_field types bodies types_left bodies_left behind rest body values type 
           λ others g.
           subst (AreFields types bodies) (sym (append_assoc values (value ∷ []) others))
           (c.fields (value ∷ others) (type, s.1.0, body, behind, rest, s.1.1, s.1.2, e, f, g));
-      fault = λ fault h. c.fault fault (fault_behind types_left bodies_left behind rest body type fault s e (field_size type body value f) h);
+      fault = λ fault h. c.fault fault (fault_behind types_left bodies_left behind rest body type fault s e (field-size type body value f) h);
     }
 
 -- the serial type at the front has the fault

@@ -64,12 +64,12 @@ int_body_is : (type : ℕ) (z : ℤ) → type < 7 → int_body type z ≡ big_by
 int_body_is type z h = cond-true (ltb type 7) _ _ (lt-ltb type 7 h)
 
 -- types 8 and 9 have none
-pub int_body_none : (type : ℕ) (z : ℤ) → 7 ≤ type → int_body type z ≡ []
-int_body_none type z h = cond-false (ltb type 7) _ _ (le-ltb type 7 h)
+pub int_body-none : (type : ℕ) (z : ℤ) → 7 ≤ type → int_body type z ≡ []
+int_body-none type z h = cond-false (ltb type 7) _ _ (le-ltb type 7 h)
 
 -- an integer in its shortest form is a field
-pub shortest_field : (z : ℤ) → FitsSigned w64 z → IsField (int_type z) (int_body (int_type z) z) (Int z)
-shortest_field z fits =
+pub field-shortest : (z : ℤ) → FitsSigned w64 z → IsField (int_type z) (int_body (int_type z) z) (Int z)
+field-shortest z fits =
     let type = int_type z in
     let f = shortest_form z fits in
     let own : int_body type z ≡ big_bytes (int_size type) (low_bytes w64 (int_size type) z) = int_body_is type z (omega (arith, f.most)) in

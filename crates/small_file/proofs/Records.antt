@@ -5,7 +5,7 @@ use Rattle.std.specs.declared.alloc.AllocError.{AllocError}
 use Rattle.rbu_value.specs.declared.value.Value.{Value}
 use Rattle.rbu_value.specs.declared.value.Value.TheVariants.{Null, Int, Text, Blob}
 use Rattle.format_spec.specs.Record.{body, int_body, int_serial_type, canonical_record}
-use Rattle.record_codec.specs.RecordLaws.{IsStored, HaveRecord, record_size, short_record}
+use Rattle.record_codec.specs.RecordLaws.{IsStored, HaveRecord, record-size, record-short}
 use Rattle.record_codec.specs.declared.read.RecordFault.{RecordFault}
 use Rattle.record_codec.specs.declared.read.RecordFault.TheVariants.{ShortHeader, ReservedType, RealValue, BodyLength, Memory}
 use Rattle.record_codec.specs.Faults.{IsMemory}
@@ -21,19 +21,19 @@ stored (Blob bytes) p h = absurd p
 -- the values of a payload of a page are ones that have a record
 pub have_target : (payload : List ℕ) (value : Value) → length payload ≤ 4096 → IsNullOrText value → payload ≡ canonical_record 4 (target_values value) → HaveRecord 4 (target_values value)
 have_target payload value h p e =
-    let within = record_size 4 (target_values value) in
+    let within = record-size 4 (target_values value) in
     let short : length (canonical_record 4 (target_values value)) ≤ 4096 = omega (arith, ap length e, h) in
     let body_short : length (body 4 value) ≤ 4096 = omega (arith, within, short, length-append (body 4 value) []) in
-    short_record 4 (target_values value) (tt, (stored value p body_short, tt)) (omega (arith, short))
+    record-short 4 (target_values value) (tt, (stored value p body_short, tt)) (omega (arith, short))
 
 pub have_prepared : (payload : List ℕ) (key : ℤ) (value : Value) → length payload ≤ 4096 → FitsSigned w64 key → IsNullOrText value → payload ≡ canonical_record 4 (prepared_values key value)
     → HaveRecord 4 (prepared_values key value)
 have_prepared payload key value h f p e =
     let own = int_body (int_serial_type 4 key) key in
-    let within = record_size 4 (prepared_values key value) in
+    let within = record-size 4 (prepared_values key value) in
     let short : length (canonical_record 4 (prepared_values key value)) ≤ 4096 = omega (arith, ap length e, h) in
     let body_short : length (body 4 value) ≤ 4096 = omega (arith, within, short, length-append own (body 4 value ++ []), length-append (body 4 value) []) in
-    short_record 4 (prepared_values key value) (f, (stored value p body_short, (record { sfits = omega arith }, tt))) (omega (arith, short))
+    record-short 4 (prepared_values key value) (f, (stored value p body_short, (record { sfits = omega arith }, tt))) (omega (arith, short))
 
 -- where they are the values of an insert, these are found
 pub found_values : (r : Option (ℤ × Value)) (items : List Value) (key : ℤ) (value : Value) → IfSome r (λ row. IsNullOrText row.1 × (items ≡ prepared_values row.0 row.1))

@@ -16,8 +16,8 @@ use Rattle.small_file.specs.Files.{payload_of, HasSchema, HoldsTable}
 use Rattle.small_file.proofs.Pages.{cell_length}
 
 -- the bytes of a placed cell have one view
-pub same_view : (page : List ℕ) (cell : PlacedCell) (view : CellView) → length page ≡ 4096 → IsPlaced page cell → IsCell TableLeaf 4096 (cell_of page cell) view → view ≡ cell.view
-same_view page cell view long h w =
+pub view-one : (page : List ℕ) (cell : PlacedCell) (view : CellView) → length page ≡ 4096 → IsPlaced page cell → IsCell TableLeaf 4096 (cell_of page cell) view → view ≡ cell.view
+view-one page cell view long h w =
     let size : view.size ≡ cell.view.size = w.size ∙ cell_length page cell h in
     h.only view (omega (arith, size, h.inside, length-drop cell.place page, long)) (subst (λ n. IsCell TableLeaf 4096 (part_of page cell.place n) view) (sym size) w)
 
@@ -35,7 +35,7 @@ pub record WholeParts (page : List ℕ) (cell : PlacedCell) (rowid : ℤ) (paylo
 pub whole_parts : (page : List ℕ) (cell : PlacedCell) (rowid : ℤ) (payload : List ℕ) → length page ≡ 4096 → IsPlaced page cell → IsWholeCell (cell_of page cell) rowid payload
     → WholeParts page cell rowid payload
 whole_parts page cell rowid payload long h w =
-    let same = same_view page cell w.view long h w.is_cell in
+    let same = view-one page cell w.view long h w.is_cell in
     record {
       rowid_is = ap (λ v. v.rowid) (sym same) ∙ w.rowid_is;
       whole = subst (λ v. v.local ≡ v.payload) same w.whole;

@@ -68,10 +68,10 @@ in_parts page entry place k h l =
     first ∙ ap (λ (x : List ℕ). take entry page ++ x) (second ∙ ap (λ (x : List ℕ). take 2 (drop entry page) ++ x) (third ∙ ap (λ (x : List ℕ). between (entry + 2) place page ++ x) fourth))
 
 -- what two such writes leave of a page
-pub written_cell : (page number cell buf copy : List ℕ) (entry place n k : ℕ) → entry + 2 ≤ place → place + length cell ≤ length page → length number ≡ 2 → n ≡ 2 → k ≡ length cell
+pub cell-written : (page number cell buf copy : List ℕ) (entry place n k : ℕ) → entry + 2 ≤ place → place + length cell ≤ length page → length number ≡ 2 → n ≡ 2 → k ≡ length cell
     → buf ≡ number ++ drop 2 (mid_of entry n page) → copy ≡ cell
     → put_mid place k (put_mid entry n page buf) copy ≡ take entry page ++ (number ++ (between (entry + 2) place page ++ (cell ++ drop (place + length cell) page)))
-written_cell page number cell buf copy entry place n k h l two e f written copied =
+cell-written page number cell buf copy entry place n k h l two e f written copied =
     let size = length cell in
     let none : drop 2 (mid_of entry 2 page) ≡ [] = drop_all 2 (take 2 (drop entry page)) (omega (arith, length-take 2 (drop entry page))) in
     let same : buf ≡ number = written ∙ (ap (λ (m : ℕ). number ++ drop 2 (mid_of entry m page)) e ∙ (ap (λ (x : List ℕ). number ++ x) none ∙ append-nil number)) in

@@ -5,19 +5,19 @@ use Rattle.file_spec.specs.Files.{Files, content}
 use Rattle.format_spec.specs.PageMap.{PageMap, SamePages, file_pages}
 use Rattle.format_spec.specs.PageMapLaws.{SamePages-sym, SamePages-trans}
 use Rattle.format_spec.specs.Log.{Frame, committed, overlay, IsOverlay}
-use Rattle.format_spec.specs.LogLaws.{same_log, same_overlay}
+use Rattle.format_spec.specs.LogLaws.{log-same, overlay-same}
 use Rattle.update_spec.specs.View.{pages_below, IsOverlaidBy, IsView, KeepsView}
 
 -- a file overlaid by a log, or by none, has one list of pages
 same_overlaid : (log : Option (List ℕ)) (file : List ℕ) (a b : PageMap) → IsOverlaidBy log file a → IsOverlaidBy log file b → SamePages a b
 same_overlaid None file a b v w = SamePages-trans a (file_pages file) b (SamePages-sym (file_pages file) a v) w
 same_overlaid (Some log) file a b v w =
-    let one = same_log log v.0 w.0 v.1 w.1 v.2 w.2 in
+    let one = log-same log v.0 w.0 v.1 w.1 v.2 w.2 in
     let size : v.0 ≡ w.0 = one.0 in
     let frames : v.1 ≡ w.1 = one.1 in
     let sized : IsOverlay (pages_below w.0 (committed v.1) file) v.1 a = subst (λ (n : ℕ). IsOverlay (pages_below n (committed v.1) file) v.1 a) size v.3 in
     let framed : IsOverlay (pages_below w.0 (committed w.1) file) w.1 a = subst (λ (f : List Frame). IsOverlay (pages_below w.0 (committed f) file) f a) frames sized in
-    same_overlay (pages_below w.0 (committed w.1) file) w.1 a b framed w.3
+    overlay-same (pages_below w.0 (committed w.1) file) w.1 a b framed w.3
 
 -- what agrees on the pages that matter is as good
 overlaid-same : (log : Option (List ℕ)) (file : List ℕ) (a b : PageMap) → IsOverlaidBy log file a → SamePages a b → IsOverlaidBy log file b
@@ -26,8 +26,8 @@ overlaid-same (Some log) file a b v same =
     (v.0, v.1, v.2, SamePages-trans (overlay (pages_below v.0 (committed v.1) file) v.1) a b v.3 same)
 
 -- the view is one, as far as its pages matter
-pub same_view : (files : Files) (a b : PageMap) → IsView files a → IsView files b → SamePages a b
-same_view files a b v w = same_overlaid (files Wal) (content files Target) a b v w
+pub view-one : (files : Files) (a b : PageMap) → IsView files a → IsView files b → SamePages a b
+view-one files a b v w = same_overlaid (files Wal) (content files Target) a b v w
 
 -- and whatever has these pages is the view
 pub view-same : (files : Files) (a b : PageMap) → IsView files a → SamePages a b → IsView files b

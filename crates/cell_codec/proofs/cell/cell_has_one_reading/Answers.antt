@@ -1,5 +1,5 @@
-use Rattle.cell_codec.specs.CellLaws.{same_cell}
+use Rattle.cell_codec.specs.CellLaws.{cell-same}
 use Rattle.cell_codec.proofs.cell.cell_has_one_reading.Goals as goal
 
 pub returns : goal.returns
-returns c = same_cell
+returns c = cell-same

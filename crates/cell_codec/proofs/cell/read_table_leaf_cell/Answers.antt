@@ -6,7 +6,7 @@ use Rattle.std.specs.Int.RustNames.{FitsSigned}
 use Rattle.format_spec.specs.declared.PageKind.TheVariants.{TableLeaf}
 use Rattle.format_spec.specs.declared.CellView.{CellView}
 use Rattle.cell_codec.specs.Cells.{part_size, IsLocalPart}
-use Rattle.cell_codec.specs.CellLaws.{same_first_cell}
+use Rattle.cell_codec.specs.CellLaws.{cell-same_first}
 use Rattle.cell_codec.proofs.CellReading.{varint_is, varint_at, begins_with_none, BeginsWithNone, begins_with_no_length, part_is, none_is, no_payload, no_rowid, not_over, too_short, cell_read}
 use Rattle.cell_codec.proofs.cell.read_table_leaf_cell.Goals as goal
 
@@ -52,6 +52,6 @@ returns c =
     let found = cell_read c.args.usable bytes payload i number j (cast_signed w64 (cast_unsigned w64 c.cast_signed.result)) part v w c.in_ok-payload.ensures.found.2 (to_z-of_z w64 c.cast_signed.result fits ∙ c.cast_signed.ensures) part_found in
     record {
       found = found;
-      only = λ other h. ap (λ (d : CellView). Ok d) (same_first_cell TableLeaf c.args.usable bytes _ other found h);
+      only = λ other h. ap (λ (d : CellView). Ok d) (cell-same_first TableLeaf c.args.usable bytes _ other found h);
       over = (λ e. absurd (cc), λ h. absurd (not_over bytes payload i v c.in_ok-payload.ensures.found.2 h));
     }

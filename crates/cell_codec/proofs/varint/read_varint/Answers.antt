@@ -3,7 +3,7 @@ use Rattle.format_spec.specs.Varint.{IsVarint}
 use Rattle.common_spec.specs.ReadingLaws.{OrNone-reads}
 use Rattle.cell_codec.specs.Varints.{BeginsWithVarint}
 use Rattle.cell_codec.proofs.Reading.{IsHighFront, high_below, one_more, spelled, only_found, never_none, only_none, always_none}
-use Rattle.cell_codec.specs.VarintLaws.{last_weight_short}
+use Rattle.cell_codec.specs.VarintLaws.{last_weight-short}
 use Rattle.cell_codec.proofs.varint.read_varint.Goals as goal
 
 pub overflow_mul-result : goal.overflow_mul-result
@@ -35,7 +35,7 @@ returns-then-byte-lt128 c =
     let bytes = c.args.bytes.now in
     let i = c.loop-i.i in
     let within : i < length bytes = c.in_ok-byte.ensures.lookup.3.0 in
-    let weight = last_weight_short i (omega arith) in
+    let weight = last_weight-short i (omega arith) in
     let found : IsVarint (take (i + 1) bytes) (c.loop-i.high * 128 + c.from.result) =
     rw (← weight, c.from.ensures) (spelled bytes i c.loop-i.high c.in_ok-byte.field-0.now c.loop-i.invariant (omega arith) within (c.in_ok-byte.ensures.lookup.3.1 0) (omega (arith, weight))) in
     record {

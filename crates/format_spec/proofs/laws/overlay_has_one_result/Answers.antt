@@ -1,5 +1,5 @@
-use Rattle.format_spec.specs.LogLaws.{same_overlay}
+use Rattle.format_spec.specs.LogLaws.{overlay-same}
 use Rattle.format_spec.proofs.laws.overlay_has_one_result.Goals as goal
 
 pub returns : goal.returns
-returns c = same_overlay
+returns c = overlay-same

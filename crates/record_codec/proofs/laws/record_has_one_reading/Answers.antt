@@ -1,5 +1,5 @@
-use Rattle.record_codec.specs.RecordLaws.{same_record}
+use Rattle.record_codec.specs.RecordLaws.{record-same}
 use Rattle.record_codec.proofs.laws.record_has_one_reading.Goals as goal
 
 pub returns : goal.returns
-returns c = λ a b bytes others x y r s e. same_record a b bytes others x y r s e
+returns c = λ a b bytes others x y r s e. record-same a b bytes others x y r s e

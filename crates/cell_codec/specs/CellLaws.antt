@@ -14,7 +14,7 @@ use Rattle.format_spec.specs.declared.CellView.{CellView}
 use Rattle.format_spec.specs.Varint.{varint}
 use Rattle.byte_fields.specs.BytesLaws.{append-same}
 use Rattle.format_spec.specs.Cell.{IsCell, IsTableLeafCell, IsTableInteriorCell, IsIndexCell, payload_limit, max_local, min_local, fitted_local, local_size, child_size, overflow_size, cell_bytes, index_cell_bytes, table_leaf_cell}
-use Rattle.cell_codec.specs.VarintLaws.{spelling-one_to_nine, varint-same, varint-spells}
+use Rattle.cell_codec.specs.VarintLaws.{spelling-one_to_nine, varint-same, varint_spells}
 use Rattle.cell_codec.specs.Cells.{BeginsWithCell, IsWritable, whole_cell, interior_cell, whole_index_cell}
 
 regroup : (a b c d x : List ℕ) → (a ++ (b ++ (c ++ d))) ++ x ≡ a ++ (b ++ (c ++ (d ++ x)))
@@ -134,23 +134,23 @@ cell-parts usable bytes cell v =
     omega (arith, v.size, ap length v.whole, length-append v.payload_bytes (v.rowid_bytes ++ (v.local_bytes ++ v.overflow_bytes)), length-append v.rowid_bytes (v.local_bytes ++ v.overflow_bytes), length-append v.local_bytes v.overflow_bytes, v.local_at, v.local_length, v.overflow_length)
 
 -- how long the shortest spelling is
-pub cell_bytes-size : (cell : CellView) (local : List ℕ) → length (cell_bytes TableLeaf cell local) ≡ length (varint cell.payload) + length (varint (cast_unsigned w64 cell.rowid)) + length local + overflow_size cell.local cell.payload
+pub cell_bytes_size : (cell : CellView) (local : List ℕ) → length (cell_bytes TableLeaf cell local) ≡ length (varint cell.payload) + length (varint (cast_unsigned w64 cell.rowid)) + length local + overflow_size cell.local cell.payload
 unfolding cell_bytes
-cell_bytes-size cell local =
+cell_bytes_size cell local =
     let p = varint cell.payload in
     let q = varint (cast_unsigned w64 cell.rowid) in
     let o = big_bytes (overflow_size cell.local cell.payload) cell.overflow in
     omega (arith, length-append p (q ++ (local ++ o)), length-append q (local ++ o), length-append local o, length-bytes_high_first (overflow_size cell.local cell.payload) cell.overflow)
 
 -- on a table interior page
-pub table_interior_cell_bytes-size : (cell : CellView) (local : List ℕ) → length (cell_bytes TableInterior cell local) ≡ 4 + length (varint (cast_unsigned w64 cell.rowid))
+pub table_interior_cell_bytes_size : (cell : CellView) (local : List ℕ) → length (cell_bytes TableInterior cell local) ≡ 4 + length (varint (cast_unsigned w64 cell.rowid))
 unfolding cell_bytes
-table_interior_cell_bytes-size cell local = omega (arith, length-append (big_bytes 4 cell.child) (varint (cast_unsigned w64 cell.rowid)), length-bytes_high_first 4 cell.child)
+table_interior_cell_bytes_size cell local = omega (arith, length-append (big_bytes 4 cell.child) (varint (cast_unsigned w64 cell.rowid)), length-bytes_high_first 4 cell.child)
 
 -- and on an index page
-pub index_cell_bytes-size : (kind : PageKind) (cell : CellView) (local : List ℕ) → length (index_cell_bytes kind cell local) ≡ child_size kind + length (varint cell.payload) + length local + overflow_size cell.local cell.payload
+pub index_cell_bytes_size : (kind : PageKind) (cell : CellView) (local : List ℕ) → length (index_cell_bytes kind cell local) ≡ child_size kind + length (varint cell.payload) + length local + overflow_size cell.local cell.payload
 unfolding index_cell_bytes
-index_cell_bytes-size kind cell local =
+index_cell_bytes_size kind cell local =
     let c = big_bytes (child_size kind) cell.child in
     let p = varint cell.payload in
     let o = big_bytes (overflow_size cell.local cell.payload) cell.overflow in
@@ -161,13 +161,13 @@ pub table_interior_cell-is : (cell : CellView) (local : List ℕ) → cell_bytes
 unfolding cell_bytes
 table_interior_cell-is cell local = refl
 
-pub index_leaf_cell-is : (cell : CellView) (local : List ℕ) → cell_bytes IndexLeaf cell local ≡ index_cell_bytes IndexLeaf cell local
+pub index_leaf_cell_is : (cell : CellView) (local : List ℕ) → cell_bytes IndexLeaf cell local ≡ index_cell_bytes IndexLeaf cell local
 unfolding cell_bytes
-index_leaf_cell-is cell local = refl
+index_leaf_cell_is cell local = refl
 
-pub index_interior_cell-is : (cell : CellView) (local : List ℕ) → cell_bytes IndexInterior cell local ≡ index_cell_bytes IndexInterior cell local
+pub index_interior_cell_is : (cell : CellView) (local : List ℕ) → cell_bytes IndexInterior cell local ≡ index_cell_bytes IndexInterior cell local
 unfolding cell_bytes
-index_interior_cell-is cell local = refl
+index_interior_cell_is cell local = refl
 
 rowid_fits : (rowid : ℤ) → FitsSigned w64 rowid → cast_unsigned w64 rowid < 2 ^ 64
 rowid_fits rowid h = omega (arith, ints)
@@ -193,9 +193,9 @@ written_table_leaf_cell usable cell local w =
       local_bytes = local;
       overflow_bytes = big_bytes n cell.overflow;
       whole = refl;
-      payload = varint-spells cell.payload (omega (arith, w.limit));
+      payload = varint_spells cell.payload (omega (arith, w.limit));
       limit = w.limit;
-      rowid_varint = varint-spells number (rowid_fits cell.rowid w.rowid);
+      rowid_varint = varint_spells number (rowid_fits cell.rowid w.rowid);
       rowid = sym (to_z-of_z w64 cell.rowid w.rowid);
       local_at = w.local_at;
       local = w.local;
@@ -219,7 +219,7 @@ written_table_interior_cell usable cell local w =
       whole = refl;
       child_length = length-bytes_high_first 4 cell.child;
       child = number_read 4 cell.child w.child;
-      rowid_varint = varint-spells number (rowid_fits cell.rowid w.rowid);
+      rowid_varint = varint_spells number (rowid_fits cell.rowid w.rowid);
       rowid = sym (to_z-of_z w64 cell.rowid w.rowid);
       payload = none;
       local_at = w.local_at;
@@ -249,7 +249,7 @@ written_index_cell kind usable cell local w child rowid at size =
       whole = refl;
       child_length = length-bytes_high_first m cell.child;
       child = number_read m cell.child (child_fits kind cell.child w.child child);
-      payload = varint-spells cell.payload (omega (arith, w.limit));
+      payload = varint_spells cell.payload (omega (arith, w.limit));
       limit = w.limit;
       local_at = at ∙ ap (λ k. k + length (varint cell.payload)) (sym (length-bytes_high_first m cell.child));
       local = w.local;
@@ -311,14 +311,14 @@ interior_cell-writable usable child rowid h r =
       no_overflow = λ _. refl;
       lacked = refl;
       local_at = refl;
-      size = sym (table_interior_cell_bytes-size (interior_cell child rowid) []);
+      size = sym (table_interior_cell_bytes_size (interior_cell child rowid) []);
     }
 
 whole_index_size : (kind : PageKind) (child : ℕ) (payload : List ℕ) → (whole_index_cell kind child payload).size ≡ length (index_cell_bytes kind (whole_index_cell kind child payload) payload)
 whole_index_size kind child payload =
     let n = length payload in
     let none : overflow_size n n ≡ 0 = ap (λ b. cond b 4 0) (le-ltb n n (omega arith)) in
-    omega (arith, none, index_cell_bytes-size kind (whole_index_cell kind child payload) payload)
+    omega (arith, none, index_cell_bytes_size kind (whole_index_cell kind child payload) payload)
 
 -- views of payloads that lie whole in the cells of an index
 pub whole_index_leaf_cell-writable : (usable : ℕ) (payload : List ℕ) → length payload ≤ max_local IndexLeaf usable → length payload ≤ payload_limit → IsWritable IndexLeaf usable (whole_index_cell IndexLeaf 0 payload) payload
@@ -333,7 +333,7 @@ whole_index_leaf_cell-writable usable payload h l =
       no_overflow = λ _. refl;
       lacked = (refl, refl);
       local_at = omega arith;
-      size = whole_index_size IndexLeaf 0 payload ∙ sym (ap length (index_leaf_cell-is (whole_index_cell IndexLeaf 0 payload) payload));
+      size = whole_index_size IndexLeaf 0 payload ∙ sym (ap length (index_leaf_cell_is (whole_index_cell IndexLeaf 0 payload) payload));
     }
 
 pub whole_index_interior_cell-writable : (usable child : ℕ) (payload : List ℕ) → child < 2 ^ 32 → length payload ≤ max_local IndexInterior usable → length payload ≤ payload_limit
@@ -349,7 +349,7 @@ whole_index_interior_cell-writable usable child payload c h l =
       no_overflow = λ _. refl;
       lacked = refl;
       local_at = refl;
-      size = whole_index_size IndexInterior child payload ∙ sym (ap length (index_interior_cell-is (whole_index_cell IndexInterior child payload) payload));
+      size = whole_index_size IndexInterior child payload ∙ sym (ap length (index_interior_cell_is (whole_index_cell IndexInterior child payload) payload));
     }
 
 -- the payload lies in it
@@ -398,9 +398,9 @@ max_local-room IndexLeaf usable h = omega arith
 max_local-room IndexInterior usable h = omega arith
 
 -- a cell keeps no more than its payload has
-pub local_size-within : (kind : PageKind) (usable payload : ℕ) → local_size kind usable payload ≤ payload
-local_size-within kind usable payload = size_within usable payload (max_local kind usable) (min_local-below_max kind usable)
+pub local_size_within : (kind : PageKind) (usable payload : ℕ) → local_size kind usable payload ≤ payload
+local_size_within kind usable payload = size_within usable payload (max_local kind usable) (min_local-below_max kind usable)
 
 -- and no more than a page has room for
-pub local_size-room : (kind : PageKind) (usable payload : ℕ) → 480 ≤ usable → local_size kind usable payload + 35 ≤ usable
-local_size-room kind usable payload h = size_room usable payload (max_local kind usable) (min_local-below_max kind usable) (max_local-room kind usable h)
+pub local_size_room : (kind : PageKind) (usable payload : ℕ) → 480 ≤ usable → local_size kind usable payload + 35 ≤ usable
+local_size_room kind usable payload h = size_room usable payload (max_local kind usable) (min_local-below_max kind usable) (max_local-room kind usable h)

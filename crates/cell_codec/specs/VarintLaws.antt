@@ -157,16 +157,16 @@ last_weight_positive : (n : ℕ) → 0 < last_weight n
 last_weight_positive n = grind (arith, nat_tests)
 
 -- the shortest spelling has one byte more
-pub varint-size : (x : ℕ) → length (varint x) ≡ varint_front x + 1
+pub varint_size : (x : ℕ) → length (varint x) ≡ varint_front x + 1
 unfolding varint
-varint-size x =
+varint_size x =
     let w = last_weight (varint_front x) in
     omega (arith, length_push (groups (varint_front x) (x / w)) (x % w), length-groups (varint_front x) (x / w))
 
 -- the shortest spelling spells the number
-pub varint-spells : (x : ℕ) → x < 2 ^ 64 → IsVarint (varint x) x
+pub varint_spells : (x : ℕ) → x < 2 ^ 64 → IsVarint (varint x) x
 unfolding varint
-varint-spells x top =
+varint_spells x top =
     let f = varint_front x in
     let w = last_weight f in
     let fits = front_fits x top in
@@ -185,8 +185,8 @@ varint-spells x top =
     }
 
 -- no spelling of the number is shorter
-pub varint-shortest : (x : ℕ) (bytes : List ℕ) → x < 2 ^ 64 → IsVarint bytes x → length (varint x) ≤ length bytes
-varint-shortest x bytes top v =
+pub varint_shortest : (x : ℕ) (bytes : List ℕ) → x < 2 ^ 64 → IsVarint bytes x → length (varint x) ≤ length bytes
+varint_shortest x bytes top v =
     let k = length v.front in
     let size : length bytes ≡ k + 1 = ap length v.whole ∙ length_push v.front v.last in
     elim (cases_lt k (varint_front x)) [
@@ -200,12 +200,12 @@ varint-shortest x bytes top v =
           let below = groups_value-lt v.front v.high in
           let more : 128 ^ k * 128 ≤ 128 ^ varint_front x = subst (λ (p : ℕ). p ≤ 128 ^ varint_front x) (pow-suc 128 k) (pow-le-pow_right (lit< tt) (omega arith)) in
           absurd (omega arith)
-      | inr enough ↦ omega (arith, varint-size x)
+      | inr enough ↦ omega (arith, varint_size x)
     ]
 
 -- one to nine bytes
 pub varint-one_to_nine : (x : ℕ) → x < 2 ^ 64 → (1 ≤ length (varint x)) × (length (varint x) ≤ 9)
-varint-one_to_nine x top = (omega (arith, varint-size x), omega (arith, varint-size x, varint_front-most x top))
+varint-one_to_nine x top = (omega (arith, varint_size x), omega (arith, varint_size x, varint_front-most x top))
 
 -- any spelling has one to nine bytes
 pub spelling-one_to_nine : (bytes : List ℕ) (x : ℕ) → IsVarint bytes x → (1 ≤ length bytes) × (length bytes ≤ 9)

@@ -11,7 +11,7 @@ use Rattle.rbu_value.specs.declared.value.Value.{Value}
 use Rattle.rbu_value.specs.declared.value.Value.TheVariants.{Null, Int, Text, Blob}
 use Rattle.format_spec.specs.Varint.{IsVarint, varint, varint_front}
 use Rattle.format_spec.specs.Record.{int_type, int_size, int_body, serial_type, body, header_size_bytes, serial_types, record_header, canonical_record, IsField, AreFields, IsRecord}
-use Rattle.cell_codec.specs.VarintLaws.{varint-same, spelling-one_to_nine, varint-size, varint-spells, varint-one_to_nine}
+use Rattle.cell_codec.specs.VarintLaws.{varint-same, spelling-one_to_nine, varint_size, varint_spells, varint-one_to_nine}
 use Rattle.byte_fields.specs.BytesLaws.{append-same}
 use Rattle.record_codec.specs.Faults.{body_size}
 pub use Rattle.record_codec.specs.Records.{IsStored, HaveRecord}
@@ -152,7 +152,7 @@ canonical_fields format (value ∷ values) s = (
   body format value,
   serial_types format values,
   flat_map (body format) values,
-  varint-spells (serial_type format value) (serial_type_fits format value s.0),
+  varint_spells (serial_type format value) (serial_type_fits format value s.0),
   refl,
   refl,
   canonical_field format value s.0,
@@ -170,15 +170,15 @@ front_between x = (λ h. grind (arith, nat_tests), λ h k. grind (arith, nat_tes
 size_takes : (n : ℕ) → SizeTakes n (header_size_bytes n)
 unfolding SizeTakes
 size_takes n =
-    cond_both (ltb (n + 1) (2 ^ 7)) 1 _ (SizeTakes n) (λ h. omega (arith, varint-size (n + 1), (front_between (n + 1)).0 (ltb-true (n + 1) (2 ^ 7) h))) (λ h1.
-    cond_both (ltb (n + 2) (2 ^ 14)) 2 _ (SizeTakes n) (λ h. omega (arith, varint-size (n + 2), (front_between (n + 2)).1 (omega (arith, ltb-false (n + 1) (2 ^ 7) h1)) (ltb-true (n + 2) (2 ^ 14) h))) (λ h2.
-    cond_both (ltb (n + 3) (2 ^ 21)) 3 _ (SizeTakes n) (λ h. omega (arith, varint-size (n + 3), (front_between (n + 3)).2 (omega (arith, ltb-false (n + 2) (2 ^ 14) h2)) (ltb-true (n + 3) (2 ^ 21) h))) (λ h3.
-    cond_both (ltb (n + 4) (2 ^ 28)) 4 _ (SizeTakes n) (λ h. omega (arith, varint-size (n + 4), (front_between (n + 4)).3 (omega (arith, ltb-false (n + 3) (2 ^ 21) h3)) (ltb-true (n + 4) (2 ^ 28) h))) (λ h4.
-    cond_both (ltb (n + 5) (2 ^ 35)) 5 _ (SizeTakes n) (λ h. omega (arith, varint-size (n + 5), (front_between (n + 5)).4 (omega (arith, ltb-false (n + 4) (2 ^ 28) h4)) (ltb-true (n + 5) (2 ^ 35) h))) (λ h5.
-    cond_both (ltb (n + 6) (2 ^ 42)) 6 _ (SizeTakes n) (λ h. omega (arith, varint-size (n + 6), (front_between (n + 6)).5 (omega (arith, ltb-false (n + 5) (2 ^ 35) h5)) (ltb-true (n + 6) (2 ^ 42) h))) (λ h6.
-    cond_both (ltb (n + 7) (2 ^ 49)) 7 _ (SizeTakes n) (λ h. omega (arith, varint-size (n + 7), (front_between (n + 7)).6 (omega (arith, ltb-false (n + 6) (2 ^ 42) h6)) (ltb-true (n + 7) (2 ^ 49) h))) (λ h7.
-    cond_both (ltb (n + 8) (2 ^ 56)) 8 9 (SizeTakes n) (λ h. omega (arith, varint-size (n + 8), (front_between (n + 8)).7 (omega (arith, ltb-false (n + 7) (2 ^ 49) h7)) (ltb-true (n + 8) (2 ^ 56) h))) (λ h8.
-    omega (arith, varint-size (n + 9), (front_between (n + 9)).8 (omega (arith, ltb-false (n + 8) (2 ^ 56) h8)))))))))))
+    cond_both (ltb (n + 1) (2 ^ 7)) 1 _ (SizeTakes n) (λ h. omega (arith, varint_size (n + 1), (front_between (n + 1)).0 (ltb-true (n + 1) (2 ^ 7) h))) (λ h1.
+    cond_both (ltb (n + 2) (2 ^ 14)) 2 _ (SizeTakes n) (λ h. omega (arith, varint_size (n + 2), (front_between (n + 2)).1 (omega (arith, ltb-false (n + 1) (2 ^ 7) h1)) (ltb-true (n + 2) (2 ^ 14) h))) (λ h2.
+    cond_both (ltb (n + 3) (2 ^ 21)) 3 _ (SizeTakes n) (λ h. omega (arith, varint_size (n + 3), (front_between (n + 3)).2 (omega (arith, ltb-false (n + 2) (2 ^ 14) h2)) (ltb-true (n + 3) (2 ^ 21) h))) (λ h3.
+    cond_both (ltb (n + 4) (2 ^ 28)) 4 _ (SizeTakes n) (λ h. omega (arith, varint_size (n + 4), (front_between (n + 4)).3 (omega (arith, ltb-false (n + 3) (2 ^ 21) h3)) (ltb-true (n + 4) (2 ^ 28) h))) (λ h4.
+    cond_both (ltb (n + 5) (2 ^ 35)) 5 _ (SizeTakes n) (λ h. omega (arith, varint_size (n + 5), (front_between (n + 5)).4 (omega (arith, ltb-false (n + 4) (2 ^ 28) h4)) (ltb-true (n + 5) (2 ^ 35) h))) (λ h5.
+    cond_both (ltb (n + 6) (2 ^ 42)) 6 _ (SizeTakes n) (λ h. omega (arith, varint_size (n + 6), (front_between (n + 6)).5 (omega (arith, ltb-false (n + 5) (2 ^ 35) h5)) (ltb-true (n + 6) (2 ^ 42) h))) (λ h6.
+    cond_both (ltb (n + 7) (2 ^ 49)) 7 _ (SizeTakes n) (λ h. omega (arith, varint_size (n + 7), (front_between (n + 7)).6 (omega (arith, ltb-false (n + 6) (2 ^ 42) h6)) (ltb-true (n + 7) (2 ^ 49) h))) (λ h7.
+    cond_both (ltb (n + 8) (2 ^ 56)) 8 9 (SizeTakes n) (λ h. omega (arith, varint_size (n + 8), (front_between (n + 8)).7 (omega (arith, ltb-false (n + 7) (2 ^ 49) h7)) (ltb-true (n + 8) (2 ^ 56) h))) (λ h8.
+    omega (arith, varint_size (n + 9), (front_between (n + 9)).8 (omega (arith, ltb-false (n + 8) (2 ^ 56) h8)))))))))))
 
 -- the size of a header says so
 pub header-size : (n : ℕ) → length (varint (n + header_size_bytes n)) ≡ header_size_bytes n
@@ -212,9 +212,9 @@ record-size format values =
     omega (arith, length-append (size ++ types) (flat_map (body format) values), length-append size types)
 
 -- the canonical record of values is a record of them
-pub canonical_record-read : (format : ℕ) (values : List Value) → HaveRecord format values → IsRecord (canonical_record format values) values
+pub canonical_record_read : (format : ℕ) (values : List Value) → HaveRecord format values → IsRecord (canonical_record format values) values
 unfolding canonical_record
-canonical_record-read format values h =
+canonical_record_read format values h =
     let types = serial_types format values in
     let n = length types in
     let k = header_size_bytes n in
@@ -226,14 +226,14 @@ canonical_record-read format values h =
       types = types;
       bodies = flat_map (body format) values;
       whole = append_assoc size types (flat_map (body format) values);
-      header = subst (IsVarint size) (omega (arith, takes)) (varint-spells (n + k) most);
+      header = subst (IsVarint size) (omega (arith, takes)) (varint_spells (n + k) most);
       fields = canonical_fields format values h.stored;
     }
 
 -- no canonical record begins another
 pub canonical_record-apart : (format : ℕ) (a b : List Value) (x y : List ℕ) → HaveRecord format a → HaveRecord format b → canonical_record format a ++ x ≡ canonical_record format b ++ y → (a ≡ b) × (x ≡ y)
 canonical_record-apart format a b x y h k e =
-    let same = record-same a b (canonical_record format a) (canonical_record format b) x y (canonical_record-read format a h) (canonical_record-read format b k) e in
+    let same = record-same a b (canonical_record format a) (canonical_record format b) x y (canonical_record_read format a h) (canonical_record_read format b k) e in
     (same.0, append_cancel_left (canonical_record format a) x y (e ∙ ap (λ s. s ++ y) (sym same.1)))
 
 -- the header is shorter than its record

@@ -13,8 +13,8 @@ use Rattle.format_spec.specs.Varint.{varint, varint_front}
 use Rattle.format_spec.specs.Record.{body, canonical_record, serial_type, header_size_bytes, serial_types}
 use Rattle.format_spec.specs.Page.{IsPage, packed_leaf}
 use Rattle.cell_codec.specs.Cells.{whole_cell}
-use Rattle.cell_codec.specs.VarintLaws.{varint-size}
-use Rattle.cell_codec.specs.CellLaws.{whole_cell-read, whole_cell-payload, cell-parts, local_at-bounds, local_size-room}
+use Rattle.cell_codec.specs.VarintLaws.{varint_size}
+use Rattle.cell_codec.specs.CellLaws.{whole_cell-read, whole_cell-payload, cell-parts, local_at-bounds, local_size_room}
 use Rattle.record_codec.specs.RecordLaws.{header-size, header_size_bytes-grows, record-size}
 use Rattle.small_spec.specs.declared.TargetRow.{TargetRow}
 use Rattle.small_spec.specs.declared.PreparedRow.{PreparedRow}
@@ -33,13 +33,13 @@ use Rattle.small_update.proofs.FirstPage.{length-new_first_page, number_at-new_f
 -- a record that lies in its cell whole is short
 record_within : (cell : List ℕ) (rowid : ℤ) (values : List Value) → IsRowCell cell rowid values → length (canonical_record 4 values) + 35 ≤ 4096
 record_within cell rowid values row =
-    let within = local_size-room TableLeaf 4096 row.view.payload (omega arith) in
+    let within = local_size_room TableLeaf 4096 row.view.payload (omega arith) in
     let local = row.is_cell.local in
     omega (arith, ap length row.payload_is, length-take row.view.local (drop row.view.local_at cell), within, local)
 
 zero_byte : length (varint 0) ≡ 1
 unfolding varint_front
-zero_byte = varint-size 0
+zero_byte = varint_size 0
 
 -- the record of NULL and a value is no longer than one of three values with it
 shorter_record : (x value z : Value) → length (canonical_record 4 (x ∷ value ∷ z ∷ [])) ≤ 4096
@@ -60,7 +60,7 @@ shorter_record x value z small =
       length-append t [],
       length-append (varint (serial_type 4 x)) (t ++ (last ++ [])),
       length-append t (last ++ []),
-      varint-size (serial_type 4 x),
+      varint_size (serial_type 4 x),
       zero_byte,
     ) in
     let most : three ≤ 4096 = omega (arith, other, small) in
@@ -91,12 +91,12 @@ leaf_cell row r =
     let view = is_row.view in
     let types : List ℕ = varint 0 ++ (varint (serial_type 4 value) ++ []) in
     let size = record-size 4 values in
-    let front = varint-size (length types + header_size_bytes (length types)) in
+    let front = varint_size (length types + header_size_bytes (length types)) in
     let within : length (canonical_record 4 values) ≤ view.local = omega (arith, ap length is_row.payload_is, length-take view.local (drop view.local_at row.cell)) in
     let parts = cell-parts 4096 row.cell view is_row.is_cell in
     let at = local_at-bounds 4096 row.cell view is_row.is_cell in
     let all = is_row.is_cell.size in
-    let some : 1 ≤ length types = omega (arith, length-append (varint 0) (varint (serial_type 4 value) ++ []), varint-size 0) in
+    let some : 1 ≤ length types = omega (arith, length-append (varint 0) (varint (serial_type 4 value) ++ []), varint_size 0) in
     ((view, is_row.is_cell), omega (arith, size, front, within, parts, at.0, all, some))
 
 -- cells and their rows, one by one

@@ -2,7 +2,7 @@ use Rattle.std.proofs.Common.{◌≡◌, ◌+◌, ◌-◌, ◌/◌, ◌%◌, set
 use Rattle.std.proofs.lemmas.List.{length-set}
 use Rattle.std.proofs.lemmas.Bool.Decides.{nat_tests}
 use Rattle.format_spec.specs.Varint.{last_weight}
-use Rattle.cell_codec.specs.VarintLaws.{varint-size}
+use Rattle.cell_codec.specs.VarintLaws.{varint_size}
 use Rattle.cell_codec.proofs.Writing.{IsWrittenFrom, nothing_written, one_more_written, all_written}
 use Rattle.cell_codec.proofs.varint.write_varint.Goals as goal
 use Rattle.cell_codec.proofs.varint.write_varint.Goals.{then-front-eq8, else-front-eq8}
@@ -21,7 +21,7 @@ loop-i-preserved c =
     (subst (λ i. IsWrittenFrom first c.loop-i.into front number i c.loop-i.high) at c.loop-i.invariant) (omega (arith, length-set c.args.into.now front (c.args.value % c.if-front-eq8.weight)))
 
 pub returns-clause-length : goal.returns-clause-length
-returns-clause-length c = omega (arith, varint-size c.args.value)
+returns-clause-length c = omega (arith, varint_size c.args.value)
 
 pub returns-clause-written : goal.returns-clause-written
 returns-clause-written c =

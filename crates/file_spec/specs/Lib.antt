@@ -4,3 +4,10 @@ pub mod Names
 pub mod Faults
 pub mod FaultsLaws
 pub mod OnlyChangesLaws
+pub mod Records
+pub mod Trails
+pub mod Steps
+pub mod RecordsLaws
+pub mod TrailsLaws
+pub mod StepsLaws
+pub mod ShownLaws

@@ -4,9 +4,12 @@
 //!
 //! - `Files`: the files as a map from names to bytes, and what each call that ends well leaves;
 //! - `Names`: how files and calls are printed;
-//! - `Faults`: what a call that fails leaves.
+//! - `Faults`: what a call that fails leaves;
+//! - `Records`: what a disk keeps of its files, and the images that a crash may leave of it;
+//! - `Trails`: the moments of a disk, and the images since one of them;
+//! - `Steps`: what each call makes of the record and of the trail.
 //!
-//! `FilesLaws` and `FaultsLaws` say what follows from them.
+//! The modules of laws beside them say what follows: the rules of a crash are promised by the functions of `crash_laws`.
 #![tactic(auto)]
 
 ghost use Rattle.std.specs.Prelude.{◌≡◌, ◌≤◌, ◌++◌, length, List, ℕ, Option};
@@ -106,6 +109,16 @@ pub fn steps_join()
         Leads (λ f g. g ≡ k (h f)) a c }
 {}
 
+mod crash_laws;
+mod crash_worked;
 mod worked;
 
+pub use crash_laws::{
+    crash_leaves_one_image, failed_calls_leave, names_are_of_one_moment,
+    pending_ranges_hold_any_bytes, records_show_files, syncs_make_stable, trails_go_on,
+};
+pub use crash_worked::{
+    worked_create_and_rename, worked_cut_and_growth, worked_failed_names, worked_failed_write,
+    worked_write_over, worked_write_past_end,
+};
 pub use worked::{worked_faults, worked_names, worked_steps};

@@ -109,6 +109,7 @@ module _ (page : List ℕ) (number usable : ℕ) (whole : usable ≤ length page
     where
       size : (k : ℕ) (d : CellView) → k < length has.cells → (get_or views k d).size ≡ length (get_or has.cells k [])
       size k d low = view-size has.kind usable (get_or has.cells k []) (get_or views k d) (has.each k d low)
+
       at : (k : ℕ) (d : CellView) → k < length has.cells → IsViewAt page number usable has.kind (length has.cells) k (get_or views k d)
       at k d low =
           let was = has.is_page.each k low in
@@ -182,8 +183,11 @@ module _ (page : List ℕ) (number usable : ℕ) (whole : usable ≤ length page
       up_to (suc n) fits =
           let before = up_to n (omega arith) in
           let at = is.each n (omega arith) in
-          let long : length (before.0 ++ at.view ∷ []) ≡ suc n = omega (arith, length_push before.0 at.view, before.1) in
-          (before.0 ++ at.view ∷ [], long, λ k d low. push_all (λ (j : ℕ) (v : CellView). IsCell kind usable (get_or cells j []) v) before.0 at.view
-          (λ j e small. before.2 j e (omega (arith, small, before.1)))
-          (subst⁻¹ (λ (j : ℕ). IsCell kind usable (get_or cells j []) at.view) before.1 at.is_cell)
-          k d (omega (arith, low, long)))
+          let long : length (before.0 ++ at.view ∷ []) ≡ suc n = omega (arith, length_push before.0 at.view, before.1) in (
+            before.0 ++ at.view ∷ [],
+            long,
+            λ k d low. push_all (λ (j : ℕ) (v : CellView). IsCell kind usable (get_or cells j []) v) before.0 at.view
+                (λ j e small. before.2 j e (omega (arith, small, before.1)))
+                (subst⁻¹ (λ (j : ℕ). IsCell kind usable (get_or cells j []) at.view) before.1 at.is_cell)
+                k d (omega (arith, low, long)),
+          )

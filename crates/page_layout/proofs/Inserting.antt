@@ -120,14 +120,14 @@ module _ (old new : List ℕ) (number usable : ℕ) (kind : PageKind) (cells : L
         | inl below ↦ stands_kept k k (kept_below k below)
         | inr not_below ↦ elim (cases_lt at k) [
           | inl above ↦
-            let i = k - 1 in
-            let k_is : i + 1 ≡ k = omega arith in
-            let P : ℕ → Type 0 = λ n. IsCellAt new number usable kind (length cells + 1) n (slice_index_or others n []) in
-            subst P k_is (stands_kept (i + 1) i (kept_above i (omega arith) (omega arith)))
+              let i = k - 1 in
+              let k_is : i + 1 ≡ k = omega arith in
+              let P : ℕ → Type 0 = λ n. IsCellAt new number usable kind (length cells + 1) n (slice_index_or others n []) in
+              subst P k_is (stands_kept (i + 1) i (kept_above i (omega arith) (omega arith)))
           | inr not_above ↦
-            let at_is : at ≡ k = omega arith in
-            let P : ℕ → Type 0 = λ n. IsCellAt new number usable kind (length cells + 1) n (slice_index_or others n []) in
-            subst P at_is stands_here
+              let at_is : at ≡ k = omega arith in
+              let P : ℕ → Type 0 = λ n. IsCellAt new number usable kind (length cells + 1) n (slice_index_or others n []) in
+              subst P at_is stands_here
         ]
       ]
 
@@ -161,10 +161,10 @@ module _ (old new : List ℕ) (number usable : ℕ) (kind : PageKind) (cells : L
         | inl below ↦ inr (k, (kept_below k below, inl (below, refl)))
         | inr not_below ↦ elim (cases_lt at k) [
           | inl above ↦
-            let i = k - 1 in
-            let k_is : i + 1 ≡ k = omega arith in
-            let P : ℕ → Type 0 = λ n. IsKept old new number kind cells others n i in
-            inr (i, (subst P k_is (kept_above i (omega arith) (omega arith)), inr (above, k_is)))
+              let i = k - 1 in
+              let k_is : i + 1 ≡ k = omega arith in
+              let P : ℕ → Type 0 = λ n. IsKept old new number kind cells others n i in
+              inr (i, (subst P k_is (kept_above i (omega arith) (omega arith)), inr (above, k_is)))
           | inr not_above ↦ inl (omega arith)
         ]
       ]
@@ -194,7 +194,7 @@ module _ (old new : List ℕ) (number usable : ℕ) (kind : PageKind) (cells : L
   is_page =
       let P : ℕ → Type 0 = λ n. (k : ℕ) → k < n → IsCellAt new number usable kind n k (slice_index_or others k []) in
       let Q : ℕ → Type 0 = λ n. (j k : ℕ) → j < k → k < n
-          → AreApart (cell_place new number kind j) (cell_room (slice_index_or others j [])) (cell_place new number kind k) (cell_room (slice_index_or others k [])) in
+      → AreApart (cell_place new number kind j) (cell_room (slice_index_or others j [])) (cell_place new number kind k) (cell_room (slice_index_or others k [])) in
       record {
         kind_is = puts.front (header_place number) (omega arith) ∙ was.is_page.kind_is;
         count = puts.counts ∙ sym many;
@@ -228,6 +228,7 @@ module _ (old new : List ℕ) (number usable : ℕ) (kind : PageKind) (cells : L
     where
       small : usable - (rooms cells + cell_room cell) < 65536
       small = omega arith
+
       begins_at : usable - (rooms cells + cell_room cell) ≡ (usable - rooms (insert cells at cell)) % 65536
       begins_at = sym (mod-eq_of_lt small) ∙ ap (λ (n : ℕ). (usable - n) % 65536) (sym (sum_by-insert cell_room cells at cell))
 

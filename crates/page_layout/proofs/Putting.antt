@@ -22,10 +22,10 @@ puts_place old shifted array count at place inside room fits long copied below f
       long = length-with_number_at pointer 2 place shifted fit ∙ long;
       here = number_at-written pointer 2 place shifted fit fits;
       moved = λ k low high j small.
-        let index : array + 2 * at + (array + 2 * (k + 1) + j - (array + 2 * at + 2)) ≡ array + 2 * k + j = omega arith in
-        other (array + 2 * (k + 1) + j) (inr (omega arith))
-        ∙ copied (array + 2 * (k + 1) + j) 0 (omega arith) (omega arith)
-        ∙ ap (slice_index old) index;
+          let index : array + 2 * at + (array + 2 * (k + 1) + j - (array + 2 * at + 2)) ≡ array + 2 * k + j = omega arith in
+          other (array + 2 * (k + 1) + j) (inr (omega arith))
+          ∙ copied (array + 2 * (k + 1) + j) 0 (omega arith) (omega arith)
+          ∙ ap (slice_index old) index;
       before = λ k low. other k (inl low) ∙ below k 0 (omega arith);
       behind = λ k high. other k (inr (omega arith)) ∙ from k 0 (omega arith);
     }

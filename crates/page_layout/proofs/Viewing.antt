@@ -71,9 +71,10 @@ module _ (page : List ℕ) (number usable : ℕ) (kind : PageKind) (whole : usab
   begins count k view at =
       let place = cell_place page number kind k in
       let bytes = drop place page in
-      let fits : view.size ≤ usable - place = omega (arith, at.inside) in
-      (omega (arith, at.inside, length-take (usable - place) bytes, length-drop place page),
-      subst⁻¹ (λ (c : List ℕ). IsCell kind usable c view) (take-take view.size (usable - place) bytes fits) at.is_cell)
+      let fits : view.size ≤ usable - place = omega (arith, at.inside) in (
+        omega (arith, at.inside, length-take (usable - place) bytes, length-drop place page),
+        subst⁻¹ (λ (c : List ℕ). IsCell kind usable c view) (take-take view.size (usable - place) bytes fits) at.is_cell,
+      )
 
   pub begun : (count k : ℕ) (view : CellView) → array_place number kind + 2 * count ≤ cell_place page number kind k → cell_place page number kind k + max 4 view.size ≤ usable
       → BeginsWithCell kind usable (take (usable - cell_place page number kind k) (drop (cell_place page number kind k) page)) view → IsViewAt page number usable kind count k view

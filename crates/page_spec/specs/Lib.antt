@@ -1,5 +1,6 @@
 pub mod Pages
 pub mod Chains
+pub mod ChainsLaws
 pub mod Freelists
 pub mod Rooms
 pub mod PlacesLaws

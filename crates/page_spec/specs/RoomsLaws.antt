@@ -65,8 +65,11 @@ cover-once place size zero byte apart = omega arith
 cover-once place size (suc n) byte apart =
     let rest = cover-once (λ k. place (suc k)) (λ k. size (suc k)) n byte (λ j k l h. apart (suc j) (suc k) (omega arith) (omega arith)) in
     elim (cases_lt 0 (taken (place 0) (size 0) byte)) [
-      | inl some ↦ omega (arith, cover-none (λ k. place (suc k)) (λ k. size (suc k)) n byte
-          (λ k low. taken-apart (place 0) (size 0) (place (suc k)) (size (suc k)) byte (apart 0 (suc k) (omega arith) (omega arith)) some))
+      | inl some ↦ omega (
+        arith,
+        cover-none (λ k. place (suc k)) (λ k. size (suc k)) n byte
+            (λ k low. taken-apart (place 0) (size 0) (place (suc k)) (size (suc k)) byte (apart 0 (suc k) (omega arith) (omega arith)) some),
+      )
       | inr none ↦ omega (arith, rest)
     ]
 
@@ -83,9 +86,12 @@ over_bytes-few f from (suc n) few none =
 spans_fit : (place size : ℕ → ℕ) (n from end : ℕ) → ((k : ℕ) → k < n → (from ≤ place k) × (place k + size k ≤ end))
     → ((j k : ℕ) → j < k → k < n → AreApart (place j) (size j) (place k) (size k)) → over_cells size n ≤ end - from
 spans_fit place size n from end inside apart =
-    omega (arith, cover-counted place size n end (λ k low. (inside k low).1),
-    over_bytes-few (cover place size n) from end (λ x. cover-once place size n x apart)
-    (λ x before. cover-none place size n x (λ k low. let low_end : from ≤ place k = (inside k low).0 in omega arith)))
+    omega (
+      arith,
+      cover-counted place size n end (λ k low. (inside k low).1),
+      over_bytes-few (cover place size n) from end (λ x. cover-once place size n x apart)
+          (λ x before. cover-none place size n x (λ k low. let low_end : from ≤ place k = (inside k low).0 in omega arith)),
+    )
 
 rooms-over_cells : (cells : List (List ℕ)) → rooms cells ≡ over_cells (λ k. cell_room (slice_index_or cells k [])) (length cells)
 rooms-over_cells [] = refl
@@ -97,6 +103,7 @@ array_place-most number kind = omega (arith, header number, long kind)
   where
     header : (n : ℕ) → header_place n ≤ 100
     header n = grind (arith, nat_tests)
+
     long : (k : PageKind) → header_length k ≤ 12
     long TableLeaf = omega arith
     long TableInterior = omega arith

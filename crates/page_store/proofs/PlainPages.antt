@@ -12,12 +12,12 @@ set_at_place contents i bytes inside zero = ap (λ (b : Bool). if b then bytes e
 set_at_place contents i bytes inside (suc k) =
     elim (cases_eq i k) [
       | inl same ↦
-        let there : k < length contents = omega arith in
-        ap (λ (m : ℕ). get_or (set contents i bytes) m []) (sym same) ∙ get_or-set_same contents i bytes [] inside
-        ∙ ap (λ (b : Bool). if b then bytes else get_or contents k []) (sym (eq-eqb (suc i) (suc k) (ap (λ (m : ℕ). suc m) same)))
+          let there : k < length contents = omega arith in
+          ap (λ (m : ℕ). get_or (set contents i bytes) m []) (sym same) ∙ get_or-set_same contents i bytes [] inside
+          ∙ ap (λ (b : Bool). if b then bytes else get_or contents k []) (sym (eq-eqb (suc i) (suc k) (ap (λ (m : ℕ). suc m) same)))
       | inr apart ↦
-        get_or-set_other contents i k bytes [] (λ e. apart (sym e))
-        ∙ ap (λ (b : Bool). if b then bytes else get_or contents k []) (sym (ne_eqb (suc i) (suc k) (λ e. apart (omega arith))))
+          get_or-set_other contents i k bytes [] (λ e. apart (sym e))
+          ∙ ap (λ (b : Bool). if b then bytes else get_or contents k []) (sym (ne_eqb (suc i) (suc k) (λ e. apart (omega arith))))
     ]
 
 pub numbered-set : (contents : List (List ℕ)) (number : ℕ) (bytes : List ℕ) → 1 ≤ number → number ≤ length contents

@@ -97,7 +97,9 @@ impl PageRead for PlainStore {
 
 impl PageWrite for PlainStore {
     fn set_page(&mut self, number: u32, bytes: &[u8]) -> Result<(), AllocError> {
-        self.pages[number as usize - 1].as_mut_slice().copy_from_slice(bytes);
+        self.pages[number as usize - 1]
+            .as_mut_slice()
+            .copy_from_slice(bytes);
         Ok(())
     }
 

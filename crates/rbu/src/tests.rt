@@ -44,18 +44,25 @@ fn ensure(holds: bool, what: &'static str) -> Result<(), Fail> {
     if holds { Ok(()) } else { Err(Fail::new(what)) }
 }
 
+// The two bytes of a place in a page.
+fn place_bytes(place: usize) -> [u8; 2] {
+    let [.., high, low] = place.to_be_bytes();
+    [high, low]
+}
+
 // Writes a table leaf into the second page of a file, whose cells lie from its end downwards in order.
 fn write_leaf(disk: &mut MemoryDisk, name: FileName, cells: &[&[u8]]) -> Result<(), DiskFault> {
-    let mut place: u16 = 4096;
-    let mut count: u8 = 0;
+    let mut place: usize = 4096;
+    let mut entry: u64 = 4104;
     for cell in cells {
-        place = place.saturating_sub(cell.len() as u16);
-        disk.write_at(name, u64::from(place) + 4096, cell)?;
-        disk.write_at(name, 4104 + 2 * u64::from(count), &place.to_be_bytes())?;
-        count = count.saturating_add(1);
+        place = place.saturating_sub(cell.len());
+        disk.write_at(name, (place as u64).saturating_add(4096), cell)?;
+        disk.write_at(name, entry, &place_bytes(place))?;
+        entry = entry.saturating_add(2);
     }
-    disk.write_at(name, 4096, &[13, 0, 0, 0, count])?;
-    disk.write_at(name, 4101, &place.to_be_bytes())
+    disk.write_at(name, 4096, b"\x0d")?;
+    disk.write_at(name, 4099, &place_bytes(cells.len()))?;
+    disk.write_at(name, 4101, &place_bytes(place))
 }
 
 // A disk whose target has the rows (1, 'one') and (2, 'two'), and whose RBU database has these cells.

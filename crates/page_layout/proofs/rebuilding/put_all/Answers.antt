@@ -60,9 +60,9 @@ loop-cell-preserved c =
         bottom = omega (arith, ap (λ (l : Layout). l.bottom) laid_on, inv.on.bottom, c.requires.room);
       };
       laid = λ before right was.
-        let mid = inv.laid before right was in
-        put_more c.put_cell.new.page c.put_cell.new.layout before cells right i x c.loop-cell.layout.count c.loop-cell-test.true is mid.count
-        (c.put_cell.ensures.cells (before ++ take i cells) right mid);
+          let mid = inv.laid before right was in
+          put_more c.put_cell.new.page c.put_cell.new.layout before cells right i x c.loop-cell.layout.count c.loop-cell-test.true is mid.count
+          (c.put_cell.ensures.cells (before ++ take i cells) right mid);
       rest = λ k apart. kept c.loop-cell.page c.put_cell.new.page c.loop-cell.layout c.args.layout.now inv.on.number inv.on.usable c.put_cell.ensures.rest k apart ∙ inv.rest k apart;
     }
 

@@ -39,14 +39,14 @@ module _ (size count first : ℕ) where
       not_both numbers (Store fault) is breaks = breaks
       not_both numbers (Memory error) is breaks = breaks
 
-      one_answer : IsOne (OrFault (IsChain pages size usable count first bytes) (BreaksAt {F = F} pages size usable count first bytes))
-      one_answer = OrFault-one _ _ (λ a b p q. same_chain pages size count usable first bytes a b p q) one_fault not_both
+      answer-one : IsOne (OrFault (IsChain pages size usable count first bytes) (BreaksAt {F = F} pages size usable count first bytes))
+      answer-one = OrFault-one _ _ (λ a b p q. same_chain pages size count usable first bytes a b p q) one_fault not_both
 
       -- all pages were walked, and the last names 0
       pub reads_chain : (numbers : List ℕ) (number holder : ℕ) → length numbers ≡ pages_for usable bytes → number ≡ 0 → IsWalk size count first numbers number holder pages
           → Reads (OrFault (IsChain pages size usable count first bytes) (BreaksAt {F = F} pages size usable count first bytes)) (Ok numbers)
       reads_chain numbers number holder many none walk =
-          Reads-one _ _ one_answer (record { linked = walk.0; ends = walk.1 ∙ none; many = many })
+          Reads-one _ _ answer-one (record { linked = walk.0; ends = walk.1 ∙ none; many = many })
 
       -- a wrong number stands behind the pages that were walked
       pub reads_broken : (numbers : List ℕ) (number holder page : ℕ) → page ≡ holder
@@ -55,4 +55,4 @@ module _ (size count first : ℕ) where
           → Reads (OrFault (IsChain pages size usable count first bytes) (BreaksAt {F = F} pages size usable count first bytes)) (Err (ChainBroken page))
       reads_broken numbers number holder page is wrong walk =
           let P : ℕ → Type 0 = λ n. ((length numbers < pages_for usable bytes) × ¬ IsInRange size count n) ⊎ ((length numbers ≡ pages_for usable bytes) × (n ≢ 0)) in
-          Reads-one _ _ one_answer (record { numbers = numbers; linked = walk.0; wrong = subst⁻¹ P walk.1 wrong; page_is = is ∙ sym walk.2 })
+          Reads-one _ _ answer-one (record { numbers = numbers; linked = walk.0; wrong = subst⁻¹ P walk.1 wrong; page_is = is ∙ sym walk.2 })

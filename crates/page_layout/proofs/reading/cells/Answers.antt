@@ -9,7 +9,7 @@ use Rattle.page_spec.specs.Rooms.{array_end}
 use Rattle.page_spec.specs.RoomsLaws.{array-fits}
 use Rattle.page_layout.specs.Views.{AreViews, HasKind}
 use Rattle.page_layout.proofs.Viewing.{kind_byte-same}
-use Rattle.page_layout.proofs.Accepting.{accepted, views_are, has_views, one_answer}
+use Rattle.page_layout.proofs.Accepting.{accepted, views_are, has_views, answer-one}
 use Rattle.page_layout.proofs.reading.cells.Goals as goal
 
 pub returns-then-header-header_length : goal.returns-then-header-header_length
@@ -20,7 +20,7 @@ returns-then-header-header_length c =
     let has = c.in-Some.ensures.found in
     let count : c.from-count.result ≡ cell_count page a.number = c.from-count.ensures ∙ c.u16_at.ensures ∙ ap (λ (n : ℕ). number_at (n + 3) 2 page) c.header_place-header.ensures.value in
     let long : a.usable < array_end a.number kind c.from-count.result = omega (arith, c.if-header-header_length.true, c.header_place-header.ensures.value, c.header_length.ensures.value) in
-    inr (Reads-one _ _ (one_answer page a.number a.usable c.requires.whole) (
+    inr (Reads-one _ _ (answer-one page a.number a.usable c.requires.whole) (
       (kind, has),
       λ other cells right is.
           let same : other ≡ kind = kind_byte-same other kind (sym is.kind_is ∙ has) in
@@ -34,7 +34,7 @@ returns-in-Some-2 c =
     let a = c.args in
     let page = a.page.now in
     let count : c.from-count.result ≡ cell_count page a.number = c.from-count.ensures ∙ c.u16_at.ensures ∙ ap (λ (n : ℕ). number_at (n + 3) 2 page) c.header_place-header.ensures.value in
-    Reads-one _ _ (one_answer page a.number a.usable c.requires.whole)
+    Reads-one _ _ (answer-one page a.number a.usable c.requires.whole)
     (accepted page a.number a.usable c.requires.whole c.in-Some.kind c.from-count.result c.in-Some-2.views.items c.in-Some.ensures.found (sym count)
     (rw c.in-Some-2.is at c.in_ok-views.ensures.many) (rw c.in-Some-2.is at c.in_ok-views.ensures.found))
 
@@ -45,7 +45,7 @@ returns-in-None c =
     let kind = c.in-Some.kind in
     let has = c.in-Some.ensures.found in
     let count : c.from-count.result ≡ cell_count page a.number = c.from-count.ensures ∙ c.u16_at.ensures ∙ ap (λ (n : ℕ). number_at (n + 3) 2 page) c.header_place-header.ensures.value in
-    inr (Reads-one _ _ (one_answer page a.number a.usable c.requires.whole) (
+    inr (Reads-one _ _ (answer-one page a.number a.usable c.requires.whole) (
       (kind, has),
       λ other cells right is.
           let views = has_views page a.number a.usable c.requires.whole other cells right is in

@@ -80,3 +80,30 @@ FailsStill-images file call a b fails files image = subst (λ r. IsImage r files
 pub FailsStill-passes : (file : FileName) (call : DiskCall) (Q : Record → Type 0) (a b : Trail) → Q a.now.at → FailsStill file call a b → Passes Q a b
 FailsStill-passes file call Q a b here (inl same) = subst (Passes Q a) (sym same) (Passes-none Q a)
 FailsStill-passes file call Q a b here (inr adds) = Adds-passes file call (λ r q. q ≡ r) Q a b (λ r e. subst Q (sym e) here) adds
+
+-- what holds of the last moment and of each that came holds of the last one now
+abbrev last_or : Moment → List Moment → Moment
+last_or m [] = m
+last_or m (x ∷ xs) = last_or x xs
+
+last_or-push : (m : Moment) (xs : List Moment) (x : Moment) → last_or m (xs ++ x ∷ []) ≡ x
+last_or-push m [] x = refl
+last_or-push m (y ∷ ys) x = last_or-push y ys x
+
+last_or-append : (m : Moment) (xs ys : List Moment) → last_or m (xs ++ ys) ≡ last_or (last_or m xs) ys
+last_or-append m [] ys = refl
+last_or-append m (x ∷ xs) ys = last_or-append x xs ys
+
+Each-last : (Q : Record → Type 0) (m : Moment) (ms : List Moment) → Q m.at → Each Q ms → Q (last_or m ms).at
+Each-last Q m [] here each = here
+Each-last Q m (x ∷ xs) here each = Each-last Q x xs each.0 each.1
+
+pub Passes-now : (Q : Record → Type 0) (a b : Trail) → Q a.now.at → Passes Q a b → Q b.now.at
+Passes-now Q a b here p =
+    let last : b.now ≡ last_or a.now p.later =
+    sym (last_or-push a.now b.earlier b.now) ∙ ap (last_or a.now) p.goes_on ∙ last_or-append a.now (moments a) p.later ∙ ap (λ m. last_or m p.later) (last_or-push a.now a.earlier a.now) in
+    subst (λ (m : Moment). Q m.at) (sym last) (Each-last Q a.now p.later here p.each)
+
+-- one call after another, each of which keeps Q
+pub Passes-kept : (Q : Record → Type 0) (a b c : Trail) → (Q a.now.at → Passes Q a b) → (Q b.now.at → Passes Q b c) → Q a.now.at → Passes Q a c
+Passes-kept Q a b c p q here = Passes-then Q a b c (p here) (q (Passes-now Q a b here (p here)))

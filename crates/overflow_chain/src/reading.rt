@@ -2,7 +2,7 @@
 ghost use Rattle.std.specs.Prelude.{◌≡◌, ◌+◌, ◌<◌, ◌≤◌, ◌↔◌, ◌++◌, ◌∷◌, [], IsTrue, IfOk, OnOk, length};
 ghost use Rattle.common_spec.specs.Reading.{ReadsOrWants, OrFault};
 ghost use Rattle.page_spec.specs.Pages.{Pages, IsInRange, lock_byte_page as lock_page, next_page};
-ghost use Rattle.page_spec.specs.Chains.{IsChain, pages_for as pages_of};
+ghost use Rattle.page_spec.specs.Chains.{IsChain, content_of, pages_for as pages_of};
 ghost use Rattle.page_store.specs.Store.{HasSizes, Looks, Owes, OwesBy, Sees};
 ghost use Rattle.overflow_chain.specs.Chain.{BreaksAt, IsOther, fault_in, HoldsBytes};
 
@@ -101,4 +101,54 @@ pub fn chain_pages<S: PageRead>(
         });
     }
     Ok(numbers)
+}
+
+// Appends what a page holds behind its link.
+fn push_content(bytes: &mut Vec<u8>, page: &[u8], usable: u32) -> Result<(), AllocError>
+    requires least { 4 ≤ usable }
+    requires within { usable ≤ length page.now }
+    ensures { OnOk result (bytes.new.items ≡ bytes.old.items ++ content_of usable page.now) }
+{
+    bytes.extend_from_slice(&page[4..usable as usize])
+}
+
+/// The bytes of an overflow chain, so many of them, in one pass over its pages. Refuses [45] with the page in which the first wrong number stands.
+pub fn read_chain<S: PageRead>(
+    alloc: Global,
+    store: &mut S,
+    first: u32,
+    length: u64,
+) -> Result<Vec<u8>, ChainFault<S::Fault>>
+    requires { HasSizes S.PageRead store.old }
+    ensures pages { Sees S.PageRead store.old store.new (λ m. ReadsOrWants (λ bytes. bytes.items) IsOther
+        (OrFault (HoldsBytes m (S.size store.old) (S.usable store.old) (S.count store.old) first length)
+        (BreaksAt m (S.size store.old) (S.usable store.old) (S.count store.old) first length)) result) }
+    ensures owes { OwesBy S.PageRead fault_in store.old store.new result }
+{
+    let mut buffer = zeros(alloc, store.page_size() as usize)?;
+    let page = buffer.as_mut_slice();
+    let mut bytes = Vec::new(alloc);
+    let mut number = first;
+    let mut holder = first;
+    for _ in 0..pages_for(store.usable(), length) {
+        if !is_in_range(store.page_size(), store.count(), number) {
+            return Err(ChainFault::ChainBroken {
+                page: u64::from(holder),
+            });
+        }
+        let next = match follow(store, number, page) {
+            Ok(next) => next,
+            Err(fault) => return Err(ChainFault::Store(fault)),
+        };
+        push_content(&mut bytes, page, store.usable())?;
+        holder = number;
+        number = next;
+    }
+    if number != 0 {
+        return Err(ChainFault::ChainBroken {
+            page: u64::from(holder),
+        });
+    }
+    bytes.truncate(length as usize);
+    Ok(bytes)
 }

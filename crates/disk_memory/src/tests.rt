@@ -1,5 +1,6 @@
 use crate::{MemoryDisk, MemorySink};
 use rbu_disk::{Disk, DiskCall, DiskFault, FileName, Sink, SinkFault};
+use std::alloc::Global;
 use std::process::Abort;
 use std::test::Fail;
 
@@ -22,45 +23,47 @@ fn every_call<D: Disk>(rt: &impl Abort, disk: &mut D) -> Result<(), DiskFault> {
     disk.remove(FileName::Journal)
 }
 
-// An end over the limit is no want of memory, and one at the limit is. Of two entries with one name the first counts.
-#[test]
-fn each_call_does_its_work(rt: HostRuntime) -> Result<(), Fail> {
-    let alloc = rt.alloc();
-    let mut files = Vec::new(alloc);
-    files.push((FileName::State, b"first".to_vec(alloc)?))?;
-    files.push((FileName::State, b"second".to_vec(alloc)?))?;
-    let mut disk = MemoryDisk::new(alloc, files, Vec::new(alloc));
-    every_call(&rt, &mut disk)?;
+fn assert_every_call(rt: &impl Abort, alloc: Global) -> Result<(), Fail> {
+    let mut disk = MemoryDisk::new(alloc, Vec::new(alloc), Vec::new(alloc));
+    every_call(rt, &mut disk)?;
+    assert!(rt; disk.contents(FileName::Wal) == Some(b"aBCde".as_slice()));
+    assert!(rt; disk.contents(FileName::Oal).is_none());
+    assert!(rt; disk.contents(FileName::Journal).is_none());
+    assert_eq!(rt; disk.refused(), 0);
+    Ok(())
+}
+
+fn assert_zeros_before_a_write(rt: &impl Abort, alloc: Global) -> Result<(), Fail> {
+    let mut disk = MemoryDisk::new(alloc, Vec::new(alloc), Vec::new(alloc));
     disk.write_at(FileName::Target, 3, b"ab")?;
+    assert!(rt; disk.contents(FileName::Target) == Some(b"\0\0\0ab".as_slice()));
     disk.set_len(FileName::Target, 7)?;
+    assert!(rt; disk.contents(FileName::Target) == Some(b"\0\0\0ab\0\0".as_slice()));
+    Ok(())
+}
+
+// An end over the limit is no want of memory; one at the limit is.
+fn assert_limit(rt: &impl Abort, alloc: Global) {
     let limit = 1 << 62;
+    let mut disk = MemoryDisk::new(alloc, Vec::new(alloc), Vec::new(alloc));
     assert!(rt; disk.write_at(FileName::Rbu, limit, b"a").is_err());
     assert!(rt; disk.set_len(FileName::Rbu, limit + 1).is_err());
     assert_eq!(rt; disk.refused(), 0);
     assert!(rt; disk.set_len(FileName::Rbu, limit).is_err());
     assert_eq!(rt; disk.refused(), 1);
-    let left: [(FileName, Option<&[u8]>); 6] = [
-        (FileName::Target, Some(b"\0\0\0ab\0\0")),
-        (FileName::Oal, None),
-        (FileName::Wal, Some(b"aBCde")),
-        (FileName::Journal, None),
-        (FileName::Rbu, None),
-        (FileName::State, Some(b"first")),
-    ];
-    for (name, bytes) in left {
-        assert!(rt; disk.contents(name) == bytes, "{name:?}");
-    }
-    Ok(())
-}
-
-fn write_line<S: Sink>(sink: &mut S, line: &str) -> Result<(), SinkFault> {
-    sink.write_all(line.as_bytes())?;
-    sink.write_all(b"\n")
+    assert!(rt; disk.contents(FileName::Rbu).is_none());
 }
 
 #[test]
-fn calls_whose_numbers_are_listed_fail(rt: HostRuntime) -> Result<(), Fail> {
+fn each_call_does_its_work(rt: HostRuntime) -> Result<(), Fail> {
     let alloc = rt.alloc();
+    assert_every_call(&rt, alloc)?;
+    assert_zeros_before_a_write(&rt, alloc)?;
+    assert_limit(&rt, alloc);
+    Ok(())
+}
+
+fn assert_third_call_fails(rt: &impl Abort, alloc: Global) -> Result<(), Fail> {
     let mut disk = MemoryDisk::new(alloc, Vec::new(alloc), vec![in alloc; 2]?);
     disk.write_at(FileName::State, 0, b"ab")?;
     disk.sync(FileName::State)?;
@@ -73,6 +76,15 @@ fn calls_whose_numbers_are_listed_fail(rt: HostRuntime) -> Result<(), Fail> {
     disk.remove(FileName::State)?;
     assert!(rt; disk.contents(FileName::State).is_none());
     assert_eq!(rt; disk.refused(), 0);
+    Ok(())
+}
+
+fn write_line<S: Sink>(sink: &mut S, line: &str) -> Result<(), SinkFault> {
+    sink.write_all(line.as_bytes())?;
+    sink.write_all(b"\n")
+}
+
+fn assert_third_write_fails(rt: &impl Abort, alloc: Global) -> Result<(), Fail> {
     let mut sink = MemorySink::new(alloc, vec![in alloc; 2]?);
     write_line(&mut sink, "one")?;
     assert_eq!(rt; write_line(&mut sink, "two"), Err(SinkFault));
@@ -80,4 +92,11 @@ fn calls_whose_numbers_are_listed_fail(rt: HostRuntime) -> Result<(), Fail> {
     assert!(rt; sink.written() == b"one\nthree\n".as_slice());
     assert_eq!(rt; sink.refused(), 0);
     Ok(())
+}
+
+#[test]
+fn calls_whose_numbers_are_listed_fail(rt: HostRuntime) -> Result<(), Fail> {
+    let alloc = rt.alloc();
+    assert_third_call_fails(&rt, alloc)?;
+    assert_third_write_fails(&rt, alloc)
 }

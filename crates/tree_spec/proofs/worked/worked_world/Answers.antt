@@ -1,43 +1,48 @@
-use Rattle.std.proofs.Common.{◌≡◌, ℕ, zero, suc, pos, ◌+◌, ◌*◌, ◌<◌, ◌≤◌, List, [], ◌∷◌, length, replicate, slice_index, slice_index_or, inr, refl, arith, rules, ◌==◌}
-use Rattle.std.specs.List.{AllPairs, IsDistinct}
+use Rattle.std.proofs.Common.{◌≡◌, ℕ, ℤ, zero, suc, ◌+◌, ◌-◌, ◌*◌, ◌^◌, ◌<◌, ◌≤◌, ◌<ℤ◌, ◌==◌, ◌&&◌, Bool, true, nat_le, List, [], ◌∷◌, ◌++◌, length, map, replicate, slice_index, slice_index_or, inr, inl, refl, sym, ap, subst, ◌∙◌, arith, rules}
+use Rattle.std.proofs.Math.Path.{subst⁻¹}
+use Rattle.std.specs.List.{AllPairs, AllByRecursion, IsDistinct}
+use Rattle.std.specs.Int.{w64, cast_signed}
+use Rattle.std.specs.Int.RustNames.{FitsSigned}
+use Rattle.std.specs.Str.{bytes_eq}
+use Rattle.std.proofs.lemmas.Bool.{cases_lt, and_parts, and_from, cond-true, eqb-true, leb-true, le-leb, agree_below, agree_below_at}
 use Rattle.std.proofs.lemmas.Bool.Decides.{nat_tests}
-use Rattle.std.proofs.lemmas.Int.{ints}
+use Rattle.std.proofs.lemmas.Int.{ints, to_z-of_z}
+use Rattle.std.proofs.lemmas.Slice.Eq.{bytes_eq-Decides}
 use Rattle.byte_fields.specs.Bytes.{part_of}
+use Rattle.byte_fields.specs.Numbers.{number_at}
 use Rattle.format_spec.specs.declared.PageKind.{PageKind}
 use Rattle.format_spec.specs.declared.PageKind.TheVariants.{TableInterior, TableLeaf}
-use Rattle.format_spec.specs.declared.CellView.{CellView}
 use Rattle.format_spec.specs.Varint.{IsVarint}
 use Rattle.format_spec.specs.Cell.{IsCell}
-use Rattle.format_spec.specs.Page.{IsPage, IsCellAt, AreApart, RightChild, header_place, kind_byte, cell_count, cell_place, cell_room, array_place}
+use Rattle.format_spec.specs.Page.{IsPage, IsCellAt, RightChild, header_place, kind_byte, cell_count, cell_place, cell_room}
 use Rattle.page_spec.specs.Pages.{IsInRange}
 use Rattle.page_spec.specs.Chains.{IsChain}
-use Rattle.tree_spec.specs.Counts.{times}
-use Rattle.tree_spec.specs.Standing.{IsHeld, IsBehind, IsRoot}
+use Rattle.tree_spec.specs.declared.TreeKind.TheVariants.{Table}
+use Rattle.tree_spec.specs.Counts.{hit, times}
+use Rattle.tree_spec.specs.Trees.{Leaf, IsFull}
+use Rattle.tree_spec.specs.Bounds.{BesideIn, InOrder, below_rowids, greatest_rowid}
+use Rattle.tree_spec.specs.Standing.{IsHeld, IsBehind, IsRoot, Stands, StandsBefore}
 use Rattle.tree_spec.specs.Worlds.{due, due_pages, IsFree, IsWorld}
-use Rattle.tree_spec.specs.WorldsLaws.{world-tree}
-use Rattle.tree_spec.specs.LittleWorld.{little_sizes, little_schema, little_schema_cell, little_record, little_row, little_long_row, little_divider, little_first_page, little_root_page, little_leaf, little_last_leaf, little_pages, little_base, little_view, little_cell, little_long_cell, little_behind, little_schema_tree, little_table_tree, little_trunks, little_world}
+use Rattle.tree_spec.specs.WorldsLaws.{due-past, world-tree}
+use Rattle.tree_spec.specs.LittleWorld.{little_sizes, little_rowid, little_key, little_schema, little_schema_cell, little_record, little_cell, little_long_cell, little_behind, little_first_page, little_root_page, little_interior, little_remains, little_leaf, little_last_leaf, little_page, little_base, little_schema_tree, little_child, little_children, little_left, little_right, little_table_tree, little_trunks, little_world, little_numbers}
 use Rattle.tree_spec.proofs.worked.worked_world.Goals as goal
+
+-- Cells.
 
 -- a number below 128 is spelled by its byte
 one_byte : (n : ℕ) → n < 128 → IsVarint (n ∷ []) n
 one_byte n low = record { front = []; last = n; whole = refl; at_most_nine = omega arith; high = search rules; low = low; sum = omega arith }
 
-within : (number : ℕ) → 1 < number → number < 8 → IsInRange 512 7 number
-within number low high = record { behind_first = omega arith; within = omega arith; not_lock_byte = λ e. omega arith }
+key : (k : ℕ) → k < 256 → IsVarint (little_key k) (2 ^ 63 + k)
+key k low = record { front = 192 ∷ 128 ∷ 128 ∷ 128 ∷ 128 ∷ 128 ∷ 128 ∷ 128 ∷ []; last = k; whole = refl; at_most_nine = omega arith; high = search rules; low = low; sum = refl }
 
--- a page with one cell
-module _ (page : List ℕ) (number : ℕ) (kind : PageKind) (cell : List ℕ) (view : CellView) (right : ℕ) (kind_is : slice_index page (header_place number) ≡ kind_byte kind)
-    (count : cell_count page number ≡ 1) (is_cell : IsCell kind 512 cell view) (stands : part_of page (cell_place page number kind 0) (length cell) ≡ cell)
-    (behind_array : array_place number kind + 2 * 1 ≤ cell_place page number kind 0) (inside : cell_place page number kind 0 + cell_room cell ≤ 512)
-    (right_child : RightChild kind page (header_place number) right) where
-  each : (k : ℕ) → k < 1 → IsCellAt page number 512 kind 1 k (slice_index_or (cell ∷ []) k [])
-  each zero h = record { view = view; is_cell = is_cell; stands = stands; behind_array = behind_array; inside = inside }
-  each (suc k) h = absurd (omega arith)
+rowid_is : (k : ℕ) → k < 256 → little_rowid k ≡ cast_signed w64 (2 ^ 63 + k)
+rowid_is k low =
+    let bits : 2 ^ 64 - suc (2 ^ 63 - 1 - k) ≡ 2 ^ 63 + k = omega arith in
+    let fits : FitsSigned w64 (little_rowid k) = search (rules, ints) in
+    sym (subst (λ (n : ℕ). cast_signed w64 n ≡ little_rowid k) bits (to_z-of_z w64 (little_rowid k) fits))
 
-  one_cell : IsPage page number 512 kind (cell ∷ []) right
-  one_cell = record { kind_is = kind_is; count = count; each = each; apart = λ j k l h. absurd (omega arith); right_child = right_child }
-
-schema_cell : IsCell TableLeaf 512 little_schema_cell (record { size = 55; rowid = pos 1; child = 0; payload = 53; local_at = 2; local = 53; overflow = 0 })
+schema_cell : IsCell TableLeaf 512 little_schema_cell.bytes little_schema_cell.view
 schema_cell = record {
   payload_bytes = 53 ∷ [];
   rowid_bytes = 1 ∷ [];
@@ -58,18 +63,18 @@ schema_cell = record {
   size = refl;
 }
 
-row_cell : (rowid : ℕ) → rowid < 128 → IsCell TableLeaf 512 (little_row rowid) (little_view rowid)
-row_cell rowid low = record {
-  payload_bytes = 130 ∷ 48 ∷ [];
-  rowid_bytes = rowid ∷ [];
-  rowid_number = rowid;
+row_cell : (k : ℕ) → k < 256 → IsCell TableLeaf 512 (little_cell k).bytes (little_cell k).view
+row_cell k low = record {
+  payload_bytes = 131 ∷ 80 ∷ [];
+  rowid_bytes = little_key k;
+  rowid_number = 2 ^ 63 + k;
   local_bytes = little_record;
   overflow_bytes = [];
   whole = refl;
-  payload = record { front = 130 ∷ []; last = 48; whole = refl; at_most_nine = omega arith; high = search rules; low = omega arith; sum = refl };
+  payload = record { front = 131 ∷ []; last = 80; whole = refl; at_most_nine = omega arith; high = search rules; low = omega arith; sum = refl };
   limit = omega arith;
-  rowid_varint = one_byte rowid low;
-  rowid = grind arith;
+  rowid_varint = key k low;
+  rowid = rowid_is k low;
   local_at = refl;
   local = refl;
   local_length = refl;
@@ -79,18 +84,18 @@ row_cell rowid low = record {
   size = refl;
 }
 
-long_cell : IsCell TableLeaf 512 little_long_row little_long_cell.view
+long_cell : IsCell TableLeaf 512 little_long_cell.bytes little_long_cell.view
 long_cell = record {
   payload_bytes = 133 ∷ 64 ∷ [];
-  rowid_bytes = 3 ∷ [];
-  rowid_number = 3;
+  rowid_bytes = little_key 36;
+  rowid_number = 2 ^ 63 + 36;
   local_bytes = 4 ∷ 0 ∷ 139 ∷ 4 ∷ replicate 192 0;
-  overflow_bytes = 0 ∷ 0 ∷ 0 ∷ 5 ∷ [];
+  overflow_bytes = 0 ∷ 0 ∷ 0 ∷ 40 ∷ [];
   whole = refl;
   payload = record { front = 133 ∷ []; last = 64; whole = refl; at_most_nine = omega arith; high = search rules; low = omega arith; sum = refl };
   limit = omega arith;
-  rowid_varint = one_byte 3 (omega arith);
-  rowid = refl;
+  rowid_varint = key 36 (omega arith);
+  rowid = rowid_is 36 (omega arith);
   local_at = refl;
   local = refl;
   local_length = refl;
@@ -100,16 +105,16 @@ long_cell = record {
   size = refl;
 }
 
-divider : (child rowid : ℕ) → child < 128 → rowid < 128 → IsCell TableInterior 512 (little_divider child rowid) (little_behind child rowid).view
-divider child rowid few low = record {
+divider : (child k : ℕ) → child < 256 → k < 256 → IsCell TableInterior 512 (little_behind child k).bytes (little_behind child k).view
+divider child k few low = record {
   child_bytes = 0 ∷ 0 ∷ 0 ∷ child ∷ [];
-  rowid_bytes = rowid ∷ [];
-  rowid_number = rowid;
+  rowid_bytes = little_key k;
+  rowid_number = 2 ^ 63 + k;
   whole = refl;
   child_length = refl;
-  child = grind arith;
-  rowid_varint = one_byte rowid low;
-  rowid = grind arith;
+  child = omega arith;
+  rowid_varint = key k low;
+  rowid = rowid_is k low;
   payload = refl;
   local_at = refl;
   local = refl;
@@ -117,87 +122,190 @@ divider child rowid few low = record {
   size = refl;
 }
 
-first_page : IsPage little_first_page 1 512 TableLeaf (little_schema_cell ∷ []) 0
-first_page = one_cell little_first_page 1 TableLeaf little_schema_cell _ 0 refl refl schema_cell refl (omega arith) (omega arith) refl
-
-page_3 : IsPage (little_leaf 1) 3 512 TableLeaf (little_row 1 ∷ []) 0
-page_3 = one_cell (little_leaf 1) 3 TableLeaf (little_row 1) _ 0 refl refl (row_cell 1 (omega arith)) refl (omega arith) (omega arith) refl
-
-page_4 : IsPage (little_leaf 2) 4 512 TableLeaf (little_row 2 ∷ []) 0
-page_4 = one_cell (little_leaf 2) 4 TableLeaf (little_row 2) _ 0 refl refl (row_cell 2 (omega arith)) refl (omega arith) (omega arith) refl
-
-page_6 : IsPage little_last_leaf 6 512 TableLeaf (little_long_row ∷ []) 0
-page_6 = one_cell little_last_leaf 6 TableLeaf little_long_row _ 0 refl refl long_cell refl (omega arith) (omega arith) refl
-
-root_each : (k : ℕ) → k < 2 → IsCellAt little_root_page 2 512 TableInterior 2 k (slice_index_or (little_divider 3 1 ∷ little_divider 4 2 ∷ []) k [])
-root_each zero h =
-    let place : cell_place little_root_page 2 TableInterior 0 ≡ 507 = refl in
-    record { view = _; is_cell = divider 3 1 (omega arith) (omega arith); stands = refl; behind_array = omega (arith, place); inside = omega (arith, place) }
-root_each (suc zero) h =
-    let place : cell_place little_root_page 2 TableInterior 1 ≡ 502 = refl in
-    record { view = _; is_cell = divider 4 2 (omega arith) (omega arith); stands = refl; behind_array = omega (arith, place); inside = omega (arith, place) }
-root_each (suc (suc k)) h = absurd (omega arith)
-
-root_apart : (j k : ℕ) → j < k → k < 2
-    → AreApart (cell_place little_root_page 2 TableInterior j) (cell_room (slice_index_or (little_divider 3 1 ∷ little_divider 4 2 ∷ []) j []))
-    (cell_place little_root_page 2 TableInterior k) (cell_room (slice_index_or (little_divider 3 1 ∷ little_divider 4 2 ∷ []) k []))
-root_apart zero (suc zero) l h =
-    inr (let place : cell_place little_root_page 2 TableInterior 0 ≡ 507 = refl in let next : cell_place little_root_page 2 TableInterior 1 ≡ 502 = refl in omega (arith, place, next))
-root_apart zero zero l h = absurd (omega arith)
-root_apart (suc j) zero l h = absurd (omega arith)
-root_apart (suc j) (suc zero) l h = absurd (omega arith)
-root_apart j (suc (suc k)) l h = absurd (omega arith)
-
-root_page : IsPage little_root_page 2 512 TableInterior (little_divider 3 1 ∷ little_divider 4 2 ∷ []) 6
-root_page = record { kind_is = refl; count = refl; each = root_each; apart = root_apart; right_child = refl }
+within : (number : ℕ) → 1 < number → number < 43 → IsInRange 512 42 number
+within number low high = record { behind_first = omega arith; within = omega arith; not_lock_byte = λ e. omega arith }
 
 -- a cell whose payload lies in it whole has no chain
-no_chain : IsChain little_pages 512 512 7 0 0 []
+no_chain : IsChain little_page 512 512 42 0 0 []
 no_chain = record { linked = tt; ends = refl; many = refl }
 
-schema_held : IsHeld little_sizes little_base TableLeaf (record {
-  bytes = little_schema_cell;
-  view = record { size = 55; rowid = pos 1; child = 0; payload = 53; local_at = 2; local = 53; overflow = 0 };
-  payload = little_schema;
-  chain = [];
-})
-schema_held = record { is_cell = schema_cell; is_chain = no_chain; whole = refl }
-
-row_held : (rowid : ℕ) → rowid < 128 → IsHeld little_sizes little_base TableLeaf (little_cell rowid)
-row_held rowid low = record { is_cell = row_cell rowid low; is_chain = no_chain; whole = refl }
+row_held : (k : ℕ) → k < 256 → IsHeld little_sizes little_base TableLeaf (little_cell k)
+row_held k low = record { is_cell = row_cell k low; is_chain = no_chain; whole = refl }
 
 long_held : IsHeld little_sizes little_base TableLeaf little_long_cell
-long_held = record { is_cell = long_cell; is_chain = record { linked = (refl, within 5 (omega arith) (omega arith), tt); ends = refl; many = refl }; whole = refl }
+long_held = record { is_cell = long_cell; is_chain = record { linked = (refl, within 40 (omega arith) (omega arith), tt); ends = refl; many = refl }; whole = refl }
 
-behind : (child rowid : ℕ) → 1 < child → child < 8 → rowid < 128 → IsBehind little_sizes little_base TableInterior (little_behind child rowid) child
-behind child rowid some few low = record {
-  held = record { is_cell = divider child rowid (omega arith) low; is_chain = no_chain; whole = refl };
+behind : (child k : ℕ) → 1 < child → child < 43 → k < 256 → IsBehind little_sizes little_base TableInterior (little_behind child k) child
+behind child k some few low = record {
+  held = record { is_cell = divider child k (omega arith) low; is_chain = no_chain; whole = refl };
   names = refl;
   in_range = within child some few;
 }
 
+-- Pages.
+
+-- a page with one cell
+module _ (page : List ℕ) (number : ℕ) (kind : PageKind) (cell : List ℕ) (right : ℕ) (kind_is : slice_index page (header_place number) ≡ kind_byte kind)
+    (count : cell_count page number ≡ 1) (at : IsCellAt page number 512 kind 1 0 cell) (right_child : RightChild kind page (header_place number) right) where
+  each_one : (k : ℕ) → k < 1 → IsCellAt page number 512 kind 1 k (slice_index_or (cell ∷ []) k [])
+  each_one zero h = at
+  each_one (suc k) h = absurd (omega arith)
+
+  one_cell : IsPage page number 512 kind (cell ∷ []) right
+  one_cell = record { kind_is = kind_is; count = count; each = each_one; apart = λ j k l h. absurd (omega arith); right_child = right_child }
+
+first_page : IsPage little_first_page 1 512 TableLeaf (little_schema_cell.bytes ∷ []) 0
+first_page =
+    let place : cell_place little_first_page 1 TableLeaf 0 ≡ 457 = refl in
+    one_cell little_first_page 1 TableLeaf little_schema_cell.bytes 0 refl refl
+    (record { view = little_schema_cell.view; is_cell = schema_cell; stands = refl; behind_array = omega (arith, place); inside = omega (arith, place) }) refl
+
+-- a leaf that is not page 1
+leaf_page : (number k : ℕ) → k < 256 → header_place number ≡ 0 → IsPage (little_leaf k) number 512 TableLeaf ((little_cell k).bytes ∷ []) 0
+leaf_page number k low none =
+    let page = little_leaf k in
+    let place : cell_place page number TableLeaf 0 ≡ 37 = subst⁻¹ (λ (h : ℕ). number_at (h + 8 + 2 * 0) 2 page ≡ 37) none refl in
+    one_cell page number TableLeaf (little_cell k).bytes 0
+    (subst⁻¹ (λ (h : ℕ). slice_index page h ≡ 13) none refl)
+    (subst⁻¹ (λ (h : ℕ). number_at (h + 3) 2 page ≡ 1) none refl)
+    (record {
+      view = (little_cell k).view;
+      is_cell = row_cell k low;
+      stands = ap (λ (p : ℕ). part_of page p 475) place;
+      behind_array = omega (arith, place, none);
+      inside = omega (arith, place);
+    })
+    refl
+
+last_page : IsPage little_last_leaf 41 512 TableLeaf (little_long_cell.bytes ∷ []) 0
+last_page =
+    let place : cell_place little_last_leaf 41 TableLeaf 0 ≡ 301 = refl in
+    one_cell little_last_leaf 41 TableLeaf little_long_cell.bytes 0 refl refl
+    (record { view = little_long_cell.view; is_cell = long_cell; stands = refl; behind_array = omega (arith, place); inside = omega (arith, place) }) refl
+
+root_page : IsPage little_root_page 2 512 TableInterior ((little_behind 38 18).bytes ∷ []) 39
+root_page =
+    let place : cell_place little_root_page 2 TableInterior 0 ≡ 499 = refl in
+    one_cell little_root_page 2 TableInterior (little_behind 38 18).bytes 39 refl refl
+    (record { view = (little_behind 38 18).view; is_cell = divider 38 18 (omega arith) (omega arith); stands = refl; behind_array = omega (arith, place); inside = omega (arith, place) }) refl
+
+-- an interior page over 17 leaves that have the rows from one on; what is computed at each index is given as tests
+module _ (page : List ℕ) (number right first : ℕ) (cells : List (List ℕ)) (few : first < 40) (none : header_place number ≡ 0)
+    (kind_is : slice_index page (header_place number) ≡ 5) (count : cell_count page number ≡ 17) (many : length cells ≡ 17)
+    (places : agree_below (λ k. cell_place page number TableInterior k == 499 - 13 * k) (λ k. true) 17 ≡ true)
+    (named : agree_below (λ k. bytes_eq (slice_index_or cells k []) (little_behind (first + k + 2) (first + k)).bytes) (λ k. true) 17 ≡ true)
+    (stand : agree_below (λ k. bytes_eq (part_of page (499 - 13 * k) 13) (little_behind (first + k + 2) (first + k)).bytes) (λ k. true) 17 ≡ true)
+    (right_child : right ≡ number_at (header_place number + 8) 4 page) where
+  place_at : (k : ℕ) → k < 17 → cell_place page number TableInterior k ≡ 499 - 13 * k
+  place_at k low = eqb-true (cell_place page number TableInterior k) (499 - 13 * k) (agree_below_at (λ k. cell_place page number TableInterior k == 499 - 13 * k) (λ k. true) 17 k places low)
+
+  cell_at : (k : ℕ) → k < 17 → slice_index_or cells k [] ≡ (little_behind (first + k + 2) (first + k)).bytes
+  cell_at k low =
+      (bytes_eq-Decides (slice_index_or cells k []) (little_behind (first + k + 2) (first + k)).bytes).0
+      (agree_below_at (λ k. bytes_eq (slice_index_or cells k []) (little_behind (first + k + 2) (first + k)).bytes) (λ k. true) 17 k named low)
+
+  part_at : (k : ℕ) → k < 17 → part_of page (499 - 13 * k) 13 ≡ (little_behind (first + k + 2) (first + k)).bytes
+  part_at k low =
+      (bytes_eq-Decides (part_of page (499 - 13 * k) 13) (little_behind (first + k + 2) (first + k)).bytes).0
+      (agree_below_at (λ k. bytes_eq (part_of page (499 - 13 * k) 13) (little_behind (first + k + 2) (first + k)).bytes) (λ k. true) 17 k stand low)
+
+  room_at : (k : ℕ) → k < 17 → cell_room (slice_index_or cells k []) ≡ 13
+  room_at k low = ap cell_room (cell_at k low)
+
+  each_behind : (k : ℕ) → k < length cells → IsCellAt page number 512 TableInterior (length cells) k (slice_index_or cells k [])
+  each_behind k low =
+      let inside : k < 17 = omega (arith, low, many) in
+      let place = place_at k inside in
+      record {
+        view = (little_behind (first + k + 2) (first + k)).view;
+        is_cell = subst⁻¹ (λ (c : List ℕ). IsCell TableInterior 512 c (little_behind (first + k + 2) (first + k)).view) (cell_at k inside) (divider (first + k + 2) (first + k) (omega arith) (omega arith));
+        stands = subst⁻¹ (λ (c : List ℕ). part_of page (cell_place page number TableInterior k) (length c) ≡ c) (cell_at k inside)
+            (ap (λ (p : ℕ). part_of page p 13) place ∙ part_at k inside);
+        behind_array = omega (arith, place, none, many);
+        inside = omega (arith, place, room_at k inside);
+      }
+
+  interior_page : IsPage page number 512 TableInterior cells right
+  interior_page = record {
+    kind_is = kind_is;
+    count = count ∙ sym many;
+    each = each_behind;
+    apart = λ j k less low.
+        inr (let high : k < 17 = omega (arith, low, many) in omega (arith, place_at j (omega arith), place_at k high, room_at k high));
+    right_child = right_child;
+  }
+
+left_page : IsPage (little_interior 1 20 little_remains) 38 512 TableInterior (map (λ cell. cell.bytes) (map (λ child. child.1) (little_children 1 17))) 20
+left_page = interior_page (little_interior 1 20 little_remains) 38 20 1 (map (λ cell. cell.bytes) (map (λ child. child.1) (little_children 1 17))) (omega arith) refl refl refl refl refl refl refl refl
+
+right_page : IsPage (little_interior 19 41 (replicate 245 0)) 39 512 TableInterior (map (λ cell. cell.bytes) (map (λ child. child.1) (little_children 19 17))) 41
+right_page =
+    interior_page (little_interior 19 41 (replicate 245 0)) 39 41 19 (map (λ cell. cell.bytes) (map (λ child. child.1) (little_children 19 17))) (omega arith) refl refl refl refl refl refl refl refl
+
+-- Trees.
+
+-- the page of the row k
+page_is : (k : ℕ) → 1 ≤ k → k ≤ 35 → little_page (k + 2) ≡ little_leaf k
+page_is k some few =
+    let back : k + 2 - 2 ≡ k = omega arith in
+    cond-true (nat_le 3 (k + 2) && nat_le (k + 2) 37) (little_leaf (k + 2 - 2)) _ (and_from (nat_le 3 (k + 2)) (nat_le (k + 2) 37) (le-leb 3 (k + 2) (omega arith)) (le-leb (k + 2) 37 (omega arith)))
+    ∙ ap little_leaf back
+
+no_header : (k : ℕ) → 1 ≤ k → header_place (k + 2) ≡ 0
+no_header k some = grind (arith, nat_tests)
+
+leaf_stands : (k : ℕ) → 1 ≤ k → k ≤ 35 → Stands little_sizes little_base Table 0 (little_child k)
+leaf_stands k some few = (
+  subst⁻¹ (λ (page : List ℕ). IsPage page (k + 2) 512 TableLeaf ((little_cell k).bytes ∷ []) 0) (page_is k some few) (leaf_page (k + 2) k (omega arith) (no_header k some)),
+  (row_held k (omega arith), tt),
+)
+
+children_stand : (k n : ℕ) → 1 ≤ k → k + n ≤ 36 → AllByRecursion (StandsBefore little_sizes little_base Table 0) (little_children k n)
+children_stand k zero some few = tt
+children_stand k (suc n) some few = ((behind (k + 2) k (omega arith) (omega arith) (omega arith), leaf_stands k some (omega arith)), children_stand (suc k) n (omega arith) (omega arith))
+
+left_stands : Stands little_sizes little_base Table 1 little_left
+left_stands = (left_page, (children_stand 1 17 (omega arith) (omega arith), (within 20 (omega arith) (omega arith), leaf_stands 18 (omega arith) (omega arith))))
+
+right_stands : Stands little_sizes little_base Table 1 little_right
+right_stands = (right_page, (children_stand 19 17 (omega arith) (omega arith), (within 41 (omega arith) (omega arith), (last_page, (long_held, tt)))))
+
+rowid_rises : (k : ℕ) → k < 256 → little_rowid k <ℤ little_rowid (suc k)
+rowid_rises k low = omega (arith, ints)
+
+children_in : (k n end : ℕ) (low high : ℤ) (last : Leaf) → low <ℤ little_rowid k → k + n ≡ end → end < 256 → InOrder 0 (little_rowid end) high last
+    → BesideIn (InOrder 0) low high (little_children k (suc n)) last
+children_in k zero end low high last above is few rest =
+    let same : end ≡ k = omega arith in
+    ((above, omega (arith, ints)), subst (λ (e : ℕ). InOrder 0 (little_rowid e) high last) same rest)
+children_in k (suc n) end low high last above is few rest =
+    ((above, omega (arith, ints)), children_in (suc k) n end (little_rowid k) high last (rowid_rises k (omega arith)) (omega arith) few rest)
+
+children_full : (k n : ℕ) → AllByRecursion (λ child. IsFull 0 child.0) (little_children k n)
+children_full k zero = tt
+children_full k (suc n) = ((omega arith, tt), children_full (suc k) n)
+
+table_root : IsRoot little_sizes little_base little_table_tree
+table_root = record {
+  stands = (root_page, (((behind 38 18 (omega arith) (omega arith) (omega arith), left_stands), tt), (within 39 (omega arith) (omega arith), right_stands)));
+  ordered = (
+    children_in 1 16 17 below_rowids (little_rowid 18) (little_child 18) (omega (arith, ints)) (omega arith) (omega arith) (omega (arith, ints), omega (arith, ints)),
+    children_in 19 16 35 (little_rowid 18) greatest_rowid little_right.last (omega (arith, ints)) (omega arith) (omega arith) (omega (arith, ints), omega (arith, ints)),
+  );
+  full = record {
+    below = (((omega arith, (children_full 1 17, (omega arith, tt))), tt), (omega arith, (children_full 19 17, (omega arith, tt))));
+    root = λ some other. omega arith;
+  };
+}
+
 schema_root : IsRoot little_sizes little_base little_schema_tree
 schema_root = record {
-  stands = (first_page, (schema_held, tt));
+  stands = (first_page, (record { is_cell = schema_cell; is_chain = no_chain; whole = refl }, tt));
   ordered = (omega (arith, ints), omega (arith, ints));
   full = record { below = tt; root = λ some other. absurd (omega arith) };
 }
 
-table_root : IsRoot little_sizes little_base little_table_tree
-table_root = record {
-  stands = (
-    root_page,
-    (
-      ((behind 3 1 (omega arith) (omega arith) (omega arith), (page_3, (row_held 1 (omega arith), tt))), ((behind 4 2 (omega arith) (omega arith) (omega arith), (page_4, (row_held 2 (omega arith), tt))), tt)),
-      (within 6 (omega arith) (omega arith), (page_6, (long_held, tt))),
-    ),
-  );
-  ordered = ((omega (arith, ints), omega (arith, ints)), ((omega (arith, ints), omega (arith, ints)), (omega (arith, ints), omega (arith, ints))));
-  full = record {
-    below = (((omega arith, tt), ((omega arith, tt), tt)), (omega arith, tt));
-    root = λ some other. omega arith;
-  };
-}
+-- The world.
 
 rise : AllPairs (λ (x y : ℕ). x < y) (1 ∷ 2 ∷ [])
 rise zero zero d less h = absurd (omega arith)
@@ -206,28 +314,46 @@ rise (suc i) zero d less h = absurd (omega arith)
 rise (suc i) (suc zero) d less h = absurd (omega arith)
 rise i (suc (suc j)) d less h = absurd (omega arith)
 
-differ : IsDistinct (λ (x y : ℕ). x == y) (7 ∷ [])
+differ : IsDistinct (λ (x y : ℕ). x == y) (42 ∷ [])
 unfolding IsDistinct
 differ = search rules
 
 free : IsFree little_sizes little_base little_trunks
 free = record {
-  named = (refl, record { in_range = within 7 (omega arith) (omega arith); counts = refl; few = omega arith; names = λ k h. absurd (omega arith); leaves_in_range = λ k d h. absurd (omega arith) }, refl);
+  named = (
+    refl,
+    record { in_range = within 42 (omega arith) (omega arith); counts = refl; few = omega arith; names = λ k h. absurd (omega arith); leaves_in_range = λ k d h. absurd (omega arith) },
+    refl,
+  );
   many = refl;
   differ = differ;
 }
 
-once : (n : ℕ) → times n (1 ∷ 2 ∷ 3 ∷ 4 ∷ 6 ∷ 5 ∷ 7 ∷ []) ≡ due 512 7 n
+abbrev all_within : ℕ → List ℕ → Bool
+all_within last [] = true
+all_within last (x ∷ xs) = nat_le x last && all_within last xs
+
+times_past : (last n : ℕ) (xs : List ℕ) → last < n → all_within last xs ≡ true → times n xs ≡ 0
+times_past last n [] past all = refl
+times_past last n (x ∷ xs) past all =
+    let both = and_parts (nat_le x last) (all_within last xs) all in
+    let low : x ≤ last = leb-true x last both.0 in
+    let none : hit x n ≡ 0 = grind (arith, nat_tests) in
+    omega (arith, none, times_past last n xs past both.1)
+
+abbrev numbers : List ℕ
+numbers = 1 ∷ (little_numbers ++ 42 ∷ [])
+
+counted : agree_below (λ k. times k numbers == due 512 42 k) (λ k. true) 43 ≡ true
 unfolding due
-once zero = refl
-once (suc zero) = refl
-once (suc (suc zero)) = refl
-once (suc (suc (suc zero))) = refl
-once (suc (suc (suc (suc zero)))) = refl
-once (suc (suc (suc (suc (suc zero))))) = refl
-once (suc (suc (suc (suc (suc (suc zero)))))) = refl
-once (suc (suc (suc (suc (suc (suc (suc zero))))))) = refl
-once (suc (suc (suc (suc (suc (suc (suc (suc n)))))))) = grind (arith, nat_tests)
+counted = refl
+
+once : (n : ℕ) → times n numbers ≡ due 512 42 n
+once n =
+    elim (cases_lt 42 n) [
+      | inl past ↦ times_past 42 n numbers past refl ∙ sym (due-past 512 42 n past)
+      | inr few ↦ eqb-true (times n numbers) (due 512 42 n) (agree_below_at (λ k. times k numbers == due 512 42 k) (λ k. true) 43 n counted (omega arith))
+    ]
 
 world : IsWorld little_sizes little_base little_world
 world = record { trees = (schema_root, (table_root, tt)); rise = rise; freelist = free; once = once; few = omega arith }

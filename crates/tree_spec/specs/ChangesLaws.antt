@@ -1,5 +1,5 @@
 -- Changes join, and a change of one tree gives the world after it: crates above cite these facts in their proofs.
-use Rattle.std.proofs.Common.{◌≡◌, ℕ, ◌+◌, ◌<◌, ◌≤◌, List, [], ◌∷◌, ◌++◌, length, map, drop, slice_index, ap, ◌∙◌, subst, inl, inr, arith}
+use Rattle.std.proofs.Common.{◌≡◌, ℕ, ◌+◌, ◌<◌, ◌≤◌, ◌⊎◌, List, [], ◌∷◌, ◌++◌, length, map, max, drop, slice_index, ap, ◌∙◌, subst, inl, inr, arith}
 use Rattle.std.proofs.Math.Path.{subst⁻¹}
 use Rattle.std.specs.List.{flat_map, AllByRecursion, AllPairs}
 use Rattle.std.proofs.lemmas.Bool.{cases_lt}
@@ -14,7 +14,7 @@ use Rattle.tree_spec.specs.Trees.{Rooted, root_of, pages_in}
 use Rattle.tree_spec.specs.Standing.{Sizes, Paged, Keeps, IsRoot}
 use Rattle.tree_spec.specs.StandingLaws.{IsRoot-kept, keeps-first, keeps-front, keeps-back, number-grows}
 use Rattle.tree_spec.specs.PagesLaws.{SamePage-whole}
-use Rattle.tree_spec.specs.Worlds.{with_tree, due, greatest_count, IsFree, IsWorld, slack}
+use Rattle.tree_spec.specs.Worlds.{with_tree, due, due_pages, greatest_count, IsFree, IsWorld, slack}
 use Rattle.tree_spec.specs.WorldsLaws.{due-most, due-grows, due-past, due-counted, due_pages-grows, times-world, all-front, all-back, all-join}
 use Rattle.tree_spec.specs.Changes.{Writes, Within, Turns}
 
@@ -154,12 +154,17 @@ module _ (sizes : Sizes) where
       }
 
   -- Together the pages in hand and those that can still be taken are as many as before: slack falls by one for each page taken, and rises by one for each given back.
-  pub slack-kept : (a b : Paged) (x y : List ℕ) (p q : List Trunk) (limit : ℕ) → Within sizes a x p → Turns sizes a x p b y q → b.count ≤ limit
+  pub slack-kept : (a b : Paged) (x y : List ℕ) (p q : List Trunk) (limit : ℕ) → Within sizes a x p → Turns sizes a x p b y q → b.count ≤ max limit a.count
       → slack sizes b limit q + length y ≡ slack sizes a limit p + length x
   slack-kept a b x y p q limit within t most =
       let size = sizes.size in
       let last = b.count in
       let later = Turns-within a b x y p q within t in
+      let limited : b.count ≤ max limit a.count → (due_pages size b.count ≤ due_pages size limit) ⊎ ((due_pages size limit ≤ due_pages size a.count) × (due_pages size b.count ≡ due_pages size a.count)) =
+      λ m. elim (cases_lt limit b.count) [
+        | inl over ↦ inr (due_pages-grows size limit a.count (omega arith), ap (due_pages size) (omega (arith, t.grows)))
+        | inr under ↦ inl (due_pages-grows size b.count limit under)
+      ] in
       let counted : up_to (λ n. times n y + times n (free_pages q) + due size a.count n) last ≡ up_to (λ n. times n x + times n (free_pages p) + due size b.count n) last =
       up_to-same (λ n. times n y + times n (free_pages q) + due size a.count n) (λ n. times n x + times n (free_pages p) + due size b.count n) last t.balance in
       omega (
@@ -176,5 +181,5 @@ module _ (sizes : Sizes) where
         due-counted size a.count last t.grows,
         due-counted size b.count last (omega arith),
         due_pages-grows size a.count b.count t.grows,
-        due_pages-grows size b.count limit most,
+        limited most,
       )

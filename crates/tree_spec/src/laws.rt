@@ -1,5 +1,5 @@
 // Laws about the definitions.
-ghost use Rattle.std.specs.Prelude.{◌≡◌, ◌+◌, ◌^◌, ◌≤◌, ◌<ℤ◌, ℕ, List, length, AllPairs};
+ghost use Rattle.std.specs.Prelude.{◌≡◌, ◌+◌, ◌^◌, ◌≤◌, ◌<ℤ◌, ℕ, max, List, length, AllPairs};
 ghost use Rattle.page_spec.specs.Freelists.{Trunk};
 ghost use Rattle.tree_spec.specs.declared.TreeKind.{TreeKind};
 ghost use Rattle.tree_spec.specs.declared.TreeKind.TheVariants.{Table};
@@ -44,19 +44,20 @@ pub fn world_has_trees()
 
 /// A change and another one behind it are one change.
 pub fn changes_join()
-    ensures { (sizes : Sizes) (a b c : Paged) (x y z : List ℕ) (p q r : List Trunk) → Within sizes a x p
-        → Turns sizes a x p b y q → Turns sizes b y q c z r → Turns sizes a x p c z r }
+    ensures { (sizes : Sizes) (old between new : Paged) (hand held later : List ℕ) (trunks some rest : List Trunk) → Within sizes old hand trunks
+        → Turns sizes old hand trunks between held some → Turns sizes between held some new later rest → Turns sizes old hand trunks new later rest }
 {}
 
 /// A change of one tree and of the freelist gives the world with this tree in its new form, and all others as they were.
 pub fn changed_world()
-    ensures { (sizes : Sizes) (a b : Paged) (front back : List Rooted) (old new : Rooted) (p q : List Trunk)
-        → IsWorld sizes a (with_tree front old back p) → Turns sizes a (pages_in old) p b (pages_in new) q
-        → IsRoot sizes b new → root_of new ≡ root_of old → b.count ≤ greatest_count → IsWorld sizes b (with_tree front new back q) }
+    ensures { (sizes : Sizes) (old new : Paged) (front back : List Rooted) (before after : Rooted) (trunks rest : List Trunk)
+        → IsWorld sizes old (with_tree front before back trunks) → Turns sizes old (pages_in before) trunks new (pages_in after) rest
+        → IsRoot sizes new after → root_of after ≡ root_of before → new.count ≤ greatest_count → IsWorld sizes new (with_tree front after back rest) }
 {}
 
-/// The pages that can still be taken become fewer by one for each page taken, and more by one for each given back.
+/// Where no page is added past the limit, the pages that can still be taken become fewer by one for each page taken, and more by one for each given back.
 pub fn slack_is_kept()
-    ensures { (sizes : Sizes) (a b : Paged) (x y : List ℕ) (p q : List Trunk) (limit : ℕ) → Within sizes a x p → Turns sizes a x p b y q
-        → b.count ≤ limit → slack sizes b limit q + length y ≡ slack sizes a limit p + length x }
+    ensures { (sizes : Sizes) (old new : Paged) (hand later : List ℕ) (trunks rest : List Trunk) (limit : ℕ) → Within sizes old hand trunks
+        → Turns sizes old hand trunks new later rest → new.count ≤ max limit old.count
+        → slack sizes new limit rest + length later ≡ slack sizes old limit trunks + length hand }
 {}

@@ -1,4 +1,4 @@
-use Rattle.std.proofs.Common.{◌≡◌, ℕ, ℤ, zero, suc, ◌+◌, ◌-◌, ◌*◌, ◌^◌, ◌<◌, ◌≤◌, ◌<ℤ◌, ◌==◌, ◌&&◌, Bool, true, nat_le, List, [], ◌∷◌, ◌++◌, length, map, replicate, slice_index, slice_index_or, inr, inl, refl, sym, ap, subst, ◌∙◌, arith, rules}
+use Rattle.std.proofs.Common.{◌≡◌, ℕ, ℤ, zero, suc, pos, ◌+◌, ◌-◌, ◌*◌, ◌^◌, ◌<◌, ◌≤◌, ◌<ℤ◌, ◌==◌, ◌&&◌, Bool, true, nat_le, List, [], ◌∷◌, ◌++◌, length, map, replicate, slice_index, slice_index_or, inr, inl, refl, sym, ap, subst, ◌∙◌, arith, rules}
 use Rattle.std.proofs.Math.Path.{subst⁻¹}
 use Rattle.std.specs.List.{AllPairs, AllByRecursion, IsDistinct}
 use Rattle.std.specs.Int.{w64, cast_signed}
@@ -8,12 +8,13 @@ use Rattle.std.proofs.lemmas.Bool.{cases_lt, and_parts, and_from, cond-true, eqb
 use Rattle.std.proofs.lemmas.Bool.Decides.{nat_tests}
 use Rattle.std.proofs.lemmas.Int.{ints, to_z-of_z}
 use Rattle.std.proofs.lemmas.Slice.Eq.{bytes_eq-Decides}
+use Rattle.byteorder.specs.Endian.{big_number}
 use Rattle.byte_fields.specs.Bytes.{part_of}
 use Rattle.byte_fields.specs.Numbers.{number_at}
 use Rattle.format_spec.specs.declared.PageKind.{PageKind}
 use Rattle.format_spec.specs.declared.PageKind.TheVariants.{TableInterior, TableLeaf}
 use Rattle.format_spec.specs.Varint.{IsVarint}
-use Rattle.format_spec.specs.Cell.{IsCell}
+use Rattle.format_spec.specs.Cell.{IsCell, payload_limit, local_size, overflow_size}
 use Rattle.format_spec.specs.Page.{IsPage, IsCellAt, RightChild, header_place, kind_byte, cell_count, cell_place, cell_room}
 use Rattle.page_spec.specs.Pages.{IsInRange}
 use Rattle.page_spec.specs.Chains.{IsChain}
@@ -42,68 +43,51 @@ rowid_is k low =
     let fits : FitsSigned w64 (little_rowid k) = search (rules, ints) in
     sym (subst (λ (n : ℕ). cast_signed w64 n ≡ little_rowid k) bits (to_z-of_z w64 (little_rowid k) fits))
 
+-- a cell of a table's leaf, by its parts
+module _ (payload rowid_number local overflow : ℕ) (rowid : ℤ) (payload_bytes rowid_bytes local_bytes overflow_bytes : List ℕ) (payload_is : IsVarint payload_bytes payload)
+    (limit : payload ≤ payload_limit) (rowid_varint : IsVarint rowid_bytes rowid_number) (rowid_is : rowid ≡ cast_signed w64 rowid_number) (local_is : local ≡ local_size TableLeaf 512 payload)
+    (local_length : length local_bytes ≡ local) (overflow_length : length overflow_bytes ≡ overflow_size local payload)
+    (overflow_is : overflow ≡ big_number (length overflow_bytes) overflow_bytes) where
+  abbrev leaf_bytes : List ℕ
+  leaf_bytes = payload_bytes ++ (rowid_bytes ++ (local_bytes ++ overflow_bytes))
+
+  leaf_cell : IsCell TableLeaf 512 leaf_bytes
+      (record { size = length leaf_bytes; rowid = rowid; child = 0; payload = payload; local_at = length payload_bytes + length rowid_bytes; local = local; overflow = overflow })
+  leaf_cell = record {
+    payload_bytes = payload_bytes;
+    rowid_bytes = rowid_bytes;
+    rowid_number = rowid_number;
+    local_bytes = local_bytes;
+    overflow_bytes = overflow_bytes;
+    whole = refl;
+    payload = payload_is;
+    limit = limit;
+    rowid_varint = rowid_varint;
+    rowid = rowid_is;
+    local_at = refl;
+    local = local_is;
+    local_length = local_length;
+    overflow_length = overflow_length;
+    overflow = overflow_is;
+    child = refl;
+    size = refl;
+  }
+
 schema_cell : IsCell TableLeaf 512 little_schema_cell.bytes little_schema_cell.view
-schema_cell = record {
-  payload_bytes = 53 ∷ [];
-  rowid_bytes = 1 ∷ [];
-  rowid_number = 1;
-  local_bytes = little_schema;
-  overflow_bytes = [];
-  whole = refl;
-  payload = one_byte 53 (omega arith);
-  limit = omega arith;
-  rowid_varint = one_byte 1 (omega arith);
-  rowid = refl;
-  local_at = refl;
-  local = refl;
-  local_length = refl;
-  overflow_length = refl;
-  overflow = refl;
-  child = refl;
-  size = refl;
-}
+schema_cell = leaf_cell 53 1 53 0 (pos 1) (53 ∷ []) (1 ∷ []) little_schema [] (one_byte 53 (omega arith)) (omega arith) (one_byte 1 (omega arith)) refl refl refl refl refl
+
+two_bytes : (front last : ℕ) → 128 ≤ front → front < 256 → last < 128 → IsVarint (front ∷ last ∷ []) ((front - 128) * 128 + last)
+two_bytes front last high few low = record { front = front ∷ []; last = last; whole = refl; at_most_nine = omega arith; high = ((high, few), tt); low = low; sum = omega arith }
 
 row_cell : (k : ℕ) → k < 256 → IsCell TableLeaf 512 (little_cell k).bytes (little_cell k).view
-row_cell k low = record {
-  payload_bytes = 131 ∷ 80 ∷ [];
-  rowid_bytes = little_key k;
-  rowid_number = 2 ^ 63 + k;
-  local_bytes = little_record;
-  overflow_bytes = [];
-  whole = refl;
-  payload = record { front = 131 ∷ []; last = 80; whole = refl; at_most_nine = omega arith; high = search rules; low = omega arith; sum = refl };
-  limit = omega arith;
-  rowid_varint = key k low;
-  rowid = rowid_is k low;
-  local_at = refl;
-  local = refl;
-  local_length = refl;
-  overflow_length = refl;
-  overflow = refl;
-  child = refl;
-  size = refl;
-}
+row_cell k low =
+    leaf_cell 464 (2 ^ 63 + k) 464 0 (little_rowid k) (131 ∷ 80 ∷ []) (little_key k) little_record [] (two_bytes 131 80 (omega arith) (omega arith) (omega arith)) (omega arith) (key k low) (rowid_is k low)
+    refl refl refl refl
 
 long_cell : IsCell TableLeaf 512 little_long_cell.bytes little_long_cell.view
-long_cell = record {
-  payload_bytes = 133 ∷ 64 ∷ [];
-  rowid_bytes = little_key 36;
-  rowid_number = 2 ^ 63 + 36;
-  local_bytes = 4 ∷ 0 ∷ 139 ∷ 4 ∷ replicate 192 0;
-  overflow_bytes = 0 ∷ 0 ∷ 0 ∷ 40 ∷ [];
-  whole = refl;
-  payload = record { front = 133 ∷ []; last = 64; whole = refl; at_most_nine = omega arith; high = search rules; low = omega arith; sum = refl };
-  limit = omega arith;
-  rowid_varint = key 36 (omega arith);
-  rowid = rowid_is 36 (omega arith);
-  local_at = refl;
-  local = refl;
-  local_length = refl;
-  overflow_length = refl;
-  overflow = refl;
-  child = refl;
-  size = refl;
-}
+long_cell =
+    leaf_cell 704 (2 ^ 63 + 36) 196 40 (little_rowid 36) (133 ∷ 64 ∷ []) (little_key 36) (4 ∷ 0 ∷ 139 ∷ 4 ∷ replicate 192 0) (0 ∷ 0 ∷ 0 ∷ 40 ∷ []) (two_bytes 133 64 (omega arith) (omega arith) (omega arith))
+    (omega arith) (key 36 (omega arith)) (rowid_is 36 (omega arith)) refl refl refl refl
 
 divider : (child k : ℕ) → child < 256 → k < 256 → IsCell TableInterior 512 (little_behind child k).bytes (little_behind child k).view
 divider child k few low = record {

@@ -5,7 +5,7 @@ use Rattle.std.specs.List.{flat_map, AllByRecursion, AllPairs}
 use Rattle.byte_fields.specs.Bytes.{part_of}
 use Rattle.format_spec.specs.declared.PageKind.{PageKind}
 use Rattle.page_spec.specs.Pages.{IsInRange, next_page}
-use Rattle.page_spec.specs.Chains.{AreLinked, named_behind, content_of}
+use Rattle.page_spec.specs.Chains.{IsChain, AreLinked, named_behind, content_of}
 use Rattle.tree_spec.specs.declared.TreeKind.{TreeKind}
 use Rattle.tree_spec.specs.declared.TreeKind.TheVariants.{Table, Index}
 use Rattle.tree_spec.specs.CountsLaws.{times-append, hit-itself}
@@ -62,6 +62,17 @@ module _ (size : ℕ) (old new : Paged) where
       ∙ ap (λ (bytes : List ℕ). content_of usable (old.pages x) ++ bytes) (content-kept usable xs same.1)
 
 module _ (sizes : Sizes) (old new : Paged) where
+  -- a chain is as it was where its pages are
+  pub chain-kept : (first bytes : ℕ) (numbers : List ℕ) → Keeps numbers old new
+      → IsChain old.pages sizes.size sizes.usable old.count first bytes numbers → IsChain new.pages sizes.size sizes.usable new.count first bytes numbers
+  chain-kept first bytes numbers keeps chain =
+      let same = chain-whole sizes.size old new first numbers keeps chain.linked in
+      record {
+        linked = linked-kept sizes.size old new first numbers keeps.grows same chain.linked;
+        ends = named-kept sizes.size old new first numbers same ∙ chain.ends;
+        many = chain.many;
+      }
+
   -- a cell is held where its chain is as it was
   pub held-kept : (page_kind : PageKind) (cell : TreeCell) → Keeps cell.chain old new → IsHeld sizes old page_kind cell → IsHeld sizes new page_kind cell
   held-kept page_kind cell keeps held =
@@ -70,11 +81,7 @@ module _ (sizes : Sizes) (old new : Paged) where
       let same = chain-whole sizes.size old new first cell.chain keeps held.is_chain.linked in
       record {
         is_cell = held.is_cell;
-        is_chain = record {
-          linked = linked-kept sizes.size old new first cell.chain keeps.grows same held.is_chain.linked;
-          ends = named-kept sizes.size old new first cell.chain same ∙ held.is_chain.ends;
-          many = held.is_chain.many;
-        };
+        is_chain = chain-kept first rest cell.chain keeps held.is_chain;
         whole = held.whole ∙ ap (λ (bytes : List ℕ). part_of cell.bytes cell.view.local_at cell.view.local ++ take rest bytes) (sym (content-kept sizes.size old new sizes.usable cell.chain same));
       }
 
@@ -101,7 +108,8 @@ module _ (sizes : Sizes) (old new : Paged) where
         page-kept (page_of levels tree) (old.pages (page_of levels tree)) (new.pages (page_of levels tree)) same sizes.usable (kind_at kind levels)
         (map (λ (cell : TreeCell). cell.bytes) (own_cells levels tree)) (own_right levels tree) own
 
-    children-kept : (levels : ℕ) → ((tree : TreeOf levels) → Keeps (pages_of levels tree) old new → Stands sizes old kind levels tree → Stands sizes new kind levels tree)
+    -- children and the cells behind them
+    pub children-kept : (levels : ℕ) → ((tree : TreeOf levels) → Keeps (pages_of levels tree) old new → Stands sizes old kind levels tree → Stands sizes new kind levels tree)
         → (children : List (TreeOf levels × TreeCell)) → Keeps (flat_map (λ child. pages_of levels child.0 ++ child.1.chain) children) old new
         → AllByRecursion (StandsBefore sizes old kind levels) children → AllByRecursion (StandsBefore sizes new kind levels) children
     children-kept levels below [] keeps stand = tt

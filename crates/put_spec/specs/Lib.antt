@@ -1,0 +1,4 @@
+pub mod Children
+pub mod Puts
+pub mod ChildrenLaws
+pub mod PutsLaws

@@ -5,8 +5,8 @@ use Rattle.page_spec.specs.Freelists.{Trunk}
 use Rattle.page_spec.specs.Chains.{IsChain}
 use Rattle.tree_spec.specs.declared.TreeKind.{TreeKind}
 use Rattle.tree_spec.specs.declared.TreeKind.TheVariants.{Table, Index}
-use Rattle.tree_spec.specs.Trees.{TreeCell, TreeOf, Leaf, Interior, Rooted, leaf_kind, page_of, own_cells, pages_of, pages_beside, pages_in, member, list_of, list_in, list_beside, IsFull, IsFullBelow, root_of}
-use Rattle.tree_spec.specs.Bounds.{BesideIn, InOrder}
+use Rattle.tree_spec.specs.Trees.{TreeCell, TreeOf, Leaf, Interior, Rooted, leaf_kind, page_of, own_cells, pages_of, pages_beside, pages_in, member, list_of, list_in, list_beside, IsFull, IsFullBelow, IsFullRoot, root_of}
+use Rattle.tree_spec.specs.Bounds.{BesideIn, InOrder, below_rowids, greatest_rowid}
 use Rattle.tree_spec.specs.Standing.{Sizes, Paged, IsHeld, HasOwnPage, HasBelow, Stands, StandsBefore}
 use Rattle.tree_spec.specs.Changes.{Within, Turns}
 use Rattle.put_spec.specs.Children.{PutIn, child_at, interior_with}
@@ -40,6 +40,15 @@ hand_before {levels} before = pages_of levels before.tree ++ before.cell.chain
 abbrev pub hand_after : {levels : ℕ} → After levels → List ℕ
 hand_after {levels} after = pages_beside levels after.siblings after.home ++ after.chain
 
+-- a put of a cell into the tree of a root
+abbrev pub before_of : (old : Rooted) → Paged → List Trunk → TreeCell → Before old.levels
+before_of old base trunks cell = record { base = base; tree = old.tree; trunks = trunks; cell = cell }
+
+-- the rowid of a table's cell has 64 bits; an index's cell has none
+abbrev pub HasRowid : TreeKind → TreeCell → Type 0
+HasRowid Table cell = (below_rowids <ℤ cell.view.rowid) × (cell.view.rowid ≤ℤ greatest_rowid)
+HasRowid Index cell = Unit {0}
+
 -- the part of a put below the child at a place
 abbrev pub child_before : (levels : ℕ) → Before (suc levels) → ℕ → Before levels
 child_before levels before i = record { base = before.base; tree = child_at i before.tree.children before.tree.last; trunks = before.trunks; cell = before.cell }
@@ -54,6 +63,18 @@ interior_after levels before i after = record {
   first = after.first;
   bytes = after.bytes;
   chain = after.chain;
+}
+
+-- a leaf whose cells have become these
+abbrev pub leaf_after : Before zero → List TreeCell → ℕ → ℕ → List ℕ → After zero
+leaf_after before cells first bytes chain = record {
+  base = before.base;
+  siblings = [];
+  home = record { page = before.tree.page; cells = cells };
+  trunks = before.trunks;
+  first = first;
+  bytes = bytes;
+  chain = chain;
 }
 
 -- A leaf of a table is cut: its front goes to another page, behind which stands a divider with the rowid of the front's last cell.
@@ -148,4 +169,4 @@ module _ (sizes : Sizes) (kind : TreeKind) where
     pub root : root_of new ≡ page_of levels before.tree
     pub bounds : (low high : ℤ) → low <ℤ before.cell.view.rowid → before.cell.view.rowid ≤ℤ high → InBounds kind levels low high before.tree → InBounds kind new.levels low high new.tree
     pub list : PutIn kind (member before.cell) (list_of kind levels before.tree) (list_in new)
-    pub full : IsFullBelow levels before.tree → IsFullBelow new.levels new.tree
+    pub full : IsFullRoot levels before.tree → IsFullRoot new.levels new.tree

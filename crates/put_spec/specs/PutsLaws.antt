@@ -11,14 +11,14 @@ use Rattle.tree_spec.specs.Counts.{hit, times}
 use Rattle.tree_spec.specs.CountsLaws.{times-append, hit-itself}
 use Rattle.tree_spec.specs.Trees.{TreeCell, TreeOf, Member, leaf_kind, interior_kind, page_of, own_cells, cells_behind, chain_pages, pages_of, pages_below, pages_beside, member, between, list_of, list_beside, IsFull, IsFullBelow}
 use Rattle.tree_spec.specs.Bounds.{RisesIn, BesideIn, InOrder}
-use Rattle.tree_spec.specs.Standing.{Sizes, Paged, Keeps, IsHeld, IsBehind, HasOwnPage, HasBelow, Stands, StandsBefore, StandsLast}
-use Rattle.tree_spec.specs.StandingLaws.{chain-kept, children-kept, HasBelow-kept, Stands-kept}
+use Rattle.tree_spec.specs.Standing.{Sizes, Paged, Keeps, IsNumber, IsHeld, IsBehind, HasOwnPage, HasBelow, Stands, StandsBefore, StandsLast}
+use Rattle.tree_spec.specs.StandingLaws.{number-grows, chain-kept, children-kept, HasBelow-kept, Stands-kept}
 use Rattle.tree_spec.specs.WorldsLaws.{due-most, all-front, all-back, all-join}
 use Rattle.tree_spec.specs.Changes.{Within, Turns, Writes}
 use Rattle.tree_spec.specs.ChangesLaws.{Turns-then, Turns-wide, Turns-within, Turns-write, Turns-keeps}
 use Rattle.put_spec.specs.Children.{PutIn, Belongs, views_of, child_at, children_with, last_with, interior_with}
 use Rattle.put_spec.specs.ChildrenLaws.{beside-join, child-within, count-with, keeps-fewer, stands-with, all-with, all-child, some-with, order-with, list-join, list-with, put-within}
-use Rattle.put_spec.specs.Puts.{InBounds, Before, After, hand_before, hand_after, child_before, interior_after, IsCut, cut_after, IsOpened, IsPut, IsRootPut}
+use Rattle.put_spec.specs.Puts.{moved, deeper, InBounds, Before, After, hand_before, hand_after, child_before, interior_after, IsCut, cut_after, IsOpened, IsPut, IsRootPut}
 
 -- all pages of a tree, by its own page and the others
 pub pages-parts : (n levels : ℕ) (tree : TreeOf levels) → times n (pages_of levels tree) ≡ hit (page_of levels tree) n + times n (pages_below levels tree)
@@ -304,5 +304,110 @@ module _ (sizes : Sizes) (kind : TreeKind) where
         root = o.page;
         bounds = λ low high over under bounds. subst (λ (s : List (TreeOf levels × TreeCell)). BesideIn (InBounds kind levels) low high s after.home) none (o.bounds low high over under bounds);
         list = subst (λ (s : List (TreeOf levels × TreeCell)). PutIn kind (member before.cell) (list_of kind levels before.tree) (list_beside kind levels s after.home)) none o.list;
-        full = λ full. (o.full full).1;
+        full = λ full. record {
+          below = (o.full full.below).1;
+          root = λ deep other. o.some (omega (arith, full.root deep (λ is. other (o.page ∙ is))));
+        };
+      }
+
+  -- A root gets a new level.
+
+  moved-page : (levels fresh : ℕ) (tree : TreeOf levels) → page_of levels (moved levels fresh tree) ≡ fresh
+  moved-page zero fresh tree = refl
+  moved-page (suc levels) fresh tree = refl
+
+  moved-rest : (levels fresh : ℕ) (tree : TreeOf levels) → pages_below levels (moved levels fresh tree) ≡ pages_below levels tree
+  moved-rest zero fresh tree = refl
+  moved-rest (suc levels) fresh tree = refl
+
+  moved-below : (base : Paged) (levels fresh : ℕ) (tree : TreeOf levels) → HasBelow sizes base kind levels tree → HasBelow sizes base kind levels (moved levels fresh tree)
+  moved-below base zero fresh tree below = below
+  moved-below base (suc levels) fresh tree below = below
+
+  moved-bounds : (k : TreeKind) (levels : ℕ) (low high : ℤ) (fresh : ℕ) (tree : TreeOf levels) → InBounds k levels low high tree → InBounds k levels low high (moved levels fresh tree)
+  moved-bounds Table zero low high fresh tree bounds = bounds
+  moved-bounds Table (suc levels) low high fresh tree bounds = bounds
+  moved-bounds Index levels low high fresh tree bounds = tt
+
+  moved-full : (levels fresh : ℕ) (tree : TreeOf levels) → IsFull levels tree → IsFull levels (moved levels fresh tree)
+  moved-full zero fresh tree full = full
+  moved-full (suc levels) fresh tree full = full
+
+  moved-list : (levels fresh : ℕ) (tree : TreeOf levels) → list_of kind levels (moved levels fresh tree) ≡ list_of kind levels tree
+  moved-list zero fresh tree = refl
+  moved-list (suc levels) fresh tree = refl
+
+  siblings-moved : (levels : ℕ) (low high : ℤ) (fresh : ℕ) (siblings : List (TreeOf levels × TreeCell)) (tree : TreeOf levels) → BesideIn (InBounds kind levels) low high siblings tree
+      → BesideIn (InBounds kind levels) low high siblings (moved levels fresh tree)
+  siblings-moved levels low high fresh [] tree bounds = moved-bounds kind levels low high fresh tree bounds
+  siblings-moved levels low high fresh (x ∷ xs) tree bounds = (bounds.0, siblings-moved levels x.1.view.rowid high fresh xs tree bounds.1)
+
+  bounds-deeper : (k : TreeKind) (levels : ℕ) (low high : ℤ) (tree : TreeOf (suc levels)) → BesideIn (InBounds k levels) low high tree.children tree.last → InBounds k (suc levels) low high tree
+  bounds-deeper Table levels low high tree bounds = bounds
+  bounds-deeper Index levels low high tree bounds = tt
+
+  cells-some : {Child : Type 0} (children : List (Child × TreeCell)) → 0 < length children → 0 < length (cells_behind children)
+  cells-some [] some = absurd (omega arith)
+  cells-some (child ∷ children) some = omega arith
+
+  -- What a root's page had is put on a page that was taken, and then the root is written with the cells between the siblings.
+  pub put-deepens : (levels : ℕ) (before : Before levels) (after : After levels) (fresh : ℕ) (between_them new : Paged) (trunks : List Trunk) → IsPut sizes kind levels before after
+      → Turns sizes after.base [] after.trunks between_them (fresh ∷ []) trunks → IsNumber sizes between_them fresh → HasOwnPage sizes between_them kind levels (moved levels fresh after.home)
+      → Writes (page_of levels after.home) between_them new → HasOwnPage sizes new kind (suc levels) (deeper levels after fresh) → 0 < length after.siblings
+      → IsRootPut sizes kind levels before new (record { kind = kind; levels = suc levels; tree = deeper levels after fresh }) after.first after.bytes after.chain trunks
+  put-deepens levels before after fresh mid new trunks put taken number own writes root some =
+      let o = put.opened in
+      let page = page_of levels after.home in
+      let home = moved levels fresh after.home in
+      let within = Turns-within sizes before.base after.base (hand_before before) (hand_after after) before.trunks after.trunks o.within o.turns in
+      let keeps : Keeps (hand_after after) after.base mid = Turns-keeps sizes after.base mid [] (fresh ∷ []) after.trunks trunks (hand_after after) (λ n. omega (arith, within n)) taken in
+      let parts = λ (n : ℕ). hand-parts n levels after in
+      let front = flat_map (λ (child : TreeOf levels × TreeCell). pages_of levels child.0 ++ child.1.chain) after.siblings in
+      let hand = pages_of (suc levels) (deeper levels after fresh) ++ after.chain in
+      let new_parts = λ (n : ℕ).
+      let whole = times-append n (pages_of (suc levels) (deeper levels after fresh)) after.chain in
+      let inner = times-append n front (pages_of levels home) in
+      let own_page = pages-parts n levels home in
+      let moved_page = ap (λ (p : ℕ). hit p n) (moved-page levels fresh after.home) in
+      let rest = ap (times n) (moved-rest levels fresh after.home) in
+      let all : times n hand ≡ hit page n + times n front + hit fresh n + times n (pages_below levels after.home) + times n after.chain = omega arith in
+      all in
+      let step : Turns sizes after.base (hand_after after) after.trunks mid hand trunks =
+      Turns-wide sizes after.base mid [] (fresh ∷ []) (hand_after after) hand after.trunks trunks (λ n. times n (hand_after after)) (λ n. omega arith) (λ n. omega (arith, parts n, new_parts n)) taken in
+      let later = Turns-within sizes after.base mid (hand_after after) hand after.trunks trunks within step in
+      let kept = beside-written mid new page hand in
+      let siblings = children-kept sizes mid new kind levels (Stands-kept sizes mid new kind levels) after.siblings (kept front trunks later writes (λ n. omega (arith, new_parts n)))
+      (children-kept sizes after.base mid kind levels (Stands-kept sizes after.base mid kind levels) after.siblings (keeps-fewer after.base mid (hand_after after) front (λ n more. omega (arith, parts n)) keeps) o.siblings) in
+      let below = moved-below mid levels fresh after.home
+      (HasBelow-kept sizes after.base mid kind levels after.home (keeps-fewer after.base mid (hand_after after) (pages_below levels after.home) (λ n more. omega (arith, parts n)) keeps) o.below) in
+      let home_stands : Stands sizes new kind levels home =
+      Stands-kept sizes mid new kind levels home
+      (kept (pages_of levels home) trunks later writes (λ n. omega (arith, new_parts n, pages-parts n levels home, ap (λ (p : ℕ). hit p n) (moved-page levels fresh after.home), ap (times n) (moved-rest levels fresh after.home))))
+      (own, below) in
+      record {
+        turns = Turns-then sizes before.base after.base new (hand_before before) (hand_after after) hand before.trunks after.trunks trunks o.within o.turns
+            (Turns-then sizes after.base mid new (hand_after after) hand hand after.trunks trunks trunks within step (Turns-write sizes mid new page hand trunks later (omega (arith, new_parts page, hit-itself page)) writes));
+        kind_is = refl;
+        stands = (
+          root,
+          (
+            siblings,
+            (
+              subst⁻¹ (IsNumber sizes new) (moved-page levels fresh after.home) (number-grows sizes.size mid.count new.count fresh (omega (arith, writes.count)) number),
+              home_stands,
+            ),
+          ),
+        );
+        freed = chain-kept sizes mid new after.first after.bytes after.chain (kept after.chain trunks later writes (λ n. omega (arith, new_parts n)))
+            (chain-kept sizes after.base mid after.first after.bytes after.chain (keeps-fewer after.base mid (hand_after after) after.chain (λ n more. omega (arith, parts n)) keeps) o.freed);
+        root = o.page;
+        bounds = λ low high over under bounds. bounds-deeper kind levels low high (deeper levels after fresh) (siblings-moved levels low high fresh after.siblings after.home (o.bounds low high over under bounds));
+        list = subst⁻¹ (λ (l : List Member). PutIn kind (member before.cell) (list_of kind levels before.tree) (flat_map (λ (child : TreeOf levels × TreeCell). list_of kind levels child.0 ++ between kind child.1) after.siblings ++ l))
+            (moved-list levels fresh after.home) o.list;
+        full = λ full.
+            let grown = o.full full.below in
+            record {
+              below = (grown.0, moved-full levels fresh after.home (o.some (omega arith), grown.1));
+              root = λ deep other. omega (arith, cells-some after.siblings some);
+            };
       }

@@ -10,4 +10,8 @@
 
 mod laws;
 
-pub use laws::{cut_page_is_opened, put_child_opens_its_parent, root_stays, written_page_is_put};
+pub use laws::{
+    cell_is_put_in_a_leaf, cell_is_replaced_in_a_leaf, cut_page_is_opened, put_begins_in_a_world,
+    put_child_opens_its_parent, put_gives_a_world, root_gets_a_level, root_stays,
+    written_page_is_put,
+};

@@ -1,5 +1,5 @@
 -- Changes join, and a change of one tree gives the world after it: crates above cite these facts in their proofs.
-use Rattle.std.proofs.Common.{◌≡◌, ℕ, ◌+◌, ◌<◌, ◌≤◌, ◌⊎◌, List, [], ◌∷◌, ◌++◌, length, map, max, drop, slice_index, ap, ◌∙◌, subst, inl, inr, arith}
+use Rattle.std.proofs.Common.{◌≡◌, ℕ, ◌+◌, ◌<◌, ◌≤◌, ◌⊎◌, List, [], ◌∷◌, ◌++◌, length, map, max, drop, slice_index, refl, ap, ◌∙◌, subst, inl, inr, arith}
 use Rattle.std.proofs.Math.Path.{subst⁻¹}
 use Rattle.std.specs.List.{flat_map, AllByRecursion, AllPairs}
 use Rattle.std.proofs.lemmas.Bool.{cases_lt}
@@ -42,6 +42,16 @@ module _ (sizes : Sizes) where
     header = t.header;
     freelist = t.freelist;
     balance = λ n. omega (arith, t.balance n, one n, two n);
+  }
+
+  -- nothing changes but the order of the pages in hand
+  pub Turns-same : (a : Paged) (x y : List ℕ) (p : List Trunk) → ((n : ℕ) → times n y ≡ times n x) → Turns sizes a x p a y p
+  Turns-same a x y p same = record {
+    grows = omega arith;
+    kept = λ n is_due no_x no_p. refl;
+    header = λ k low outside. refl;
+    freelist = λ free. free;
+    balance = λ n. omega (arith, same n);
   }
 
   -- what is in hand after a change, and the free pages, stand once at most

@@ -1,11 +1,15 @@
 -- A tree stands where its pages are as they were: crates above cite these facts in their proofs.
-use Rattle.std.proofs.Common.{◌≡◌, ℕ, zero, suc, ◌-◌, ◌≤◌, ◌<ℤ◌, List, [], ◌∷◌, ◌++◌, map, take, refl, sym, ap, ◌∙◌, subst, arith}
+use Rattle.std.proofs.Common.{◌≡◌, ℕ, zero, suc, ◌-◌, ◌≤◌, ◌<ℤ◌, ◌+◌, ◌==◌, if◌then◌else◌, List, [], ◌∷◌, ◌++◌, map, take, drop, refl, sym, ap, ap₂, ◌∙◌, subst, arith}
 use Rattle.std.proofs.Math.Path.{subst⁻¹}
+use Rattle.std.proofs.Math.Nat.{zero-div, zero-mod}
 use Rattle.std.specs.List.{flat_map, AllByRecursion, AllPairs}
 use Rattle.byte_fields.specs.Bytes.{part_of}
 use Rattle.format_spec.specs.declared.PageKind.{PageKind}
+use Rattle.format_spec.specs.declared.PageKind.TheVariants.{TableInterior}
+use Rattle.format_spec.specs.declared.CellView.{CellView}
+use Rattle.format_spec.specs.Cell.{IsCell}
 use Rattle.page_spec.specs.Pages.{IsInRange, next_page}
-use Rattle.page_spec.specs.Chains.{IsChain, AreLinked, named_behind, content_of}
+use Rattle.page_spec.specs.Chains.{IsChain, AreLinked, named_behind, content_of, chain_bytes}
 use Rattle.tree_spec.specs.declared.TreeKind.{TreeKind}
 use Rattle.tree_spec.specs.declared.TreeKind.TheVariants.{Table, Index}
 use Rattle.tree_spec.specs.CountsLaws.{times-append, hit-itself}
@@ -31,6 +35,30 @@ module _ (old new : Paged) where
 -- a number that a link may name is one of more pages too
 pub number-grows : (size count later number : ℕ) → count ≤ later → IsInRange size count number → IsInRange size later number
 number-grows size count later number grows is = record { behind_first = is.behind_first; within = omega (arith, is.within); not_lock_byte = is.not_lock_byte }
+
+-- no bytes have no chain
+pub chain-none : (sizes : Sizes) (base : Paged) → IsChain base.pages sizes.size sizes.usable base.count 0 0 []
+chain-none sizes base = record {
+  linked = tt;
+  ends = refl;
+  many = sym (ap₂ (λ (pages more : ℕ). pages + (if more == 0 then 0 else 1)) (zero-div (sizes.usable - 4)) (zero-mod (sizes.usable - 4)));
+}
+
+take-none : (n : ℕ) → take {A = ℕ} n [] ≡ []
+take-none zero = refl
+take-none (suc n) = refl
+
+-- the cell of a table's interior page has no payload
+pub divider-held : (sizes : Sizes) (base : Paged) (bytes : List ℕ) (view : CellView) → IsCell TableInterior sizes.usable bytes view
+    → IsHeld sizes base TableInterior (record { bytes = bytes; view = view; payload = []; chain = [] })
+divider-held sizes base bytes view is = record {
+  is_cell = is;
+  is_chain = subst⁻¹ (λ (n : ℕ). IsChain base.pages sizes.size sizes.usable base.count n (view.payload - view.local) []) is.overflow
+      (let none : view.payload - view.local ≡ 0 = omega (arith, is.payload) in subst⁻¹ (λ (n : ℕ). IsChain base.pages sizes.size sizes.usable base.count 0 n []) none (chain-none sizes base));
+  whole = sym (
+      ap (λ (n : ℕ). take n (drop view.local_at bytes) ++ chain_bytes base.pages sizes.usable [] (view.payload - view.local)) is.local ∙ take-none (view.payload - view.local)
+      );
+}
 
 module _ (size : ℕ) (old new : Paged) where
   -- the pages of a chain that are kept are the same in all their bytes

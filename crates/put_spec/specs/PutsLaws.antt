@@ -87,7 +87,8 @@ module _ (sizes : Sizes) (kind : TreeKind) where
   chains-join n [] ys = omega arith
   chains-join n (x ∷ xs) ys = omega (arith, chains-join n xs ys, times-append n x.chain (chain_pages (xs ++ ys)), times-append n x.chain (chain_pages xs))
 
-  cut-count : (levels : ℕ) (k : TreeKind) (n : ℕ) (whole left : TreeOf levels) (divider : TreeCell) (right : TreeOf levels) → IsCut levels k whole left divider right
+  -- how often a page stands in the parts of a tree that is cut
+  pub cut-count : (levels : ℕ) (k : TreeKind) (n : ℕ) (whole left : TreeOf levels) (divider : TreeCell) (right : TreeOf levels) → IsCut levels k whole left divider right
       → times n (pages_of levels left) + times n divider.chain + times n (pages_of levels right) ≡ times n (pages_of levels whole) + hit (page_of levels left) n
   cut-count zero Table n whole left divider right cut =
       omega (arith, ap (λ cells. times n (chain_pages cells)) cut.cells, chains-join n left.cells right.cells, ap (λ q. hit q n) cut.page, ap (times n) cut.chain)
@@ -312,7 +313,7 @@ module _ (sizes : Sizes) (kind : TreeKind) where
 
   -- A root gets a new level.
 
-  moved-page : (levels fresh : ℕ) (tree : TreeOf levels) → page_of levels (moved levels fresh tree) ≡ fresh
+  pub moved-page : (levels fresh : ℕ) (tree : TreeOf levels) → page_of levels (moved levels fresh tree) ≡ fresh
   moved-page zero fresh tree = refl
   moved-page (suc levels) fresh tree = refl
 

@@ -1,21 +1,21 @@
 -- Changes join, and a change of one tree gives the world after it: crates above cite these facts in their proofs.
-use Rattle.std.proofs.Common.{◌≡◌, ℕ, ◌+◌, ◌<◌, ◌≤◌, ◌⊎◌, List, [], ◌∷◌, ◌++◌, length, map, max, drop, slice_index, refl, ap, ◌∙◌, subst, inl, inr, arith}
+use Rattle.std.proofs.Common.{◌≡◌, ℕ, suc, ◌+◌, ◌<◌, ◌≤◌, ◌⊎◌, List, [], ◌∷◌, ◌++◌, length, map, max, drop, slice_index, refl, ap, ◌∙◌, subst, inl, inr, arith}
 use Rattle.std.proofs.Math.Path.{subst⁻¹}
-use Rattle.std.specs.List.{flat_map, AllByRecursion, AllPairs}
+use Rattle.std.specs.List.{flat_map, All, AllByRecursion, AllPairs}
 use Rattle.std.proofs.lemmas.Bool.{cases_lt}
 use Rattle.format_spec.specs.Header.{freelist_trunk}
 use Rattle.format_spec.specs.Page.{header_place}
-use Rattle.page_spec.specs.Pages.{next_page}
+use Rattle.page_spec.specs.Pages.{IsInRange, next_page}
 use Rattle.page_spec.specs.PlacesLaws.{number_at-same}
 use Rattle.page_spec.specs.Freelists.{Trunk, IsTrunk, AreTrunks, free_pages, leaf_count, leaf_at}
 use Rattle.tree_spec.specs.Counts.{times}
-use Rattle.tree_spec.specs.CountsLaws.{up_to, up_to-sum, up_to-same, times-counted}
+use Rattle.tree_spec.specs.CountsLaws.{times-all, times-distinct, up_to, up_to-sum, up_to-same, times-counted}
 use Rattle.tree_spec.specs.Trees.{Rooted, root_of, pages_in}
 use Rattle.tree_spec.specs.Standing.{Sizes, Paged, Keeps, IsRoot}
 use Rattle.tree_spec.specs.StandingLaws.{IsRoot-kept, keeps-first, keeps-front, keeps-back, number-grows}
 use Rattle.tree_spec.specs.PagesLaws.{SamePage-whole}
 use Rattle.tree_spec.specs.Worlds.{with_tree, due, due_pages, greatest_count, IsFree, IsWorld, slack}
-use Rattle.tree_spec.specs.WorldsLaws.{due-most, due-grows, due-past, due-counted, due_pages-grows, times-world, all-front, all-back, all-join}
+use Rattle.tree_spec.specs.WorldsLaws.{due-most, due-number, due-grows, due-past, due-counted, due_pages-grows, times-world, all-front, all-back, all-join}
 use Rattle.tree_spec.specs.Changes.{Writes, Within, Turns}
 
 module _ (sizes : Sizes) where
@@ -68,6 +68,26 @@ module _ (sizes : Sizes) where
         t.kept n (omega arith) (omega arith) (omega arith);
     grows = t.grows;
   }
+
+  all-leaves : (P : ℕ → Type 0) (xs : List ℕ) → All P xs → AllByRecursion P xs
+  all-leaves P [] all = tt
+  all-leaves P (x ∷ xs) all = (all 0 x (omega arith), all-leaves P xs (λ k d low. all (suc k) d (omega arith)))
+
+  trunks-in_range : (a : Paged) (first : ℕ) (trunks : List Trunk) → AreTrunks a.pages sizes.size sizes.usable a.count first trunks → AllByRecursion (IsInRange sizes.size a.count) (free_pages trunks)
+  trunks-in_range a first [] are = tt
+  trunks-in_range a first (trunk ∷ trunks) are =
+      all-join (IsInRange sizes.size a.count) (trunk.page ∷ trunk.leaves) (free_pages trunks)
+      (are.1.in_range, all-leaves (IsInRange sizes.size a.count) trunk.leaves are.1.leaves_in_range) (trunks-in_range a (next_page (a.pages trunk.page)) trunks are.2)
+
+  -- free pages stand among the due pages, each once
+  pub free-within : (a : Paged) (trunks : List Trunk) → IsFree sizes a trunks → Within sizes a [] trunks
+  free-within a trunks free n =
+      elim (cases_lt 0 (times n (free_pages trunks))) [
+        | inl some ↦
+            let is = times-all (IsInRange sizes.size a.count) (free_pages trunks) n (trunks-in_range a (freelist_trunk (a.pages 1)) trunks free.named) some in
+            omega (arith, due-number sizes.size a.count n is, times-distinct (free_pages trunks) n free.differ)
+        | inr none ↦ omega arith
+      ]
 
   trunk-kept : (a b : Paged) (trunk : Trunk) → a.count ≤ b.count → b.pages trunk.page ≡ a.pages trunk.page
       → IsTrunk a.pages sizes.size sizes.usable a.count trunk → IsTrunk b.pages sizes.size sizes.usable b.count trunk

@@ -1,5 +1,6 @@
 -- What follows from counting how often a number stands in a list: crates above cite these facts in their proofs.
-use Rattle.std.proofs.Common.{◌≡◌, ℕ, zero, suc, ◌+◌, ◌<◌, ◌≤◌, List, [], ◌∷◌, ◌++◌, length, refl, ap, ap₂, ◌∙◌, inl, inr, arith}
+use Rattle.std.proofs.Common.{◌≡◌, ℕ, zero, suc, ◌+◌, ◌<◌, ◌≤◌, List, [], ◌∷◌, ◌++◌, length, refl, ap, ap₂, subst, ◌∙◌, ◌==◌, false, inl, inr, arith}
+use Rattle.std.specs.List.{AllByRecursion, IsDistinct}
 use Rattle.std.proofs.lemmas.Bool.{cases_lt}
 use Rattle.std.proofs.lemmas.Bool.Decides.{nat_tests}
 use Rattle.tree_spec.specs.Counts.{hit, times}
@@ -65,3 +66,31 @@ times-counted (x ∷ xs) last none =
     up_to-sum (hit x) (λ n. times n xs) last
     ∙ ap₂ (λ (a b : ℕ). a + b) (up_to-hit x last within) (times-counted xs last (λ n above. omega (arith, none n above)))
     ∙ omega arith
+
+-- what holds of all numbers of a list holds of each that stands in it
+pub times-all : (P : ℕ → Type 0) (xs : List ℕ) (n : ℕ) → AllByRecursion P xs → 0 < times n xs → P n
+times-all P [] n all some = absurd (omega arith)
+times-all P (x ∷ xs) n all some =
+    elim (cases_lt 0 (hit x n)) [
+      | inl here ↦ subst P (hit-same x n here) all.0
+      | inr apart ↦ times-all P xs n all.1 (omega arith)
+    ]
+
+times-none : (x : ℕ) (xs : List ℕ) → AllByRecursion (λ y. (x == y) ≡ false) xs → times x xs ≡ 0
+times-none x [] apart = refl
+times-none x (y ∷ ys) apart =
+    let other : hit y x ≡ 0 = grind (arith, nat_tests, apart.0) in
+    omega (arith, other, times-none x ys apart.1)
+
+-- a number of a list without repeats stands in it once
+pub times-distinct : (xs : List ℕ) (n : ℕ) → IsDistinct (λ (x y : ℕ). x == y) xs → times n xs ≤ 1
+unfolding IsDistinct
+times-distinct [] n distinct = omega arith
+times-distinct (x ∷ xs) n distinct =
+    elim (cases_lt 0 (hit x n)) [
+      | inl here ↦ omega (arith, ap (λ (m : ℕ). times m xs) (hit-same x n here), times-none x xs distinct.0, hit-most x n)
+      | inr apart ↦ omega (arith, times-distinct xs n distinct.1)
+    ]
+  where
+    hit-most : (x n : ℕ) → hit x n ≤ 1
+    hit-most x n = grind (arith, nat_tests)

@@ -5,7 +5,8 @@ use Rattle.std.specs.declared.alloc.AllocError.{AllocError}
 use Rattle.rbu_value.specs.declared.value.Value.{Value}
 use Rattle.rbu_value.specs.declared.value.Value.TheVariants.{Null, Int, Text, Blob}
 use Rattle.format_spec.specs.Record.{body, int_body, int_serial_type, canonical_record}
-use Rattle.record_codec.specs.RecordLaws.{IsStored, HaveRecord, record-size, record-short}
+use Rattle.record_codec.specs.Records.{IsStored, HaveRecord}
+use Rattle.record_codec.specs.RecordLaws.{record-size, record-short}
 use Rattle.record_codec.specs.declared.read.RecordFault.{RecordFault}
 use Rattle.record_codec.specs.declared.read.RecordFault.TheVariants.{ShortHeader, ReservedType, RealValue, BodyLength, Memory}
 use Rattle.record_codec.specs.Faults.{IsMemory}

@@ -1,7 +1,7 @@
 ghost use Rattle.std.specs.Prelude.{◌≡◌, ◌++◌, true, length, IfOk};
 ghost use Rattle.format_spec.specs.Log.{pair_of};
 ghost use Rattle.format_spec.specs.Log.{log_header, log_sums, frames_bytes};
-ghost use Rattle.wal_codec.specs.LogLaws.{two_pages};
+ghost use Rattle.wal_codec.specs.Frames.{two_pages};
 
 use super::*;
 use std::alloc::{AllocError, Global};

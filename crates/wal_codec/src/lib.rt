@@ -16,6 +16,3 @@ mod sums;
 pub use headers::{frame_bytes, header_bytes};
 pub use laws::{checksum_goes_on, written_log_is_a_log};
 pub use sums::checksum;
-
-#[cfg(test)]
-mod tests;

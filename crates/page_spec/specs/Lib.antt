@@ -5,3 +5,9 @@ pub mod Freelists
 pub mod Rooms
 pub mod PlacesLaws
 pub mod RoomsLaws
+pub mod PagesLaws
+pub mod FreePages
+pub mod FreePagesLaws
+pub mod WrittenChains
+pub mod WrittenChainsLaws
+pub mod FreelistsLaws

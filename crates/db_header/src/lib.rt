@@ -18,6 +18,3 @@ pub use fields::{Header, HeaderFault};
 pub use laws::{header_has_one_reading, read_header_can_be_written, written_header_is_read};
 pub use reading::{has_magic, read_header};
 pub use writing::write_header;
-
-#[cfg(test)]
-mod tests;

@@ -14,7 +14,7 @@ use Rattle.format_spec.specs.Record.{int_type, int_size, int_body, serial_type, 
 use Rattle.cell_codec.specs.VarintLaws.{varint-same, spelling-one_to_nine, varint_size, varint_spells, varint-one_to_nine}
 use Rattle.byte_fields.specs.BytesLaws.{append-same}
 use Rattle.record_codec.specs.Faults.{body_size}
-pub use Rattle.record_codec.specs.Records.{IsStored, HaveRecord}
+use Rattle.record_codec.specs.Records.{IsStored, HaveRecord}
 use Rattle.record_codec.specs.IntegersLaws.{field-shortest, int_body-none}
 
 -- how many bytes a field has

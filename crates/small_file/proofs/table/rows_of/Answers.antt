@@ -3,7 +3,7 @@ use Rattle.std.proofs.lemmas.List.{length-map, get_or-map, map_more, take_all}
 use Rattle.std.specs.List.{AllZip}
 use Rattle.common_spec.specs.Reading.{Reads, OrNone}
 use Rattle.small_file.specs.Pages.{cell_of}
-use Rattle.small_file.proofs.PageCells.{no_cell}
+use Rattle.small_file.proofs.Pages.{no_cell}
 use Rattle.small_file.proofs.Readings.{Reads-none, Reads-some, some-of_reads, AllZip-more, AllZip-none, AllZip-holds, AllZip-only}
 use Rattle.small_file.proofs.table.rows_of.Goals as goal
 

@@ -6,8 +6,8 @@ use Rattle.common_spec.specs.Told.{Leads}
 use Rattle.format_spec.specs.Header.{freelist_trunk}
 use Rattle.format_spec.specs.Sizes.{IsUsable}
 use Rattle.page_spec.specs.Pages.{Pages, IsInRange, with_page}
-use Rattle.page_spec.specs.FreePages.{times, page_past}
-use Rattle.page_spec.specs.FreePagesLaws.{times-none}
+use Rattle.page_spec.specs.Counts.{times}
+use Rattle.page_spec.specs.FreePages.{page_past}
 use Rattle.page_spec.specs.PagesLaws.{page_past-cases}
 use Rattle.page_spec.specs.Freelists.{Trunk, AreTrunks, IsFreelist, free_pages, leaf_count}
 use Rattle.page_store.specs.StoreLaws.{IfSome-told, Leads-told}

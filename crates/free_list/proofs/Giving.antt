@@ -8,10 +8,12 @@ use Rattle.format_spec.specs.Header.{freelist_trunk, freelist_pages, pages as pa
 use Rattle.format_spec.specs.Sizes.{IsUsable}
 use Rattle.page_spec.specs.Pages.{Pages, IsInRange, with_page, next_page}
 use Rattle.page_spec.specs.PagesLaws.{with_page-itself, with_page-other}
-use Rattle.page_spec.specs.FreePages.{times, KeepsFirstPage}
-use Rattle.page_spec.specs.FreePagesLaws.{times-none, times-cons, times-append, times-itself, times-other, slack-more, distinct-once, once-distinct}
+use Rattle.page_spec.specs.Counts.{times}
+use Rattle.page_spec.specs.FreePages.{KeepsFirstPage}
+use Rattle.page_spec.specs.CountsLaws.{times-cons, times-append, times-itself, times-other, distinct-once, once-distinct, few-once}
+use Rattle.page_spec.specs.FreePagesLaws.{slack-more}
 use Rattle.page_spec.specs.Freelists.{Trunk, IsTrunk, AreTrunks, IsFreelist, free_pages, leaf_count, leaf_at, trunk_limit}
-use Rattle.page_spec.specs.FreelistsLaws.{times-free_pages, AreTrunks-same, free-in_range, few-once}
+use Rattle.page_spec.specs.FreelistsLaws.{times-free_pages, AreTrunks-same, free-in_range}
 use Rattle.page_spec.specs.WrittenChainsLaws.{SameOn}
 use Rattle.free_list.specs.Steps.{Gives}
 use Rattle.free_list.specs.Written.{with_freelist, with_leaf, empty_trunk, one_more_free}
@@ -103,7 +105,7 @@ module _ (size usable limit count : ℕ) (m : Pages) (trunks : List Trunk) (is :
         record { in_range = in_range; counts = none; few = omega arith; names = λ j low. absurd (omega arith); leaves_in_range = All-nil (IsInRange size count) },
         rest,
       )
-      (λ n. omega (arith, times-free_pages n trunk trunks, times-none n, times-cons n page (free_pages trunks)))
+      (λ n. omega (arith, times-free_pages n trunk trunks, times-cons n page (free_pages trunks)))
       (omega (arith, length-free_pages trunk trunks))
       (λ n other also free. apart n other also)
 

@@ -9,8 +9,10 @@ use Rattle.format_spec.specs.Header.{freelist_trunk, freelist_pages, pages as pa
 use Rattle.format_spec.specs.Sizes.{IsUsable}
 use Rattle.page_spec.specs.Pages.{Pages, IsInRange, with_page, next_page}
 use Rattle.page_spec.specs.PagesLaws.{with_page-itself, with_page-other}
-use Rattle.page_spec.specs.FreePages.{times, due, slack, page_past, KeepsFirstPage}
-use Rattle.page_spec.specs.FreePagesLaws.{times-none, times-cons, times-append, times-itself, due-past, slack-past, slack-more, distinct-once, once-distinct}
+use Rattle.page_spec.specs.Counts.{times}
+use Rattle.page_spec.specs.FreePages.{due, slack, page_past, KeepsFirstPage}
+use Rattle.page_spec.specs.CountsLaws.{times-cons, times-append, times-itself, distinct-once, once-distinct}
+use Rattle.page_spec.specs.FreePagesLaws.{due-appended, slack-appended, slack-more}
 use Rattle.page_spec.specs.Freelists.{Trunk, IsTrunk, AreTrunks, IsFreelist, free_pages, leaf_count, leaf_at, trunk_limit}
 use Rattle.page_spec.specs.FreelistsLaws.{times-free_pages, IsFreelist-same, AreTrunks-same, free-in_range, first-not_free, free_pages-few}
 use Rattle.page_spec.specs.WrittenChainsLaws.{SameOn}
@@ -82,7 +84,7 @@ module _ (size usable limit count : ℕ) (m : Pages) (trunks : List Trunk) (is :
           let no_leaves : trunk.leaves ≡ [] = nil_from_length trunk.leaves no_leaf in
           let rest : AreTrunks m size usable count (next_page (m page)) ts = subst⁻¹ (λ (n : ℕ). AreTrunks m size usable count (next_page (m n)) ts) it named.2 in
           let counted : (n : ℕ) → times n (page ∷ free_pages ts) ≡ times n (free_pages trunks) = λ n.
-          let leaves : times n trunk.leaves ≡ 0 = ap (times n) no_leaves ∙ times-none n in
+          let leaves : times n trunk.leaves ≡ 0 = ap (times n) no_leaves in
           let alone : times n (page ∷ []) ≡ times n (trunk.page ∷ []) = ap (λ (x : ℕ). times n (x ∷ [])) it in
           let all : times n (free_pages trunks) ≡ times n (free_pages (trunk ∷ ts)) = ap (λ (ts : List Trunk). times n (free_pages ts)) whole in
           omega (arith, times-cons n page (free_pages ts), times-free_pages n trunk ts, leaves, alone, all) in
@@ -185,17 +187,17 @@ module _ (size usable limit count : ℕ) (m : Pages) (trunks : List Trunk) (is :
         freelist = record {
           named = ap freelist_trunk appends.written ∙ trunk-stays page (m 1) long ∙ none;
           many = ap freelist_pages appends.written ∙ free-stays page (m 1) long ∙ empty.many;
-          differ = once-distinct [] (λ n. omega (arith, times-none n));
+          differ = once-distinct [] (λ n. omega (arith));
         };
         from = inr (no_page, past, refl);
         balance = λ n.
             let at_page : due size page n ≡ due size (page_past size count) n = ap (λ (p : ℕ). due size p n) past in
             let alone : times n (page ∷ []) ≡ times n (page_past size count ∷ []) = ap (λ (p : ℕ). times n (p ∷ [])) past in
-            let free : times n (free_pages trunks) ≡ 0 = ap (times n) no_page ∙ times-none n in
-            omega (arith, due-past size count n, at_page, alone, free);
+            let free : times n (free_pages trunks) ≡ 0 = ap (times n) no_page in
+            omega (arith, due-appended size count n some, at_page, alone, free);
         slack_falls =
             ap (λ (p : ℕ). slack size p limit [] + 1) past
-            ∙ slack-past size count limit (subst (λ (p : ℕ). p ≤ limit) past within)
+            ∙ slack-appended size count limit (subst (λ (p : ℕ). p ≤ limit) past within)
             ∙ ap (slack size count limit) (sym no_page);
         others = λ n apart inside free. appends.others n apart inside;
         first = subst⁻¹ (KeepsFirstPage (m 1)) appends.written (rest-stays page (m 1) long);

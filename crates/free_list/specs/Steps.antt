@@ -2,7 +2,8 @@
 use Rattle.std.specs.Prelude.{◌≡◌, ◌≢◌, ◌⊎◌, ℕ, ◌+◌, ◌<◌, ◌≤◌, List, [], ◌∷◌, Option, Some}
 use Rattle.format_spec.specs.Header.{freelist_trunk, pages as pages_field}
 use Rattle.page_spec.specs.Pages.{Pages}
-use Rattle.page_spec.specs.FreePages.{times, due, slack, page_past, KeepsFirstPage}
+use Rattle.page_spec.specs.Counts.{times}
+use Rattle.page_spec.specs.FreePages.{due, slack, page_past, KeepsFirstPage}
 use Rattle.page_spec.specs.Freelists.{Trunk, IsFreelist, free_pages}
 
 -- Of page 1 at most the size and the fields of the freelist changed, and else no page up to the count but the first trunk and one more.

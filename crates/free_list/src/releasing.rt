@@ -3,7 +3,7 @@ ghost use Rattle.std.specs.Prelude.{◌≡◌, ◌-◌, ◌/◌, ◌<◌, ◌≤
 ghost use Rattle.common_spec.specs.Reading.{OrFault, ReadsOrWants};
 ghost use Rattle.format_spec.specs.Header.{freelist_trunk};
 ghost use Rattle.page_spec.specs.Pages.{Pages, with_page};
-ghost use Rattle.page_spec.specs.FreePages.{times};
+ghost use Rattle.page_spec.specs.Counts.{times};
 ghost use Rattle.page_spec.specs.Freelists.{IsFreelist, Trunk, free_pages};
 ghost use Rattle.page_store.specs.Store.{Goes, HasSizes, IsNumber, OwesBy};
 ghost use Rattle.free_list.specs.Answers.{CanRelease, IsOther, RefusesRelease, fault_in};

@@ -13,8 +13,8 @@ use Rattle.byte_fields.specs.NumbersLaws.{length-with_number_at}
 use Rattle.page_spec.specs.Pages.{Pages, with_page}
 use Rattle.page_spec.specs.PagesLaws.{with_page-itself, with_page-other}
 use Rattle.page_spec.specs.Chains.{pages_for}
-use Rattle.page_spec.specs.FreePages.{times}
-use Rattle.page_spec.specs.FreePagesLaws.{times-none, times-cons, times-itself}
+use Rattle.page_spec.specs.Counts.{times}
+use Rattle.page_spec.specs.CountsLaws.{times-cons, times-itself}
 use Rattle.page_spec.specs.PlacesLaws.{with_part, put_mid-part, length-with_part}
 use Rattle.page_spec.specs.WrittenChains.{overflow_page, first_of, HoldChain, WritesChain}
 
@@ -100,7 +100,7 @@ many-left usable (x ∷ xs) rest behind least some back many =
     ∙ ap (pages_for usable) (sym (ap length back ∙ length-drop (min (usable - 4) (length rest)) rest ∙ omega arith))
 
 pub once-left : (left : List ℕ) → ((n : ℕ) → times n left ≤ 1) → (n : ℕ) → times n (drop 1 left) ≤ 1
-once-left [] once n = omega (arith, times-none n)
+once-left [] once n = omega (arith)
 once-left (x ∷ xs) once n = omega (arith, once n, times-cons n x xs)
 
 -- where no page is left, no bytes are

@@ -6,8 +6,8 @@ use Rattle.std.proofs.lemmas.Bool.{cases_lt, cases_eq}
 use Rattle.std.proofs.lemmas.List.Elements.{All-weaker, recursion_from_All}
 use Rattle.format_spec.specs.Header.{freelist_trunk, freelist_pages}
 use Rattle.page_spec.specs.Pages.{Pages, IsInRange, next_page}
-use Rattle.page_spec.specs.FreePages.{times}
-use Rattle.page_spec.specs.FreePagesLaws.{times-none, times-cons, times-append, times-itself, times-other, times-all, distinct-once}
+use Rattle.page_spec.specs.Counts.{times}
+use Rattle.page_spec.specs.CountsLaws.{times-append, times-all, distinct-once, few-once}
 use Rattle.page_spec.specs.Freelists.{Trunk, IsTrunk, AreTrunks, IsFreelist, free_pages, leaf_count, leaf_at}
 use Rattle.page_spec.specs.WrittenChainsLaws.{SameOn, SameOn-first}
 
@@ -15,7 +15,7 @@ use Rattle.page_spec.specs.WrittenChainsLaws.{SameOn, SameOn-first}
 pub times-free_pages : (n : ℕ) (trunk : Trunk) (trunks : List Trunk) →
     times n (free_pages (trunk ∷ trunks)) ≡ times n (trunk.page ∷ []) + times n trunk.leaves + times n (free_pages trunks)
 times-free_pages n trunk trunks =
-    omega (arith, times-cons n trunk.page (trunk.leaves ++ free_pages trunks), times-append n trunk.leaves (free_pages trunks))
+    omega (arith, times-append n trunk.leaves (free_pages trunks))
 
 -- a number stays in range where the count does not fall
 pub IsInRange-wider : (size count other n : ℕ) → count ≤ other → IsInRange size count n → IsInRange size other n
@@ -57,7 +57,7 @@ module _ (size usable : ℕ) where
   -- each free page is in range
   pub free-in_range : (pages : Pages) (count first : ℕ) (trunks : List Trunk) → AreTrunks pages size usable count first trunks
       → (n : ℕ) → 0 < times n (free_pages trunks) → IsInRange size count n
-  free-in_range pages count first [] are n some = absurd (omega (arith, times-none n))
+  free-in_range pages count first [] are n some = absurd (omega arith)
   free-in_range pages count first (trunk ∷ trunks) are n some =
       elim (cases_lt 0 (times n (trunk.page ∷ []))) [
         | inl page ↦ times-all (IsInRange size count) n (trunk.page ∷ []) (are.1.in_range, tt) page
@@ -74,42 +74,6 @@ module _ (size usable : ℕ) where
         | inl some ↦ absurd (let in_range = free-in_range pages count first trunks are 1 some in omega (arith, in_range.behind_first))
         | inr none ↦ omega arith
       ]
-
--- how often the numbers up to one stand in a list
-abbrev up_to : List ℕ → ℕ → ℕ
-up_to xs zero = 0
-up_to xs (suc n) = times (suc n) xs + up_to xs n
-
-up_to-few : (xs : List ℕ) (n : ℕ) → ((k : ℕ) → times k xs ≤ 1) → up_to xs n ≤ n
-up_to-few xs zero once = omega arith
-up_to-few xs (suc n) once = omega (arith, once (suc n), up_to-few xs n once)
-
-up_to-cons : (x : ℕ) (xs : List ℕ) (n : ℕ) → up_to (x ∷ xs) n ≡ up_to (x ∷ []) n + up_to xs n
-up_to-cons x xs zero = refl
-up_to-cons x xs (suc n) = omega (arith, times-cons (suc n) x xs, up_to-cons x xs n)
-
-up_to-itself : (x n : ℕ) → 0 < x → x ≤ n → 1 ≤ up_to (x ∷ []) n
-up_to-itself x zero some low = absurd (omega arith)
-up_to-itself x (suc n) some low =
-    elim (cases_eq x (suc n)) [
-      | inl same ↦
-          let one : times (suc n) (x ∷ []) ≡ 1 = ap (λ (y : ℕ). times (suc n) (y ∷ [])) same ∙ times-itself (suc n) in
-          omega (arith, one)
-      | inr apart ↦ omega (arith, up_to-itself x n some (omega arith))
-    ]
-
-up_to-length : (xs : List ℕ) (n : ℕ) → AllByRecursion (λ x. (0 < x) × (x ≤ n)) xs → length xs ≤ up_to xs n
-up_to-length [] n all = omega arith
-up_to-length (x ∷ xs) n all = omega (arith, up_to-cons x xs n, up_to-itself x n all.0.0 all.0.1, up_to-length xs n all.1)
-
--- pages that differ and are from 1 to the count are no more than that
-pub few-once : (xs : List ℕ) (count : ℕ) → ((n : ℕ) → times n xs ≤ 1) → ((n : ℕ) → 0 < times n xs → (0 < n) × (n ≤ count)) → length xs ≤ count
-few-once xs count once within =
-    omega (arith, up_to-length xs count (all xs within), up_to-few xs count once)
-  where
-    all : (ys : List ℕ) → ((n : ℕ) → 0 < times n ys → (0 < n) × (n ≤ count)) → AllByRecursion (λ x. (0 < x) × (x ≤ count)) ys
-    all [] inside = tt
-    all (y ∷ ys) inside = (inside y (omega (arith, times-cons y y ys, times-itself y)), all ys (λ n some. inside n (omega (arith, times-cons n y ys))))
 
 -- there are fewer free pages than pages
 pub free_pages-few : (pages : Pages) (size usable count : ℕ) (trunks : List Trunk) → IsFreelist pages size usable count trunks → length (free_pages trunks) ≤ count

@@ -6,6 +6,8 @@ pub mod Rooms
 pub mod PlacesLaws
 pub mod RoomsLaws
 pub mod PagesLaws
+pub mod Counts
+pub mod CountsLaws
 pub mod FreePages
 pub mod FreePagesLaws
 pub mod WrittenChains

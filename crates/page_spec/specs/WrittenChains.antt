@@ -2,7 +2,7 @@
 use Rattle.std.specs.Prelude.{◌≡◌, ℕ, ◌+◌, ◌-◌, List, [], ◌∷◌, ◌++◌, length, take, drop, replicate}
 use Rattle.byteorder.specs.Endian.{big_bytes}
 use Rattle.page_spec.specs.Pages.{Pages}
-use Rattle.page_spec.specs.FreePages.{times}
+use Rattle.page_spec.specs.Counts.{times}
 
 -- an overflow page of so many bytes: the number of the next one, its content, and zeros
 abbrev pub overflow_page : ℕ → ℕ → List ℕ → List ℕ

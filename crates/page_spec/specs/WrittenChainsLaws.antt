@@ -8,8 +8,8 @@ use Rattle.byteorder.specs.Numbers.{length-bytes_high_first, big_number-reads_ba
 use Rattle.byteorder.specs.Endian.{big_bytes}
 use Rattle.page_spec.specs.Pages.{Pages, IsInRange, next_page}
 use Rattle.page_spec.specs.Chains.{AreLinked, named_behind, pages_for, IsChain, content_of, chain_bytes}
-use Rattle.page_spec.specs.FreePages.{times}
-use Rattle.page_spec.specs.FreePagesLaws.{times-cons, times-itself}
+use Rattle.page_spec.specs.Counts.{times}
+use Rattle.page_spec.specs.CountsLaws.{times-cons, times-itself}
 use Rattle.page_spec.specs.WrittenChains.{overflow_page, first_of, HoldChain}
 
 -- the number that an overflow page names

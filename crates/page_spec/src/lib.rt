@@ -6,7 +6,8 @@
 //! - `Chains`: overflow chains, their bytes, and where one breaks (section 1.6);
 //! - `WrittenChains`: overflow pages as they are written;
 //! - `Freelists`: the freelist as a list of trunks with their leaf pages (section 1.5);
-//! - `FreePages`: how often pages stand in a list and have to, and how many may still be taken;
+//! - `Counts`: how often a number stands in a list;
+//! - `FreePages`: which pages have to stand somewhere, and how many may still be taken;
 //! - `Rooms`: the room of cells in a page, its free bytes, and pages as they are written (section 1.6).
 //!
 //! The modules of laws, as `PlacesLaws` and `FreelistsLaws`, say what follows. The functions without parameters promise the main law, and that the definitions compute on worked rows.

@@ -4,7 +4,8 @@ ghost use Rattle.format_spec.specs.declared.PageKind.TheVariants.{TableInterior,
 ghost use Rattle.page_spec.specs.Pages.{Pages, lock_byte_page, with_page};
 ghost use Rattle.page_spec.specs.Chains.{IsChain, chain_bytes, pages_for};
 ghost use Rattle.page_spec.specs.Freelists.{IsFreelist, Trunk, trunk_limit};
-ghost use Rattle.page_spec.specs.FreePages.{due, page_past, slack, times};
+ghost use Rattle.page_spec.specs.Counts.{times};
+ghost use Rattle.page_spec.specs.FreePages.{due, page_past, slack};
 ghost use Rattle.page_spec.specs.WrittenChains.{HoldChain};
 ghost use Rattle.page_spec.specs.Rooms.{HasNoHole, IsWritten, free_bytes};
 
@@ -33,7 +34,7 @@ pub fn worked_written_chain()
 {}
 
 /// A page that stands twice in a list; the next pages past the end of 16383 and of 16384 pages of 65536 bytes, between which the lock-byte page 16385 lies; which pages of 16390 are due; and how many may be taken, of two free ones and those past 16380 up to 16390.
-#[tactic(auto, unfolding(crate::specs::FreePages::times, crate::specs::FreePages::due, crate::specs::FreePages::slack))]
+#[tactic(auto, unfolding(crate::specs::FreePages::due, crate::specs::FreePages::due_pages))]
 pub fn worked_free_pages()
     ensures twice { times 5 (5 ∷ 2 ∷ 5 ∷ []) ≡ 2 }
     ensures next { page_past 65536 16383 ≡ 16384 }

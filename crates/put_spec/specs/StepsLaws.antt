@@ -13,8 +13,8 @@ use Rattle.page_spec.specs.Chains.{IsChain, chain_bytes}
 use Rattle.page_spec.specs.Freelists.{Trunk}
 use Rattle.tree_spec.specs.declared.TreeKind.{TreeKind}
 use Rattle.tree_spec.specs.declared.TreeKind.TheVariants.{Table, Index}
-use Rattle.tree_spec.specs.Counts.{times}
-use Rattle.tree_spec.specs.CountsLaws.{times-append, hit-itself}
+use Rattle.page_spec.specs.Counts.{times}
+use Rattle.page_spec.specs.CountsLaws.{times-append, hit-itself}
 use Rattle.tree_spec.specs.Trees.{TreeCell, TreeOf, leaf_kind, interior_kind, kind_at, page_of, pages_of, own_cells, own_right, cells_behind}
 use Rattle.tree_spec.specs.Standing.{Sizes, Paged, Keeps, IsNumber, IsHeld, IsBehind, HasOwnPage, HasBelow, Stands, StandsBefore}
 use Rattle.tree_spec.specs.StandingLaws.{divider-held, held-kept, own-kept, keeps-first}

@@ -1,9 +1,9 @@
 -- All pages of a database: its trees and its free pages, each page once (Database File Format, sections 1.4 to 1.6).
-use Rattle.std.specs.Prelude.{◌≡◌, ℕ, ◌+◌, ◌-◌, ◌^◌, ◌<◌, ◌≤◌, ◌==◌, ◌&&◌, not, nat_le, if◌then◌else◌, List, ◌∷◌, ◌++◌, length, map, AllPairs}
+use Rattle.std.specs.Prelude.{◌≡◌, ℕ, ◌^◌, ◌<◌, ◌≤◌, List, ◌∷◌, ◌++◌, map, AllPairs}
 use Rattle.std.specs.List.{flat_map, AllByRecursion}
-use Rattle.page_spec.specs.Pages.{lock_byte_page}
 use Rattle.page_spec.specs.Freelists.{Trunk, IsFreelist, free_pages}
-use Rattle.tree_spec.specs.Counts.{times}
+use Rattle.page_spec.specs.Counts.{times}
+use Rattle.page_spec.specs.FreePages.{due, slack as slack_of}
 use Rattle.tree_spec.specs.Trees.{Rooted, root_of, pages_in}
 use Rattle.tree_spec.specs.Standing.{Sizes, Paged, IsRoot}
 
@@ -19,14 +19,6 @@ all_pages world = flat_map pages_in world.trees ++ free_pages world.trunks
 -- a world with one of its trees named
 abbrev pub with_tree : List Rooted → Rooted → List Rooted → List Trunk → World
 with_tree front rooted back trunks = record { trees = front ++ rooted ∷ back; trunks = trunks }
-
--- how often a page has to stand in a database of so many pages: once from page 1 to the last, but for the lock-byte page
-unfoldable pub due : ℕ → ℕ → ℕ → ℕ
-due size count number = if nat_le 1 number && (nat_le number count && not (number == lock_byte_page size)) then 1 else 0
-
--- how many pages that are
-unfoldable pub due_pages : ℕ → ℕ → ℕ
-due_pages size count = if nat_le (lock_byte_page size) count then count - 1 else count
 
 -- the most pages of a world
 abbrev pub greatest_count : ℕ
@@ -47,4 +39,4 @@ module _ (sizes : Sizes) where
 
   -- how many pages can still be taken where there may be `limit` of them: the free ones, and those behind the last
   abbrev pub slack : Paged → ℕ → List Trunk → ℕ
-  slack base limit trunks = length (free_pages trunks) + (due_pages sizes.size limit - due_pages sizes.size base.count)
+  slack base limit trunks = slack_of sizes.size base.count limit (free_pages trunks)

@@ -1,73 +1,17 @@
 -- Which pages are due, and how deep the trees of a world are: crates above cite these facts in their proofs.
-use Rattle.std.proofs.Common.{◌≡◌, ℕ, zero, suc, ◌+◌, ◌-◌, ◌^◌, ◌<◌, ◌≤◌, ◌≢◌, List, [], ◌∷◌, ◌++◌, length, refl, sym, ap, ◌∙◌, inl, inr, arith}
+use Rattle.std.proofs.Common.{◌≡◌, ℕ, zero, suc, ◌+◌, ◌-◌, ◌^◌, ◌<◌, ◌≤◌, List, [], ◌∷◌, ◌++◌, length, refl, ap, inl, inr, arith}
 use Rattle.std.specs.List.{flat_map, AllByRecursion}
 use Rattle.std.proofs.lemmas.Bool.{cases_lt}
-use Rattle.std.proofs.lemmas.Bool.Decides.{nat_tests}
 use Rattle.std.proofs.lemmas.List.Concat.{flat_map-append}
-use Rattle.page_spec.specs.Pages.{IsInRange, lock_byte_page}
 use Rattle.page_spec.specs.Freelists.{Trunk, free_pages}
-use Rattle.tree_spec.specs.Counts.{times}
-use Rattle.tree_spec.specs.CountsLaws.{times-append, hit-itself, up_to, up_to-le, times-counted}
+use Rattle.page_spec.specs.FreePages.{due}
+use Rattle.page_spec.specs.FreePagesLaws.{due-past, due-first, due-within, due-other, due-counted, due_pages-most}
+use Rattle.page_spec.specs.Counts.{times}
+use Rattle.page_spec.specs.CountsLaws.{times-append, hit-itself, up_to-le, times-counted}
 use Rattle.tree_spec.specs.Trees.{TreeOf, Rooted, page_of, pages_of, root_of, pages_in, list_in, depth_of, greatest_depth}
 use Rattle.tree_spec.specs.TreesLaws.{IsFullRoot-pages}
 use Rattle.tree_spec.specs.Standing.{Sizes, Paged, IsRootNumber, IsRoot, IsTree}
-use Rattle.tree_spec.specs.Worlds.{all_pages, with_tree, due, due_pages, greatest_count, IsWorld}
-
-module _ (size : ℕ) where
-  pub due-most : (count n : ℕ) → due size count n ≤ 1
-  unfolding due
-  due-most count n = grind (arith, nat_tests)
-
-  pub due-grows : (count later n : ℕ) → count ≤ later → due size count n ≤ due size later n
-  unfolding due
-  due-grows count later n grows = grind (arith, nat_tests)
-
-  pub due-past : (count n : ℕ) → count < n → due size count n ≡ 0
-  unfolding due
-  due-past count n past = grind (arith, nat_tests)
-
-  pub due-number : (count n : ℕ) → IsInRange size count n → due size count n ≡ 1
-  unfolding due
-  due-number count n is = grind (arith, nat_tests, is.behind_first, is.within, is.not_lock_byte)
-
-  due-first : (count n : ℕ) → 0 < due size count n → 1 ≤ n
-  unfolding due
-  due-first count n some = grind (arith, nat_tests)
-
-  due-within : (count n : ℕ) → 0 < due size count n → n ≤ count
-  unfolding due
-  due-within count n some = grind (arith, nat_tests)
-
-  due-other : (count n : ℕ) → 0 < due size count n → n ≢ lock_byte_page size
-  unfolding due
-  due-other count n some is = grind (arith, nat_tests)
-
-  -- the due pages up to one of them
-  counted-to : (count last : ℕ) → last ≤ count → up_to (due size count) last ≡ due_pages size last
-  unfolding due due_pages
-  counted-to count zero within = grind (arith, nat_tests)
-  counted-to count (suc last) within =
-      let rest = counted-to count last (omega arith) in
-      grind (arith, nat_tests, rest)
-
-  -- counted page by page
-  pub due-counted : (count last : ℕ) → count ≤ last → up_to (due size count) last ≡ due_pages size count
-  due-counted count zero within = let none : count ≡ 0 = omega arith in ap (λ (c : ℕ). up_to (due size c) 0) none ∙ counted-to 0 0 (omega arith) ∙ ap (due_pages size) (sym none)
-  due-counted count (suc last) within =
-      elim (cases_lt last count) [
-        | inl above ↦
-            let all : count ≡ suc last = omega arith in
-            ap (λ (c : ℕ). up_to (due size c) (suc last)) all ∙ counted-to (suc last) (suc last) (omega arith) ∙ ap (due_pages size) (sym all)
-        | inr below ↦ omega (arith, due-past count (suc last) (omega arith), due-counted count last below)
-      ]
-
-  pub due_pages-grows : (count later : ℕ) → count ≤ later → due_pages size count ≤ due_pages size later
-  unfolding due_pages
-  due_pages-grows count later grows = grind (arith, nat_tests)
-
-  pub due_pages-most : (count : ℕ) → due_pages size count ≤ count
-  unfolding due_pages
-  due_pages-most count = grind (arith, nat_tests)
+use Rattle.tree_spec.specs.Worlds.{all_pages, with_tree, greatest_count, IsWorld}
 
 power-grows : (m k : ℕ) → 2 ^ m ≤ 2 ^ (m + k)
 power-grows m zero = let none : m + 0 ≡ m = omega arith in omega (arith, ap (λ (n : ℕ). 2 ^ n) none)

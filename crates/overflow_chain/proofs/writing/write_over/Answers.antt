@@ -1,10 +1,10 @@
 use Rattle.std.proofs.Common.{◌≡◌, ◌-◌, ◌<◌, ◌≤◌, ℕ, List, length, take, drop, min, refl, sym, ap, ◌∙◌, arith}
 use Rattle.std.proofs.Math.Path.{subst⁻¹}
-use Rattle.page_spec.specs.FreePages.{times}
+use Rattle.page_spec.specs.Counts.{times}
 use Rattle.std.proofs.lemmas.List.{length-take-le, take_rest}
 use Rattle.std.proofs.lemmas.List.Elements.{All-drop, All-same}
 use Rattle.common_spec.specs.ToldLaws.{Leads-here, Leads-then}
-use Rattle.page_spec.specs.FreePagesLaws.{distinct-once}
+use Rattle.page_spec.specs.CountsLaws.{distinct-once}
 use Rattle.page_spec.specs.WrittenChains.{overflow_page, first_of}
 use Rattle.overflow_chain.proofs.Writes.{nothing_written, front_written, many-left, once-left}
 use Rattle.overflow_chain.proofs.writing.write_over.Goals as goal

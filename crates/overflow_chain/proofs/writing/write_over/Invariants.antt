@@ -2,7 +2,7 @@ use Rattle.std.proofs.Common.{◌≡◌, ◌≤◌, ℕ, length}
 use Rattle.std.specs.List.{All}
 use Rattle.common_spec.specs.Told.{Leads}
 use Rattle.page_spec.specs.Chains.{pages_for}
-use Rattle.page_spec.specs.FreePages.{times}
+use Rattle.page_spec.specs.Counts.{times}
 use Rattle.page_store.specs.Store.{Stays}
 use Rattle.overflow_chain.proofs.Writes.{HasWritten}
 use Rattle.overflow_chain.proofs.writing.write_over.Given as goal

@@ -6,7 +6,7 @@ use Rattle.format_spec.specs.Page.{IsPage, cell_place}
 use Rattle.page_spec.specs.Rooms.{rooms}
 use Rattle.page_layout.proofs.Packing.{IsLowest, lowest_none, lowest_more, measured, measured_more}
 use Rattle.page_layout.proofs.Spans.{of_kind}
-use Rattle.page_layout.proofs.Viewing.{kind_byte-same}
+use Rattle.page_layout.specs.ViewsLaws.{kind_byte-same}
 use Rattle.page_layout.proofs.pack.measure.Goals as goal
 
 pub overflow_sub-bottom : goal.overflow_sub-bottom

@@ -9,7 +9,7 @@ use Rattle.page_layout.specs.Written.{IsLaid}
 use Rattle.page_layout.proofs.Inserting.{packed-laid}
 use Rattle.page_layout.proofs.Packing.{IsLowest, lowest_none, lowest_more, measured, measured_more, put_more, right-kept, as_known, as_laid, KeepsRest-then}
 use Rattle.page_layout.proofs.Spans.{of_kind, span_is}
-use Rattle.page_layout.proofs.Viewing.{kind_byte-same}
+use Rattle.page_layout.specs.ViewsLaws.{kind_byte-same}
 use Rattle.page_layout.proofs.pack.pack_into.Goals as goal
 
 pub loop-index-init : goal.loop-index-init

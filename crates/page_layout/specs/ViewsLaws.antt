@@ -43,17 +43,20 @@ module _ {page : List ℕ} {number usable : ℕ} {views : List CellView} (has : 
   pub views-accepted : IsAccepted page number usable
   views-accepted = record { kind = has.kind; cells = has.cells; right = has.right; is_page = has.is_page }
 
+  its_size : (k : ℕ) (d : CellView) → k < length has.cells → (slice_index_or views k d).size ≡ length (slice_index_or has.cells k [])
+  its_size k d low = view-size has.kind usable (slice_index_or has.cells k []) (slice_index_or views k d) (has.each k d low)
+
   -- the bytes of the cell at an index, by its view
   pub view-bytes : (k : ℕ) (d : CellView) → k < length views → part_of page (cell_place page number has.kind k) (slice_index_or views k d).size ≡ slice_index_or has.cells k []
   view-bytes k d low =
       let below : k < length has.cells = omega (arith, low, has.many) in
-      ap (part_of page (cell_place page number has.kind k)) (view-size has.kind usable (slice_index_or has.cells k []) (slice_index_or views k d) (has.each k d below)) ∙ (has.is_page.each k below).stands
+      ap (part_of page (cell_place page number has.kind k)) (its_size k d below) ∙ (has.is_page.each k below).stands
 
   -- they lie within the usable bytes
   pub view-within : (k : ℕ) (d : CellView) → k < length views → cell_place page number has.kind k + (slice_index_or views k d).size ≤ usable
   view-within k d low =
       let below : k < length has.cells = omega (arith, low, has.many) in
-      omega (arith, (has.is_page.each k below).inside, view-size has.kind usable (slice_index_or has.cells k []) (slice_index_or views k d) (has.each k d below))
+      omega (arith, (has.is_page.each k below).inside, its_size k d below)
 
   -- and so does their place in the array
   pub view-array : IsUsable usable → (k : ℕ) → k < length views → array_end number has.kind (k + 1) ≤ usable

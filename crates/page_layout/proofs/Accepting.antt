@@ -1,5 +1,5 @@
 -- A page is accepted with one list of views, or refused by one rule.
-use Rattle.std.proofs.Common.{◌≡◌, ℕ, pos, zero, suc, ◌+◌, ◌*◌, ◌<◌, ◌≤◌, ◌⊎◌, max, List, [], ◌∷◌, ◌++◌, length, slice_index, slice_index_or, get_or, refl, sym, ap, ◌∙◌, subst, inl, inr, arith}
+use Rattle.std.proofs.Common.{◌≡◌, ℕ, pos, zero, suc, ◌+◌, ◌<◌, ◌≤◌, max, List, [], ◌∷◌, ◌++◌, length, get_or, refl, sym, ap, ◌∙◌, subst, inl, inr, arith}
 use Rattle.std.proofs.Math.Path.{subst⁻¹}
 use Rattle.std.proofs.lemmas.List.{length_push, get_or_default}
 use Rattle.byte_fields.specs.Bytes.{part_of}
@@ -10,7 +10,7 @@ use Rattle.format_spec.specs.declared.PageKind.{PageKind}
 use Rattle.format_spec.specs.declared.PageKind.TheVariants.{IndexInterior, TableInterior, IndexLeaf, TableLeaf}
 use Rattle.format_spec.specs.declared.CellView.{CellView}
 use Rattle.format_spec.specs.Cell.{IsCell}
-use Rattle.format_spec.specs.Page.{IsPage, IsCellAt, AreApart, RightChild, header_place, array_place, cell_place, cell_room, cell_count, kind_byte}
+use Rattle.format_spec.specs.Page.{IsPage, IsCellAt, AreApart, RightChild, header_place, cell_place, cell_count}
 use Rattle.page_spec.specs.PlacesLaws.{length-part_of}
 use Rattle.refusal.specs.declared.Rule.{Rule}
 use Rattle.refusal.specs.declared.Rule.TheVariants as rule

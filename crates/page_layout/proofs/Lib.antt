@@ -4,3 +4,7 @@ pub mod Clearing
 pub mod Viewing
 pub mod Marking
 pub mod Accepting
+pub mod Spans
+pub mod Packing
+pub mod Taking
+pub mod Changing

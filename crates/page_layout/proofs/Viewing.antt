@@ -1,17 +1,17 @@
 -- The views of a page's cells, and the cells that they are views of.
-use Rattle.std.proofs.Common.{◌≡◌, ℕ, zero, suc, pos, ◌+◌, ◌-◌, ◌*◌, ◌<◌, ◌≤◌, ◌⊎◌, max, List, [], ◌∷◌, length, take, drop, slice_index, slice_index_or, get_or, refl, sym, ap, ◌∙◌, subst, inl, inr, arith, length-drop}
+use Rattle.std.proofs.Common.{◌≡◌, ℕ, ◌+◌, ◌-◌, ◌*◌, ◌≤◌, max, List, length, take, drop, get_or, refl, sym, ap, ◌∙◌, subst, arith, length-drop}
 use Rattle.std.proofs.Math.Path.{subst⁻¹}
-use Rattle.std.proofs.lemmas.List.{take-take, length-take, same_lists, get_or_default}
+use Rattle.std.proofs.lemmas.List.{take-take, length-take, same_lists}
 use Rattle.byte_fields.specs.Bytes.{part_of}
 use Rattle.format_spec.specs.declared.PageKind.{PageKind}
 use Rattle.format_spec.specs.declared.PageKind.TheVariants.{IndexInterior, TableInterior, IndexLeaf, TableLeaf}
 use Rattle.format_spec.specs.declared.CellView.{CellView}
 use Rattle.format_spec.specs.Cell.{IsCell}
-use Rattle.format_spec.specs.Page.{IsPage, IsCellAt, AreApart, RightChild, header_place, array_place, cell_place, cell_room, cell_count, kind_byte}
+use Rattle.format_spec.specs.Page.{IsCellAt, array_place, cell_place, kind_byte}
 use Rattle.cell_codec.specs.Cells.{BeginsWithCell}
 use Rattle.cell_codec.specs.CellLaws.{cell-same_first}
 use Rattle.page_spec.specs.PlacesLaws.{length-part_of}
-use Rattle.page_layout.specs.Views.{HasViews, HasKind, IsViewAt, AreViews}
+use Rattle.page_layout.specs.Views.{IsViewAt, AreViews}
 
 -- a view says how many bytes its cell has
 pub view-size : (kind : PageKind) (usable : ℕ) (cell : List ℕ) (view : CellView) → IsCell kind usable cell view → view.size ≡ length cell

@@ -9,8 +9,8 @@ ghost use Rattle.page_spec.specs.Rooms.{array_end};
 ghost use Rattle.page_layout.specs.declared.reading.PageFault.TheVariants.{Memory};
 ghost use Rattle.page_layout.specs.Views.{HasViews, HasKind, HasPageFault, IsMemory, IsViewAt, AreViews};
 
+use crate::places::{count_of, place_of};
 use crate::put::{header_length, header_place, room};
-use byte_fields::u16_at;
 use cell_codec::{CellView, PageKind, read_cell};
 use refusal::Rule;
 use std::alloc::{AllocError, Global};
@@ -72,7 +72,7 @@ fn read_view(
     ensures none { IfNone result ((view : CellView) → ¬ IsViewAt page.now number usable kind count index view) }
 {
     let array = header_place(number) + header_length(kind);
-    let place = usize::from(u16_at(page, array + 2 * index));
+    let place = place_of(page, number, kind, index as u32);
     if place < array + 2 * count || place > usable as usize {
         return None;
     }
@@ -155,7 +155,7 @@ pub fn cells(
         return Err(PageFault::BadPage { rule: Rule::Kind });
     };
     let header = header_place(number);
-    let count = usize::from(u16_at(page, header + 3));
+    let count = count_of(page, number);
     if header + header_length(kind) + 2 * count > usable as usize {
         return Err(PageFault::BadPage { rule: Rule::Cells });
     }

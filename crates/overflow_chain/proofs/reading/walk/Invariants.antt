@@ -1,7 +1,7 @@
 use Rattle.std.proofs.Common.{◌≡◌, length, IfSome}
-use Rattle.overflow_chain.proofs.Walks.{IsWalk}
 use Rattle.page_store.specs.Store.{Stays}
-use Rattle.overflow_chain.proofs.reading.chain_pages.Given as goal
+use Rattle.overflow_chain.proofs.Walks.{HasWalked}
+use Rattle.overflow_chain.proofs.reading.walk.Given as goal
 
 abbrev pub invariant-loop : goal.invariant-loop
 invariant-loop g l = record {
@@ -10,6 +10,6 @@ invariant-loop g l = record {
   count : g.S.PageRead.count l.store ≡ g.S.PageRead.count l.fn.store;
   same : g.S.PageRead.pages l.store ≡ g.S.PageRead.pages l.fn.store;
   whole : length l.page ≡ g.S.PageRead.size l.fn.store;
-  many : length l.numbers.items ≡ l.counter;
-  walked : IfSome (g.S.PageRead.pages l.fn.store) (IsWalk (g.S.PageRead.size l.fn.store) (g.S.PageRead.count l.fn.store) l.first l.numbers.items l.number l.holder);
+  walked : IfSome (g.S.PageRead.pages l.fn.store) (HasWalked (g.S.PageRead.size l.fn.store) (g.S.PageRead.count l.fn.store) l.first l.counter
+      (g.K.Keeper.part (g.S.PageRead.usable l.fn.store)) (g.K.Keeper.kept l.fn.keeper) (g.K.Keeper.kept l.keeper) l.number l.holder);
 }

@@ -1,0 +1,6 @@
+pub mod Children
+pub mod Puts
+pub mod ChildrenLaws
+pub mod PutsLaws
+pub mod LeavesLaws
+pub mod WorldsLaws

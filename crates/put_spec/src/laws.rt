@@ -1,0 +1,83 @@
+// Laws about the definitions.
+ghost use Rattle.std.specs.Prelude.{◌≡◌, ◌-◌, ◌<◌, ◌≤◌, ℕ, zero, suc, List, [], ◌∷◌, ◌++◌, length, slice_index_or, slice_set};
+ghost use Rattle.std.specs.List.{insert};
+ghost use Rattle.page_spec.specs.Freelists.{Trunk};
+ghost use Rattle.tree_spec.specs.declared.TreeKind.{TreeKind};
+ghost use Rattle.tree_spec.specs.declared.TreeKind.TheVariants.{Table};
+ghost use Rattle.tree_spec.specs.Trees.{TreeCell, TreeOf, Rooted, leaf_kind, interior_kind, page_of, own_cells, cells_behind};
+ghost use Rattle.tree_spec.specs.Standing.{Sizes, Paged, IsNumber, IsHeld, IsBehind, HasOwnPage, Stands};
+ghost use Rattle.tree_spec.specs.Worlds.{IsWorld, greatest_count, with_tree};
+ghost use Rattle.tree_spec.specs.Changes.{Within, Turns, Writes};
+ghost use Rattle.put_spec.specs.Children.{Belongs, Meets, views_of};
+ghost use Rattle.put_spec.specs.Puts.{Before, After, HasRowid, before_of, hand_before, child_before, interior_after, leaf_after, IsCut, cut_after, moved, deeper, IsReady, IsOpened, IsPut, IsRootPut};
+
+/// Where a child has had the put, its parent has, but for the writing of its own page.
+pub fn put_child_opens_its_parent()
+    ensures { (sizes : Sizes) (kind : TreeKind) (levels : ℕ) (before : Before (suc levels)) (i : ℕ) (after : After levels)
+        → Within sizes before.base (hand_before before) before.trunks → Stands sizes before.base kind (suc levels) before.tree
+        → (kind ≡ Table → Belongs before.cell.view.rowid i (views_of (cells_behind before.tree.children)))
+        → IsPut sizes kind levels (child_before levels before i) after → IsOpened sizes kind (suc levels) before (interior_after levels before i after) }
+{}
+
+/// A page that is still to be written may be cut, its front on a page that was taken.
+pub fn cut_page_is_opened()
+    ensures { (sizes : Sizes) (kind : TreeKind) (levels : ℕ) (before : Before levels) (after : After levels)
+        (left : TreeOf levels) (divider : TreeCell) (right : TreeOf levels) (base : Paged) (trunks : List Trunk)
+        → IsOpened sizes kind levels before after → IsCut levels kind after.home left divider right
+        → Turns sizes after.base [] after.trunks base (page_of levels left ∷ []) trunks → HasOwnPage sizes base kind levels left
+        → IsBehind sizes base (interior_kind kind) divider (page_of levels left)
+        → 0 < length (own_cells levels left) → 0 < length (own_cells levels right)
+        → IsOpened sizes kind levels before (cut_after levels after left divider right base trunks) }
+{}
+
+/// Once its own page is written, the put below a page is done.
+pub fn written_page_is_put()
+    ensures { (sizes : Sizes) (kind : TreeKind) (levels : ℕ) (before : Before levels) (after : After levels) (base : Paged)
+        → IsOpened sizes kind levels before after → Writes (page_of levels after.home) after.base base
+        → HasOwnPage sizes base kind levels after.home → IsPut sizes kind levels before (record after { base = base }) }
+{}
+
+/// A root beside which no sibling stands needs no new level.
+pub fn root_stays()
+    ensures { (sizes : Sizes) (kind : TreeKind) (levels : ℕ) (before : Before levels) (after : After levels)
+        → IsPut sizes kind levels before after → after.siblings ≡ []
+        → IsRootPut sizes kind levels before after.base (record { kind = kind; levels = levels; tree = after.home }) after.first after.bytes after.chain after.trunks }
+{}
+
+/// A root beside which siblings stand gets a new level: what its page had goes to a page that was taken.
+pub fn root_gets_a_level()
+    ensures { (sizes : Sizes) (kind : TreeKind) (levels : ℕ) (before : Before levels) (after : After levels) (fresh : ℕ) (between new : Paged) (trunks : List Trunk)
+        → IsPut sizes kind levels before after → Turns sizes after.base [] after.trunks between (fresh ∷ []) trunks
+        → IsNumber sizes between fresh → HasOwnPage sizes between kind levels (moved levels fresh after.home)
+        → Writes (page_of levels after.home) between new → HasOwnPage sizes new kind (suc levels) (deeper levels after fresh) → 0 < length after.siblings
+        → IsRootPut sizes kind levels before new (record { kind = kind; levels = suc levels; tree = deeper levels after fresh }) after.first after.bytes after.chain trunks }
+{}
+
+/// A cell is put among the cells of a leaf that has none of its rowid.
+pub fn cell_is_put_in_a_leaf()
+    ensures { (sizes : Sizes) (kind : TreeKind) (before : Before zero) (i : ℕ) → IsReady sizes kind zero before → i ≤ length before.tree.cells
+        → (kind ≡ Table → Belongs before.cell.view.rowid i (views_of before.tree.cells) × ¬ Meets before.cell.view.rowid i (views_of before.tree.cells))
+        → IsOpened sizes kind zero before (leaf_after before (insert before.tree.cells i before.cell) 0 0 []) }
+{}
+
+/// A cell takes the place of the one of its rowid, whose overflow chain is in hand then.
+pub fn cell_is_replaced_in_a_leaf()
+    ensures { (sizes : Sizes) (before : Before zero) (i : ℕ) → IsReady sizes Table zero before → Meets before.cell.view.rowid i (views_of before.tree.cells)
+        → let was = slice_index_or before.tree.cells i before.cell in
+        IsOpened sizes Table zero before (leaf_after before (slice_set before.tree.cells i before.cell) was.view.overflow (was.view.payload - was.view.local) was.chain) }
+{}
+
+/// In a world, once the overflow chain of a cell is written, a put of that cell may begin.
+pub fn put_begins_in_a_world()
+    ensures { (sizes : Sizes) (front : List Rooted) (old : Rooted) (back : List Rooted) (cell : TreeCell) (a b : Paged) (p q : List Trunk)
+        → IsWorld sizes a (with_tree front old back p) → Turns sizes a [] p b cell.chain q → IsHeld sizes b (leaf_kind old.kind) cell
+        → IsReady sizes old.kind old.levels (before_of old b q cell) }
+{}
+
+/// The chain of a cell is written, the cell is put, and the chain of the cell that it replaced is given back: the world holds again, and all other trees are as they were.
+pub fn put_gives_a_world()
+    ensures { (sizes : Sizes) (front : List Rooted) (old : Rooted) (back : List Rooted) (cell : TreeCell) (a b c d : Paged) (new : Rooted) (first bytes : ℕ) (gone : List ℕ) (p q r s : List Trunk)
+        → IsWorld sizes a (with_tree front old back p) → Turns sizes a [] p b cell.chain q
+        → HasRowid old.kind cell → IsRootPut sizes old.kind old.levels (before_of old b q cell) c new first bytes gone r
+        → Turns sizes c gone r d [] s → d.count ≤ greatest_count → IsWorld sizes d (with_tree front new back s) }
+{}

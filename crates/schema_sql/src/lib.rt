@@ -1,0 +1,12 @@
+//! Reads the texts of a schema (The Schema Table, section 2.1; CREATE TABLE; CREATE INDEX).
+//!
+//! `tokens` gives the tokens of a text by their places. What these are is said by `Tokens` in the `specs/` of `schema_spec`.
+#![tactic(auto)]
+
+mod tokenizer;
+
+pub use schema_spec::{Token, TokenKind};
+pub use tokenizer::tokens;
+
+#[cfg(test)]
+mod tests;

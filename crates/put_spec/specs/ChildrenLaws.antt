@@ -7,12 +7,13 @@ use Rattle.std.proofs.lemmas.List.Concat.{flat_map-append}
 use Rattle.page_spec.specs.Pages.{IsInRange}
 use Rattle.tree_spec.specs.declared.TreeKind.{TreeKind}
 use Rattle.tree_spec.specs.declared.TreeKind.TheVariants.{Table, Index}
-use Rattle.tree_spec.specs.Counts.{times}
-use Rattle.tree_spec.specs.CountsLaws.{times-append}
+use Rattle.page_spec.specs.Counts.{times}
+use Rattle.page_spec.specs.CountsLaws.{times-append}
 use Rattle.tree_spec.specs.Trees.{TreeCell, TreeOf, Member, interior_kind, cells_behind, page_of, pages_of, pages_beside, between, list_of, list_beside}
 use Rattle.tree_spec.specs.Bounds.{BesideIn, InOrder}
 use Rattle.tree_spec.specs.Standing.{Sizes, Paged, SamePage, Keeps, IsBehind, Stands, StandsBefore, StandsLast}
-use Rattle.tree_spec.specs.StandingLaws.{Stands-kept, behind-kept, last-kept, number-grows}
+use Rattle.tree_spec.specs.StandingLaws.{Stands-kept, behind-kept, last-kept}
+use Rattle.page_spec.specs.FreelistsLaws.{IsInRange-wider}
 use Rattle.tree_spec.specs.WorldsLaws.{all-join}
 use Rattle.put_spec.specs.Children.{PutIn, Belongs, views_of, child_at, children_with, last_with}
 use Rattle.put_spec.specs.Puts.{InBounds}
@@ -91,7 +92,7 @@ module _ (sizes : Sizes) (kind : TreeKind) (old new : Paged) (levels : ℕ) wher
       → AllByRecursion (StandsBefore sizes new kind levels) siblings → Stands sizes new kind levels home → page_of levels home ≡ page_of levels (child_at i children last)
       → AllByRecursion (StandsBefore sizes new kind levels) (children_with i children siblings home) × StandsLast sizes new kind levels (last_with i children last home)
   stands-with i [] siblings last home grows same all stands beside top page =
-      (beside, (subst⁻¹ (λ (p : ℕ). IsInRange sizes.size new.count p) page (number-grows sizes.size old.count new.count (page_of levels last) grows stands.0), top))
+      (beside, (subst⁻¹ (λ (p : ℕ). IsInRange sizes.size new.count p) page (IsInRange-wider sizes.size old.count new.count (page_of levels last) grows stands.0), top))
   stands-with zero (child ∷ children) siblings last home grows same all stands beside top page =
       let rest = beside-kept children last (record { same = λ n some. same n (omega (arith, beside-first n levels child children last)); grows = grows }) all.1 stands in (
         all-join (StandsBefore sizes new kind levels) siblings ((home, child.1) ∷ children) beside (

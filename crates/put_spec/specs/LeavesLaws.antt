@@ -5,8 +5,8 @@ use Rattle.std.specs.List.{AllByRecursion, insert}
 use Rattle.std.proofs.lemmas.Int.{ints}
 use Rattle.tree_spec.specs.declared.TreeKind.{TreeKind}
 use Rattle.tree_spec.specs.declared.TreeKind.TheVariants.{Table, Index}
-use Rattle.tree_spec.specs.Counts.{times}
-use Rattle.tree_spec.specs.CountsLaws.{times-append}
+use Rattle.page_spec.specs.Counts.{times}
+use Rattle.page_spec.specs.CountsLaws.{times-append}
 use Rattle.tree_spec.specs.Trees.{TreeCell, leaf_kind, chain_pages, pages_of, member}
 use Rattle.tree_spec.specs.Bounds.{RisesIn}
 use Rattle.tree_spec.specs.Standing.{Sizes, IsHeld}

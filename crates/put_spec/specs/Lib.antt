@@ -4,3 +4,5 @@ pub mod ChildrenLaws
 pub mod PutsLaws
 pub mod LeavesLaws
 pub mod WorldsLaws
+pub mod Steps
+pub mod StepsLaws

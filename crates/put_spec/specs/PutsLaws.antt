@@ -7,13 +7,15 @@ use Rattle.format_spec.specs.Page.{header_place}
 use Rattle.page_spec.specs.Freelists.{Trunk}
 use Rattle.tree_spec.specs.declared.TreeKind.{TreeKind}
 use Rattle.tree_spec.specs.declared.TreeKind.TheVariants.{Table, Index}
-use Rattle.tree_spec.specs.Counts.{hit, times}
-use Rattle.tree_spec.specs.CountsLaws.{times-append, hit-itself}
+use Rattle.page_spec.specs.Counts.{hit, times}
+use Rattle.page_spec.specs.CountsLaws.{times-append, hit-itself}
 use Rattle.tree_spec.specs.Trees.{TreeCell, TreeOf, Member, leaf_kind, interior_kind, page_of, own_cells, cells_behind, chain_pages, pages_of, pages_below, pages_beside, member, between, list_of, list_beside, IsFull, IsFullBelow}
 use Rattle.tree_spec.specs.Bounds.{RisesIn, BesideIn, InOrder}
 use Rattle.tree_spec.specs.Standing.{Sizes, Paged, Keeps, IsNumber, IsHeld, IsBehind, HasOwnPage, HasBelow, Stands, StandsBefore, StandsLast}
-use Rattle.tree_spec.specs.StandingLaws.{number-grows, chain-kept, children-kept, HasBelow-kept, Stands-kept}
-use Rattle.tree_spec.specs.WorldsLaws.{due-most, all-front, all-back, all-join}
+use Rattle.page_spec.specs.FreePagesLaws.{due-most}
+use Rattle.page_spec.specs.FreelistsLaws.{IsInRange-wider}
+use Rattle.tree_spec.specs.StandingLaws.{chain-kept, children-kept, HasBelow-kept, Stands-kept}
+use Rattle.tree_spec.specs.WorldsLaws.{all-front, all-back, all-join}
 use Rattle.tree_spec.specs.Changes.{Within, Turns, Writes}
 use Rattle.tree_spec.specs.ChangesLaws.{Turns-then, Turns-wide, Turns-within, Turns-write, Turns-keeps}
 use Rattle.put_spec.specs.Children.{PutIn, Belongs, views_of, child_at, children_with, last_with, interior_with}
@@ -87,7 +89,8 @@ module _ (sizes : Sizes) (kind : TreeKind) where
   chains-join n [] ys = omega arith
   chains-join n (x ∷ xs) ys = omega (arith, chains-join n xs ys, times-append n x.chain (chain_pages (xs ++ ys)), times-append n x.chain (chain_pages xs))
 
-  cut-count : (levels : ℕ) (k : TreeKind) (n : ℕ) (whole left : TreeOf levels) (divider : TreeCell) (right : TreeOf levels) → IsCut levels k whole left divider right
+  -- how often a page stands in the parts of a tree that is cut
+  pub cut-count : (levels : ℕ) (k : TreeKind) (n : ℕ) (whole left : TreeOf levels) (divider : TreeCell) (right : TreeOf levels) → IsCut levels k whole left divider right
       → times n (pages_of levels left) + times n divider.chain + times n (pages_of levels right) ≡ times n (pages_of levels whole) + hit (page_of levels left) n
   cut-count zero Table n whole left divider right cut =
       omega (arith, ap (λ cells. times n (chain_pages cells)) cut.cells, chains-join n left.cells right.cells, ap (λ q. hit q n) cut.page, ap (times n) cut.chain)
@@ -312,7 +315,7 @@ module _ (sizes : Sizes) (kind : TreeKind) where
 
   -- A root gets a new level.
 
-  moved-page : (levels fresh : ℕ) (tree : TreeOf levels) → page_of levels (moved levels fresh tree) ≡ fresh
+  pub moved-page : (levels fresh : ℕ) (tree : TreeOf levels) → page_of levels (moved levels fresh tree) ≡ fresh
   moved-page zero fresh tree = refl
   moved-page (suc levels) fresh tree = refl
 
@@ -393,7 +396,7 @@ module _ (sizes : Sizes) (kind : TreeKind) where
           (
             siblings,
             (
-              subst⁻¹ (IsNumber sizes new) (moved-page levels fresh after.home) (number-grows sizes.size mid.count new.count fresh (omega (arith, writes.count)) number),
+              subst⁻¹ (IsNumber sizes new) (moved-page levels fresh after.home) (IsInRange-wider sizes.size mid.count new.count fresh (omega (arith, writes.count)) number),
               home_stands,
             ),
           ),

@@ -4,8 +4,8 @@ use Rattle.std.proofs.Math.Path.{subst⁻¹}
 use Rattle.page_spec.specs.Freelists.{Trunk}
 use Rattle.tree_spec.specs.declared.TreeKind.{TreeKind}
 use Rattle.tree_spec.specs.declared.TreeKind.TheVariants.{Table, Index}
-use Rattle.tree_spec.specs.Counts.{times}
-use Rattle.tree_spec.specs.CountsLaws.{times-append}
+use Rattle.page_spec.specs.Counts.{times}
+use Rattle.page_spec.specs.CountsLaws.{times-append}
 use Rattle.tree_spec.specs.Trees.{TreeCell, TreeOf, Rooted, leaf_kind, pages_in}
 use Rattle.tree_spec.specs.Bounds.{IsOrdered, below_rowids, greatest_rowid}
 use Rattle.tree_spec.specs.Standing.{Sizes, Paged, IsHeld}

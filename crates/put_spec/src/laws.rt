@@ -1,15 +1,16 @@
 // Laws about the definitions.
-ghost use Rattle.std.specs.Prelude.{◌≡◌, ◌-◌, ◌<◌, ◌≤◌, ℕ, zero, suc, List, [], ◌∷◌, ◌++◌, length, slice_index_or, slice_set};
+ghost use Rattle.std.specs.Prelude.{◌≡◌, ◌-◌, ◌<◌, ◌≤◌, ℕ, zero, suc, List, [], ◌∷◌, ◌++◌, length, map, slice_index_or, slice_set};
 ghost use Rattle.std.specs.List.{insert};
 ghost use Rattle.page_spec.specs.Freelists.{Trunk};
 ghost use Rattle.tree_spec.specs.declared.TreeKind.{TreeKind};
-ghost use Rattle.tree_spec.specs.declared.TreeKind.TheVariants.{Table};
-ghost use Rattle.tree_spec.specs.Trees.{TreeCell, TreeOf, Rooted, leaf_kind, interior_kind, page_of, own_cells, cells_behind};
+ghost use Rattle.tree_spec.specs.declared.TreeKind.TheVariants.{Table, Index};
+ghost use Rattle.tree_spec.specs.Trees.{TreeCell, TreeOf, Rooted, leaf_kind, interior_kind, kind_at, page_of, own_cells, own_right, cells_behind};
 ghost use Rattle.tree_spec.specs.Standing.{Sizes, Paged, IsNumber, IsHeld, IsBehind, HasOwnPage, Stands};
 ghost use Rattle.tree_spec.specs.Worlds.{IsWorld, greatest_count, with_tree};
 ghost use Rattle.tree_spec.specs.Changes.{Within, Turns, Writes};
 ghost use Rattle.put_spec.specs.Children.{Belongs, Meets, views_of};
 ghost use Rattle.put_spec.specs.Puts.{Before, After, HasRowid, before_of, hand_before, child_before, interior_after, leaf_after, IsCut, cut_after, moved, deeper, IsReady, IsOpened, IsPut, IsRootPut};
+ghost use Rattle.put_spec.specs.Steps.{Spelled, spelled, views_in, HasCells, child_page, with_dividers, IsSettled, PutBelow, PutAt, IsDeepened, IsLeafEdit};
 
 /// Where a child has had the put, its parent has, but for the writing of its own page.
 pub fn put_child_opens_its_parent()
@@ -80,4 +81,42 @@ pub fn put_gives_a_world()
         → IsWorld sizes a (with_tree front old back p) → Turns sizes a [] p b cell.chain q
         → HasRowid old.kind cell → IsRootPut sizes old.kind old.levels (before_of old b q cell) c new first bytes gone r
         → Turns sizes c gone r d [] s → d.count ≤ greatest_count → IsWorld sizes d (with_tree front new back s) }
+{}
+
+/// A page that has some cells, spelled so, is that of the tree that stands there: its own cells are these.
+pub fn page_tells_its_tree()
+    ensures { (sizes : Sizes) (base : Paged) (kind : TreeKind) (levels page : ℕ) (tree : TreeOf levels) (cells : List Spelled) (right : ℕ) → page_of levels tree ≡ page
+        → HasCells sizes base (kind_at kind levels) page cells right → Stands sizes base kind levels tree
+        → (cells ≡ map spelled (own_cells levels tree)) × (right ≡ own_right levels tree) }
+{}
+
+/// A cell is put among the cells of a leaf, or in a table in place of the one of its rowid, and the leaf is settled: the put below this page is done.
+pub fn leaf_has_the_cell()
+    ensures table { (sizes : Sizes) (page : ℕ) (cell : Spelled) (old : Paged) (cells : List Spelled) (right : ℕ) (edited : List Spelled) (first bytes : ℕ) (new : Paged) (dividers : List Spelled)
+        → HasCells sizes old (leaf_kind Table) page cells right → IsLeafEdit cells cell edited first bytes
+        → IsSettled sizes zero Table page 0 edited old new dividers → PutBelow sizes Table zero page cell old new dividers first bytes }
+    ensures index { (sizes : Sizes) (page : ℕ) (cell : Spelled) (old : Paged) (cells : List Spelled) (right at : ℕ) (new : Paged) (dividers : List Spelled)
+        → HasCells sizes old (leaf_kind Index) page cells right → at ≤ length cells
+        → IsSettled sizes zero Index page 0 (insert cells at cell) old new dividers → PutBelow sizes Index zero page cell old new dividers 0 0 }
+{}
+
+/// A put below the child at the place where the cell belongs is one below its parent: once the parent is settled with the dividers that came, or, where none came, as it stands.
+pub fn parent_has_the_cell()
+    ensures settled { (sizes : Sizes) (kind : TreeKind) (levels page : ℕ) (cell : Spelled) (old : Paged) (cells : List Spelled) (right at : ℕ) (between : Paged) (grew : List Spelled)
+        (first bytes : ℕ) (new : Paged) (dividers : List Spelled)
+        → HasCells sizes old (interior_kind kind) page cells right → at ≤ length cells → (kind ≡ Table → Belongs cell.view.rowid at (views_in cells))
+        → PutBelow sizes kind levels (child_page at cells right) cell old between grew first bytes
+        → IsSettled sizes (suc levels) kind page right (with_dividers cells at grew) between new dividers → PutBelow sizes kind (suc levels) page cell old new dividers first bytes }
+    ensures untouched { (sizes : Sizes) (kind : TreeKind) (levels page : ℕ) (cell : Spelled) (old : Paged) (cells : List Spelled) (right at : ℕ) (new : Paged) (first bytes : ℕ)
+        → HasCells sizes old (interior_kind kind) page cells right → (kind ≡ Table → Belongs cell.view.rowid at (views_in cells))
+        → PutBelow sizes kind levels (child_page at cells right) cell old new [] first bytes → PutBelow sizes kind (suc levels) page cell old new [] first bytes }
+{}
+
+/// A put below a root's page is a put into its tree: as the root stands where no divider came, and once it got a level where some did.
+pub fn root_has_the_cell()
+    ensures stays { (sizes : Sizes) (kind : TreeKind) (levels root : ℕ) (cell : Spelled) (old new : Paged) (first bytes : ℕ)
+        → PutBelow sizes kind levels root cell old new [] first bytes → PutAt sizes kind levels root cell old new first bytes }
+    ensures deepened { (sizes : Sizes) (kind : TreeKind) (levels root : ℕ) (cell : Spelled) (old between new : Paged) (dividers : List Spelled) (first bytes : ℕ)
+        → PutBelow sizes kind levels root cell old between dividers first bytes
+        → IsDeepened sizes levels kind root dividers between new → PutAt sizes kind levels root cell old new first bytes }
 {}

@@ -2,9 +2,10 @@
 use Rattle.std.specs.Prelude.{◌≡◌, ◌≢◌, ℕ, ◌+◌, ◌<◌, ◌≤◌, ◌⊎◌, List, slice_index}
 use Rattle.format_spec.specs.Page.{header_place}
 use Rattle.page_spec.specs.Freelists.{Trunk, free_pages}
-use Rattle.tree_spec.specs.Counts.{times}
+use Rattle.page_spec.specs.Counts.{times}
 use Rattle.tree_spec.specs.Standing.{Sizes, Paged, SamePage}
-use Rattle.tree_spec.specs.Worlds.{due, IsFree}
+use Rattle.tree_spec.specs.Worlds.{IsFree}
+use Rattle.page_spec.specs.FreePages.{due}
 
 -- of the database header only the size in pages and the freelist's place and length may change: offsets 28 to 39 (Database File Format, section 1.3)
 abbrev pub SameHeader : List ℕ → List ℕ → Type 0

@@ -5,17 +5,19 @@ use Rattle.std.specs.List.{flat_map, AllByRecursion, AllPairs}
 use Rattle.std.proofs.lemmas.Bool.{cases_lt}
 use Rattle.format_spec.specs.Header.{freelist_trunk}
 use Rattle.format_spec.specs.Page.{header_place}
-use Rattle.page_spec.specs.Pages.{next_page}
 use Rattle.page_spec.specs.PlacesLaws.{number_at-same}
-use Rattle.page_spec.specs.Freelists.{Trunk, IsTrunk, AreTrunks, free_pages, leaf_count, leaf_at}
-use Rattle.tree_spec.specs.Counts.{times}
-use Rattle.tree_spec.specs.CountsLaws.{up_to, up_to-sum, up_to-same, times-counted}
+use Rattle.page_spec.specs.Freelists.{Trunk, free_pages}
+use Rattle.page_spec.specs.FreelistsLaws.{IsFreelist-same, free-in_range}
+use Rattle.page_spec.specs.FreePages.{due, due_pages}
+use Rattle.page_spec.specs.FreePagesLaws.{due-most, due-grows, due-past, due-number, due-counted, due_pages-grows}
+use Rattle.page_spec.specs.Counts.{times}
+use Rattle.page_spec.specs.CountsLaws.{distinct-once, up_to, up_to-sum, up_to-same, times-counted}
 use Rattle.tree_spec.specs.Trees.{Rooted, root_of, pages_in}
 use Rattle.tree_spec.specs.Standing.{Sizes, Paged, Keeps, IsRoot}
-use Rattle.tree_spec.specs.StandingLaws.{IsRoot-kept, keeps-first, keeps-front, keeps-back, number-grows}
+use Rattle.tree_spec.specs.StandingLaws.{IsRoot-kept, keeps-front, keeps-back}
 use Rattle.tree_spec.specs.PagesLaws.{SamePage-whole}
-use Rattle.tree_spec.specs.Worlds.{with_tree, due, due_pages, greatest_count, IsFree, IsWorld, slack}
-use Rattle.tree_spec.specs.WorldsLaws.{due-most, due-grows, due-past, due-counted, due_pages-grows, times-world, all-front, all-back, all-join}
+use Rattle.tree_spec.specs.Worlds.{with_tree, greatest_count, IsFree, IsWorld, slack}
+use Rattle.tree_spec.specs.WorldsLaws.{times-world, all-front, all-back, all-join}
 use Rattle.tree_spec.specs.Changes.{Writes, Within, Turns}
 
 module _ (sizes : Sizes) where
@@ -69,38 +71,24 @@ module _ (sizes : Sizes) where
     grows = t.grows;
   }
 
-  trunk-kept : (a b : Paged) (trunk : Trunk) → a.count ≤ b.count → b.pages trunk.page ≡ a.pages trunk.page
-      → IsTrunk a.pages sizes.size sizes.usable a.count trunk → IsTrunk b.pages sizes.size sizes.usable b.count trunk
-  trunk-kept a b trunk grows same is = record {
-    in_range = number-grows sizes.size a.count b.count trunk.page grows is.in_range;
-    counts = ap leaf_count same ∙ is.counts;
-    few = is.few;
-    names = λ k low. ap (λ (page : List ℕ). leaf_at page k) same ∙ is.names k low;
-    leaves_in_range = λ k d low. number-grows sizes.size a.count b.count _ grows (is.leaves_in_range k d low);
-  }
+  -- free pages stand among the due pages, each once
+  pub free-within : (a : Paged) (trunks : List Trunk) → IsFree sizes a trunks → Within sizes a [] trunks
+  free-within a trunks free n =
+      elim (cases_lt 0 (times n (free_pages trunks))) [
+        | inl some ↦
+            let is = free-in_range sizes.size sizes.usable a.pages a.count (freelist_trunk (a.pages 1)) trunks free.named n some in
+            omega (arith, due-number sizes.size a.count n is, distinct-once (free_pages trunks) free.differ n)
+        | inr none ↦ omega arith
+      ]
 
-  trunks-kept : (a b : Paged) (first : ℕ) (trunks : List Trunk) → Keeps (free_pages trunks) a b
-      → AreTrunks a.pages sizes.size sizes.usable a.count first trunks → AreTrunks b.pages sizes.size sizes.usable b.count first trunks
-  trunks-kept a b first [] keeps are = are
-  trunks-kept a b first (trunk ∷ trunks) keeps are =
-      let here = keeps-front a b (trunk.page ∷ trunk.leaves) (free_pages trunks) keeps in
-      let same = SamePage-whole trunk.page (a.pages trunk.page) (b.pages trunk.page) are.1.in_range.behind_first (keeps-first a b trunk.page trunk.leaves here) in (
-        are.0,
-        trunk-kept a b trunk keeps.grows same are.1,
-        subst⁻¹ (λ (page : List ℕ). AreTrunks b.pages sizes.size sizes.usable b.count (next_page page) trunks) same
-            (trunks-kept a b (next_page (a.pages trunk.page)) trunks (keeps-back a b (trunk.page ∷ trunk.leaves) (free_pages trunks) keeps) are.2),
-      )
-
-  -- the freelist is as it was where its pages are, and its place and length on page 1
+  -- the freelist is as it was where its pages are, and the database header
   pub freelist-kept : (a b : Paged) (trunks : List Trunk) → Keeps (free_pages trunks) a b → ((k : ℕ) → k < 100 → slice_index (b.pages 1) k ≡ slice_index (a.pages 1) k)
       → IsFree sizes a trunks → IsFree sizes b trunks
   freelist-kept a b trunks keeps header is =
       let field = λ (place : ℕ) (room : place + 4 ≤ 100). number_at-same 4 (b.pages 1) place (a.pages 1) place (λ k low. header (place + k) (omega arith)) in
-      record {
-        named = subst⁻¹ (λ (first : ℕ). AreTrunks b.pages sizes.size sizes.usable b.count first trunks) (field 32 (omega arith)) (trunks-kept a b (freelist_trunk (a.pages 1)) trunks keeps is.named);
-        many = field 36 (omega arith) ∙ is.many;
-        differ = is.differ;
-      }
+      let whole = λ (n : ℕ) (some : 0 < times n (free_pages trunks)). SamePage-whole n (a.pages n) (b.pages n)
+      (free-in_range sizes.size sizes.usable a.pages a.count (freelist_trunk (a.pages 1)) trunks is.named n some).behind_first (keeps.same n some) in
+      IsFreelist-same sizes.size sizes.usable a.pages b.pages a.count b.count trunks whole keeps.grows (field 32 (omega arith)) (field 36 (omega arith)) is
 
   header-written : (a b : Paged) (number : ℕ) → Writes number a b → (k : ℕ) → k < 100 → slice_index (b.pages 1) k ≡ slice_index (a.pages 1) k
   header-written a b number writes k low =

@@ -1,5 +1,3 @@
-pub mod Counts
-pub mod CountsLaws
 pub mod Trees
 pub mod TreesLaws
 pub mod Bounds

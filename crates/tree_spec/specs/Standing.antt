@@ -8,7 +8,7 @@ use Rattle.format_spec.specs.Page.{IsPage, header_place}
 use Rattle.page_spec.specs.Pages.{Pages, IsInRange, lock_byte_page}
 use Rattle.page_spec.specs.Chains.{IsChain, chain_bytes}
 use Rattle.tree_spec.specs.declared.TreeKind.{TreeKind}
-use Rattle.tree_spec.specs.Counts.{times}
+use Rattle.page_spec.specs.Counts.{times}
 use Rattle.tree_spec.specs.Trees.{TreeCell, TreeOf, Rooted, Member, leaf_kind, interior_kind, kind_at, page_of, own_cells, own_right, IsFullRoot, root_of, pages_in, list_in, depth_of, greatest_depth}
 use Rattle.tree_spec.specs.Bounds.{IsOrdered}
 

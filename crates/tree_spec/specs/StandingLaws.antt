@@ -8,11 +8,13 @@ use Rattle.format_spec.specs.declared.PageKind.{PageKind}
 use Rattle.format_spec.specs.declared.PageKind.TheVariants.{TableInterior}
 use Rattle.format_spec.specs.declared.CellView.{CellView}
 use Rattle.format_spec.specs.Cell.{IsCell}
-use Rattle.page_spec.specs.Pages.{IsInRange, next_page}
-use Rattle.page_spec.specs.Chains.{IsChain, AreLinked, named_behind, content_of, chain_bytes}
+use Rattle.page_spec.specs.Pages.{Pages, IsInRange, next_page}
+use Rattle.page_spec.specs.Chains.{IsChain, AreLinked, chain_bytes}
+use Rattle.page_spec.specs.WrittenChainsLaws.{SameOn, IsChain-same, chain_bytes-same}
+use Rattle.page_spec.specs.FreelistsLaws.{IsInRange-wider}
 use Rattle.tree_spec.specs.declared.TreeKind.{TreeKind}
 use Rattle.tree_spec.specs.declared.TreeKind.TheVariants.{Table, Index}
-use Rattle.tree_spec.specs.CountsLaws.{times-append, hit-itself}
+use Rattle.page_spec.specs.CountsLaws.{times-append, times-all, hit-itself}
 use Rattle.tree_spec.specs.Trees.{TreeCell, TreeOf, Rooted, Member, leaf_kind, interior_kind, kind_at, page_of, own_cells, own_right, chain_pages, pages_of, pages_below, pages_in, list_of}
 use Rattle.tree_spec.specs.Bounds.{IsOrdered, below_rowids, greatest_rowid}
 use Rattle.tree_spec.specs.BoundsLaws.{InOrder-rises, rises-pairs}
@@ -31,10 +33,6 @@ module _ (old new : Paged) where
 
   pub keeps-back : (xs ys : List ℕ) → Keeps (xs ++ ys) old new → Keeps ys old new
   keeps-back xs ys keeps = record { same = λ n some. keeps.same n (omega (arith, times-append n xs ys)); grows = keeps.grows }
-
--- a number that a link may name is one of more pages too
-pub number-grows : (size count later number : ℕ) → count ≤ later → IsInRange size count number → IsInRange size later number
-number-grows size count later number grows is = record { behind_first = is.behind_first; within = omega (arith, is.within); not_lock_byte = is.not_lock_byte }
 
 -- no bytes have no chain
 pub chain-none : (sizes : Sizes) (base : Paged) → IsChain base.pages sizes.size sizes.usable base.count 0 0 []
@@ -60,57 +58,39 @@ divider-held sizes base bytes view is = record {
       );
 }
 
-module _ (size : ℕ) (old new : Paged) where
-  -- the pages of a chain that are kept are the same in all their bytes
-  chain-whole : (first : ℕ) (numbers : List ℕ) → Keeps numbers old new → AreLinked old.pages size old.count first numbers → AllByRecursion (λ n. new.pages n ≡ old.pages n) numbers
-  chain-whole first [] keeps linked = tt
-  chain-whole first (x ∷ xs) keeps linked = (
-    SamePage-whole x (old.pages x) (new.pages x) linked.1.behind_first (keeps-first old new x xs keeps),
-    chain-whole (next_page (old.pages x)) xs (keeps-rest old new x xs keeps) linked.2,
-  )
+-- the pages of a chain are in range, also where there are more pages
+linked-in_range : (pages : Pages) (size count first : ℕ) (numbers : List ℕ) → AreLinked pages size count first numbers → AllByRecursion (IsInRange size count) numbers
+linked-in_range pages size count first [] linked = tt
+linked-in_range pages size count first (number ∷ numbers) linked = (linked.1, linked-in_range pages size count (next_page (pages number)) numbers linked.2)
 
-  linked-kept : (first : ℕ) (numbers : List ℕ) → old.count ≤ new.count → AllByRecursion (λ n. new.pages n ≡ old.pages n) numbers
-      → AreLinked old.pages size old.count first numbers → AreLinked new.pages size new.count first numbers
-  linked-kept first [] grows same linked = tt
-  linked-kept first (x ∷ xs) grows same linked = (
-    linked.0,
-    number-grows size old.count new.count x grows linked.1,
-    subst⁻¹ (λ (page : List ℕ). AreLinked new.pages size new.count (next_page page) xs) same.0 (linked-kept (next_page (old.pages x)) xs grows same.1 linked.2),
-  )
+linked-wider : (pages : Pages) (size count other first : ℕ) (numbers : List ℕ) → count ≤ other → AreLinked pages size count first numbers → AreLinked pages size other first numbers
+linked-wider pages size count other first [] more linked = tt
+linked-wider pages size count other first (number ∷ numbers) more linked =
+    (linked.0, IsInRange-wider size count other number more linked.1, linked-wider pages size count other (next_page (pages number)) numbers more linked.2)
 
-  named-kept : (first : ℕ) (numbers : List ℕ) → AllByRecursion (λ n. new.pages n ≡ old.pages n) numbers → named_behind new.pages first numbers ≡ named_behind old.pages first numbers
-  named-kept first [] same = refl
-  named-kept first (x ∷ xs) same = ap (λ (page : List ℕ). named_behind new.pages (next_page page) xs) same.0 ∙ named-kept (next_page (old.pages x)) xs same.1
-
-  content-kept : (usable : ℕ) (numbers : List ℕ) → AllByRecursion (λ n. new.pages n ≡ old.pages n) numbers
-      → flat_map (λ number. content_of usable (new.pages number)) numbers ≡ flat_map (λ number. content_of usable (old.pages number)) numbers
-  content-kept usable [] same = refl
-  content-kept usable (x ∷ xs) same =
-      ap (λ (page : List ℕ). content_of usable page ++ flat_map (λ number. content_of usable (new.pages number)) xs) same.0
-      ∙ ap (λ (bytes : List ℕ). content_of usable (old.pages x) ++ bytes) (content-kept usable xs same.1)
+-- the pages of a chain that are kept are the same in all their bytes
+chain-whole : (size : ℕ) (old new : Paged) (first : ℕ) (numbers : List ℕ) → Keeps numbers old new → AreLinked old.pages size old.count first numbers → SameOn numbers old.pages new.pages
+chain-whole size old new first numbers keeps linked n some =
+    let in_range = times-all (IsInRange size old.count) n numbers (linked-in_range old.pages size old.count first numbers linked) some in
+    SamePage-whole n (old.pages n) (new.pages n) in_range.behind_first (keeps.same n some)
 
 module _ (sizes : Sizes) (old new : Paged) where
   -- a chain is as it was where its pages are
   pub chain-kept : (first bytes : ℕ) (numbers : List ℕ) → Keeps numbers old new
       → IsChain old.pages sizes.size sizes.usable old.count first bytes numbers → IsChain new.pages sizes.size sizes.usable new.count first bytes numbers
   chain-kept first bytes numbers keeps chain =
-      let same = chain-whole sizes.size old new first numbers keeps chain.linked in
-      record {
-        linked = linked-kept sizes.size old new first numbers keeps.grows same chain.linked;
-        ends = named-kept sizes.size old new first numbers same ∙ chain.ends;
-        many = chain.many;
-      }
+      let same = IsChain-same old.pages new.pages sizes.size sizes.usable old.count first bytes numbers (chain-whole sizes.size old new first numbers keeps chain.linked) chain in
+      record { linked = linked-wider new.pages sizes.size old.count new.count first numbers keeps.grows same.linked; ends = same.ends; many = same.many }
 
   -- a cell is held where its chain is as it was
   pub held-kept : (page_kind : PageKind) (cell : TreeCell) → Keeps cell.chain old new → IsHeld sizes old page_kind cell → IsHeld sizes new page_kind cell
   held-kept page_kind cell keeps held =
       let rest = cell.view.payload - cell.view.local in
-      let first = cell.view.overflow in
-      let same = chain-whole sizes.size old new first cell.chain keeps held.is_chain.linked in
+      let same = chain-whole sizes.size old new cell.view.overflow cell.chain keeps held.is_chain.linked in
       record {
         is_cell = held.is_cell;
-        is_chain = chain-kept first rest cell.chain keeps held.is_chain;
-        whole = held.whole ∙ ap (λ (bytes : List ℕ). part_of cell.bytes cell.view.local_at cell.view.local ++ take rest bytes) (sym (content-kept sizes.size old new sizes.usable cell.chain same));
+        is_chain = chain-kept cell.view.overflow rest cell.chain keeps held.is_chain;
+        whole = held.whole ∙ ap (λ (bytes : List ℕ). part_of cell.bytes cell.view.local_at cell.view.local ++ bytes) (sym (chain_bytes-same old.pages new.pages sizes.usable cell.chain rest same));
       }
 
   cells-kept : (page_kind : PageKind) (cells : List TreeCell) → Keeps (chain_pages cells) old new → AllByRecursion (IsHeld sizes old page_kind) cells → AllByRecursion (IsHeld sizes new page_kind) cells
@@ -125,7 +105,7 @@ module _ (sizes : Sizes) (old new : Paged) where
   behind-kept page_kind cell child keeps behind = record {
     held = held-kept page_kind cell keeps behind.held;
     names = behind.names;
-    in_range = number-grows sizes.size old.count new.count child keeps.grows behind.in_range;
+    in_range = IsInRange-wider sizes.size old.count new.count child keeps.grows behind.in_range;
   }
 
   module _ (kind : TreeKind) where
@@ -164,7 +144,7 @@ module _ (sizes : Sizes) (old new : Paged) where
 
     pub last-kept : (levels : ℕ) → ((tree : TreeOf levels) → Keeps (pages_of levels tree) old new → Stands sizes old kind levels tree → Stands sizes new kind levels tree)
         → (last : TreeOf levels) → Keeps (pages_of levels last) old new → StandsLast sizes old kind levels last → StandsLast sizes new kind levels last
-    last-kept levels below last keeps stands = (number-grows sizes.size old.count new.count (page_of levels last) keeps.grows stands.0, below last keeps stands.1)
+    last-kept levels below last keeps stands = (IsInRange-wider sizes.size old.count new.count (page_of levels last) keeps.grows stands.0, below last keeps stands.1)
 
     -- all of a tree but its own page
     pub HasBelow-kept : (levels : ℕ) (tree : TreeOf levels) → Keeps (pages_below levels tree) old new → HasBelow sizes old kind levels tree → HasBelow sizes new kind levels tree

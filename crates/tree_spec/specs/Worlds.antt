@@ -1,11 +1,9 @@
 -- All pages of a database: its trees and its free pages, each page once (Database File Format, sections 1.4 to 1.6).
-use Rattle.std.specs.Prelude.{◌≡◌, ℕ, ◌+◌, ◌-◌, ◌^◌, ◌<◌, ◌≤◌, ◌==◌, ◌&&◌, not, nat_le, if◌then◌else◌, List, ◌∷◌, ◌++◌, length, map, AllPairs}
+use Rattle.std.specs.Prelude.{◌≡◌, ℕ, ◌^◌, ◌<◌, ◌≤◌, List, ◌∷◌, ◌++◌, map, AllPairs}
 use Rattle.std.specs.List.{flat_map, AllByRecursion}
-use Rattle.page_spec.specs.Pages.{lock_byte_page}
 use Rattle.page_spec.specs.Freelists.{Trunk, IsFreelist, free_pages}
-use Rattle.tree_spec.specs.Counts.{times}
-unfoldable pub use Rattle.page_spec.specs.FreePages.{due, due_pages}
-use Rattle.page_spec.specs.FreePages.{slack as slack_of}
+use Rattle.page_spec.specs.Counts.{times}
+use Rattle.page_spec.specs.FreePages.{due, slack as slack_of}
 use Rattle.tree_spec.specs.Trees.{Rooted, root_of, pages_in}
 use Rattle.tree_spec.specs.Standing.{Sizes, Paged, IsRoot}
 

@@ -1,18 +1,17 @@
 -- Which pages are due, and how deep the trees of a world are: crates above cite these facts in their proofs.
-use Rattle.std.proofs.Common.{◌≡◌, ℕ, zero, suc, ◌+◌, ◌-◌, ◌^◌, ◌<◌, ◌≤◌, ◌≢◌, List, [], ◌∷◌, ◌++◌, length, refl, sym, ap, ◌∙◌, inl, inr, arith}
+use Rattle.std.proofs.Common.{◌≡◌, ℕ, zero, suc, ◌+◌, ◌-◌, ◌^◌, ◌<◌, ◌≤◌, List, [], ◌∷◌, ◌++◌, length, refl, ap, inl, inr, arith}
 use Rattle.std.specs.List.{flat_map, AllByRecursion}
 use Rattle.std.proofs.lemmas.Bool.{cases_lt}
-use Rattle.std.proofs.lemmas.Bool.Decides.{nat_tests}
 use Rattle.std.proofs.lemmas.List.Concat.{flat_map-append}
-use Rattle.page_spec.specs.Pages.{IsInRange, lock_byte_page}
 use Rattle.page_spec.specs.Freelists.{Trunk, free_pages}
-pub use Rattle.page_spec.specs.FreePagesLaws.{due-most, due-grows, due-past, due-number, due-first, due-within, due-other, due-counted, due_pages-grows, due_pages-most}
-use Rattle.tree_spec.specs.Counts.{times}
-use Rattle.tree_spec.specs.CountsLaws.{times-append, hit-itself, up_to, up_to-le, times-counted}
+use Rattle.page_spec.specs.FreePages.{due}
+use Rattle.page_spec.specs.FreePagesLaws.{due-past, due-first, due-within, due-other, due-counted, due_pages-most}
+use Rattle.page_spec.specs.Counts.{times}
+use Rattle.page_spec.specs.CountsLaws.{times-append, hit-itself, up_to-le, times-counted}
 use Rattle.tree_spec.specs.Trees.{TreeOf, Rooted, page_of, pages_of, root_of, pages_in, list_in, depth_of, greatest_depth}
 use Rattle.tree_spec.specs.TreesLaws.{IsFullRoot-pages}
 use Rattle.tree_spec.specs.Standing.{Sizes, Paged, IsRootNumber, IsRoot, IsTree}
-use Rattle.tree_spec.specs.Worlds.{all_pages, with_tree, due, due_pages, greatest_count, IsWorld}
+use Rattle.tree_spec.specs.Worlds.{all_pages, with_tree, greatest_count, IsWorld}
 
 power-grows : (m k : ℕ) → 2 ^ m ≤ 2 ^ (m + k)
 power-grows m zero = let none : m + 0 ≡ m = omega arith in omega (arith, ap (λ (n : ℕ). 2 ^ n) none)

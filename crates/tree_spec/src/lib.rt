@@ -6,8 +6,9 @@
 //! - `Bounds`: the order of a table tree's rowids;
 //! - `Standing`: which bytes of which pages are a tree, and `IsTree`, that a tree with this list and these pages stands at a root;
 //! - `Worlds`: all pages of a database, each once, and how many can still be taken (sections 1.4 to 1.6);
-//! - `Changes`: a change of some pages and of the freelist, which leaves all other pages;
-//! - `Counts`: how often a number stands in a list.
+//! - `Changes`: a change of some pages and of the freelist, which leaves all other pages.
+//!
+//! `LittleWorld` is a database that SQLite wrote. The modules that end in `Laws` say what follows; the functions without parameters promise the main laws, and that the definitions hold of that database.
 #![tactic(auto)]
 
 /// The two kinds of tree (Database File Format, section 1.6).

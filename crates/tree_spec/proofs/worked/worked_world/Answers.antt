@@ -19,12 +19,14 @@ use Rattle.format_spec.specs.Page.{IsPage, IsCellAt, RightChild, header_place, k
 use Rattle.page_spec.specs.Pages.{IsInRange}
 use Rattle.page_spec.specs.Chains.{IsChain}
 use Rattle.tree_spec.specs.declared.TreeKind.TheVariants.{Table}
-use Rattle.tree_spec.specs.Counts.{hit, times}
+use Rattle.page_spec.specs.Counts.{hit, times}
 use Rattle.tree_spec.specs.Trees.{Leaf, IsFull}
 use Rattle.tree_spec.specs.Bounds.{BesideIn, InOrder, below_rowids, greatest_rowid}
 use Rattle.tree_spec.specs.Standing.{IsHeld, IsBehind, IsRoot, Stands, StandsBefore}
-use Rattle.tree_spec.specs.Worlds.{due, due_pages, IsFree, IsWorld}
-use Rattle.tree_spec.specs.WorldsLaws.{due-past, world-tree}
+use Rattle.tree_spec.specs.Worlds.{IsFree, IsWorld}
+use Rattle.page_spec.specs.FreePages.{due, due_pages}
+use Rattle.page_spec.specs.FreePagesLaws.{due-past}
+use Rattle.tree_spec.specs.WorldsLaws.{world-tree}
 use Rattle.tree_spec.specs.LittleWorld.{little_sizes, little_rowid, little_key, little_schema, little_schema_cell, little_record, little_cell, little_long_cell, little_behind, little_first_page, little_root_page, little_interior, little_remains, little_leaf, little_last_leaf, little_page, little_base, little_schema_tree, little_child, little_children, little_left, little_right, little_table_tree, little_trunks, little_world, little_numbers}
 use Rattle.tree_spec.proofs.worked.worked_world.Goals as goal
 

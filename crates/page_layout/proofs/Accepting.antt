@@ -17,7 +17,8 @@ use Rattle.refusal.specs.declared.Rule.TheVariants as rule
 use Rattle.page_layout.specs.declared.reading.PageFault.{PageFault}
 use Rattle.page_layout.specs.declared.reading.PageFault.TheVariants.{BadPage, Memory}
 use Rattle.page_layout.specs.Views.{HasViews, HasKind, IsRefused, HasPageFault, IsViewAt, AreViews}
-use Rattle.page_layout.proofs.Viewing.{view-size, kind_byte-same, view_of, cell_of, same_views}
+use Rattle.page_layout.specs.ViewsLaws.{view-size, kind_byte-same}
+use Rattle.page_layout.proofs.Viewing.{view_of, cell_of, same_views}
 use Rattle.page_layout.proofs.Marking.{push_all}
 
 -- the cells that views are of

@@ -10,7 +10,7 @@ use Rattle.page_layout.specs.declared.rebuilding.NoRoom.{NoRoom}
 use Rattle.page_layout.specs.NoRoom.{Fits}
 use Rattle.page_layout.specs.Views.{HasKind}
 use Rattle.page_layout.proofs.Packing.{as_known, as_laid}
-use Rattle.page_layout.proofs.Viewing.{kind_byte-same}
+use Rattle.page_layout.specs.ViewsLaws.{kind_byte-same}
 use Rattle.page_layout.specs.declared.pack.Measured.{Measured}
 use Rattle.page_layout.specs.declared.put.Layout.{Layout}
 use Rattle.page_layout.specs.Accepted.{IsAccepted, OfCells}

@@ -2,6 +2,7 @@ pub mod Putting
 pub mod Inserting
 pub mod Clearing
 pub mod Viewing
+pub mod Bitwise
 pub mod Marking
 pub mod Accepting
 pub mod Spans

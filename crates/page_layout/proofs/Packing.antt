@@ -4,17 +4,19 @@ use Rattle.std.proofs.Math.Path.{subst⁻¹}
 use Rattle.std.specs.List.{insert}
 use Rattle.std.proofs.lemmas.Bool.{cases_lt}
 use Rattle.std.proofs.lemmas.Bool.Decides.{nat_tests}
-use Rattle.std.proofs.lemmas.List.{take_more, get_or_default}
+use Rattle.std.proofs.lemmas.List.{take_more, take_all, get_or_default}
 use Rattle.std.proofs.lemmas.List.Edits.{insert_end}
 use Rattle.std.proofs.lemmas.List.Sums.{sum_by_push, sum_by-take-le}
 use Rattle.format_spec.specs.declared.PageKind.{PageKind}
 use Rattle.format_spec.specs.declared.PageKind.TheVariants.{IndexInterior, TableInterior, IndexLeaf, TableLeaf}
-use Rattle.format_spec.specs.Page.{IsPage, RightChild, cell_place, cell_room}
+use Rattle.format_spec.specs.Page.{IsPage, RightChild, cell_count, cell_place, cell_room}
 use Rattle.format_spec.specs.Sizes.{IsUsable}
 use Rattle.page_spec.specs.Rooms.{array_end, rooms, HasNoHole, KeepsRest, right_kept}
 use Rattle.page_spec.specs.RoomsLaws.{rooms-fit}
 use Rattle.page_layout.specs.declared.put.Layout.{Layout}
 use Rattle.page_layout.specs.Measuring.{IsMeasured}
+use Rattle.page_layout.specs.Views.{HasKind}
+use Rattle.page_layout.specs.ViewsLaws.{kind_byte-same}
 use Rattle.page_layout.specs.Written.{IsLaid}
 
 -- the cells up to one more
@@ -63,6 +65,27 @@ lowest_more place usable i lowest found next at is was = record {
     | inr not_less ↦ inr (i, omega arith, omega (arith, is, at))
   ];
 }
+
+-- all cells of a page were read, by the kind that was found
+pub record AreRead (page : List ℕ) (number usable : ℕ) (found kind : PageKind) (cells : List (List ℕ)) (right i lowest : ℕ) : Type 0 where
+  pub same : found ≡ kind
+  pub there : IsPage page number usable found cells right
+  pub all : i ≡ length cells
+  pub front : take i cells ≡ cells
+  pub low : IsLowest (cell_place page number kind) usable (length cells) lowest
+
+pub all_read : (page : List ℕ) (number usable : ℕ) (found kind : PageKind) (cells : List (List ℕ)) (right i lowest count : ℕ) → IsPage page number usable kind cells right → HasKind page number found
+    → count ≡ cell_count page number → count ≤ i → i ≤ count → IsLowest (cell_place page number found) usable i lowest → AreRead page number usable found kind cells right i lowest
+all_read page number usable found kind cells right i lowest count is has counts most least low =
+    let same : found ≡ kind = kind_byte-same found kind (sym has ∙ is.kind_is) in
+    let all : i ≡ length cells = omega (arith, counts, is.count) in
+    record {
+      same = same;
+      there = subst⁻¹ (λ (k : PageKind). IsPage page number usable k cells right) same is;
+      all = all;
+      front = take_all i cells (omega arith);
+      low = subst (λ (n : ℕ). IsLowest (cell_place page number kind) usable n lowest) all (subst (λ (k : PageKind). IsLowest (cell_place page number k) usable i lowest) same low);
+    }
 
 -- what is known once each cell was measured
 module _ (page : List ℕ) (number usable : ℕ) (kind : PageKind) (cells : List (List ℕ)) (layout : Layout) (lowest : ℕ) (number_is : layout.number ≡ number) (usable_is : layout.usable ≡ usable) (kind_is : layout.kind ≡ kind)

@@ -11,7 +11,8 @@ use Rattle.page_spec.specs.Rooms.{array_end}
 use Rattle.page_spec.specs.RoomsLaws.{array-fits}
 use Rattle.page_layout.specs.Accepted.{IsAccepted}
 use Rattle.page_layout.specs.Views.{HasKind}
-use Rattle.page_layout.proofs.Viewing.{view-size, kind_byte-same, view_of, begins}
+use Rattle.page_layout.specs.ViewsLaws.{view-size, kind_byte-same}
+use Rattle.page_layout.proofs.Viewing.{view_of, begins}
 
 -- the cells of an accepted page of a kind
 pub of_kind : (page : List ℕ) (number usable : ℕ) (kind : PageKind) → IsAccepted page number usable → HasKind page number kind

@@ -3,9 +3,8 @@ ghost use Rattle.std.specs.Prelude.{◌≡◌, ◌+◌, ◌*◌, ◌-◌, ◌<�
 ghost use Rattle.std.specs.List.{insert, remove};
 ghost use Rattle.format_spec.specs.declared.PageKind.{PageKind};
 ghost use Rattle.format_spec.specs.Page.{cell_count, cell_room};
-ghost use Rattle.format_spec.specs.Sizes.{IsUsable};
 ghost use Rattle.page_spec.specs.Rooms.{HasNoHole, IsOneCell, IsWritten, KeepsRest, array_end, free_bytes};
-ghost use Rattle.page_layout.specs.Accepted.{IsAccepted, OfCells};
+ghost use Rattle.page_layout.specs.Accepted.{IsChangeable, OfCells};
 ghost use Rattle.page_layout.specs.NoRoom.{Fits};
 ghost use Rattle.page_layout.specs.Views.{HasKind};
 ghost use Rattle.page_layout.specs.Written.{KeepsPlaces};
@@ -39,11 +38,8 @@ fn insert_over(
     at: u32,
     cell: &[u8],
 ) -> Result<(), NoRoom>
-    requires usable { IsUsable usable }
-    requires whole { usable ≤ length page.old }
-    requires long { length page.old ≤ 65536 }
+    requires page { IsChangeable page.old number usable }
     requires buffer { length buffer.old ≡ 65536 }
-    requires accepted { IsAccepted page.old number usable }
     requires at { at ≤ cell_count page.old number }
     requires cell { (kind : PageKind) × HasKind page.old number kind × IsOneCell kind usable cell.now }
     ensures room { OfCells page.old number usable (λ kind cells right. Fits (cell_room cell.now + 2) (free_bytes number usable kind cells) result) }
@@ -73,10 +69,7 @@ fn insert_packing(
     at: u32,
     cell: &[u8],
 ) -> Result<(), NoRoom>
-    requires usable { IsUsable usable }
-    requires whole { usable ≤ length page.old }
-    requires long { length page.old ≤ 65536 }
-    requires accepted { IsAccepted page.old number usable }
+    requires page { IsChangeable page.old number usable }
     requires at { at ≤ cell_count page.old number }
     requires cell { (kind : PageKind) × HasKind page.old number kind × IsOneCell kind usable cell.now }
     ensures room { OfCells page.old number usable (λ kind cells right. Fits (cell_room cell.now + 2) (free_bytes number usable kind cells) result) }
@@ -87,7 +80,7 @@ fn insert_packing(
     insert_over(page, &mut buffer, number, usable, at, cell)
 }
 
-/// Puts a cell into an accepted page of at most 65536 bytes, at an index of its array, in place (Database File Format, section 1.6). Where the page has no hole between its cells no other cell moves, else the page is packed once. `NoRoom` where the cell and its place need more than the free bytes, and then the page stays as it was. The cells are decoded once, but for a page whose header does not tell of the holes that it has.
+/// Puts a cell into a page that `cells` accepts, at an index of its array, in place (Database File Format, section 1.6). Where the page has no hole between its cells no other cell moves, else the page is packed once. `NoRoom` where the cell and its place need more than the free bytes, and then the page stays as it was. The cells are decoded once, but for a page whose header does not tell of the holes that it has.
 pub fn insert_cell(
     page: &mut [u8],
     number: u32,
@@ -95,10 +88,7 @@ pub fn insert_cell(
     at: u32,
     cell: &[u8],
 ) -> Result<(), NoRoom>
-    requires usable { IsUsable usable }
-    requires whole { usable ≤ length page.old }
-    requires long { length page.old ≤ 65536 }
-    requires accepted { IsAccepted page.old number usable }
+    requires page { IsChangeable page.old number usable }
     requires at { at ≤ cell_count page.old number }
     requires cell { (kind : PageKind) × HasKind page.old number kind × IsOneCell kind usable cell.now }
     ensures room { OfCells page.old number usable (λ kind cells right. Fits (cell_room cell.now + 2) (free_bytes number usable kind cells) result) }
@@ -124,11 +114,8 @@ pub fn insert_cell(
 
 // The same as `remove_cell`, over a buffer of 65536 bytes, where the page may have holes.
 fn remove_over(page: &mut [u8], buffer: &mut [u8], number: u32, usable: u32, at: u32)
-    requires usable { IsUsable usable }
-    requires whole { usable ≤ length page.old }
-    requires long { length page.old ≤ 65536 }
+    requires page { IsChangeable page.old number usable }
     requires buffer { length buffer.old ≡ 65536 }
-    requires accepted { IsAccepted page.old number usable }
     requires at { at < cell_count page.old number }
     ensures written { OfCells page.old number usable (λ kind cells right. IsWritten page.new number usable kind (remove cells at) right) }
     ensures rest { KeepsRest number usable page.old page.new }
@@ -141,10 +128,7 @@ fn remove_over(page: &mut [u8], buffer: &mut [u8], number: u32, usable: u32, at:
 
 // The same as `remove_cell`, where the page may have holes.
 fn remove_packing(page: &mut [u8], number: u32, usable: u32, at: u32)
-    requires usable { IsUsable usable }
-    requires whole { usable ≤ length page.old }
-    requires long { length page.old ≤ 65536 }
-    requires accepted { IsAccepted page.old number usable }
+    requires page { IsChangeable page.old number usable }
     requires at { at < cell_count page.old number }
     ensures written { OfCells page.old number usable (λ kind cells right. IsWritten page.new number usable kind (remove cells at) right) }
     ensures rest { KeepsRest number usable page.old page.new }
@@ -153,12 +137,9 @@ fn remove_packing(page: &mut [u8], number: u32, usable: u32, at: u32)
     remove_over(page, &mut buffer, number, usable, at);
 }
 
-/// Takes the cell at an index of the array out of an accepted page of at most 65536 bytes, in place (Database File Format, section 1.6). No hole is left, also none that stood there before. The cells are decoded once, and the one that goes once more.
+/// Takes the cell at an index of the array out of a page that `cells` accepts, in place (Database File Format, section 1.6). No hole is left, also none that stood there before. The cells are decoded once, and the one that goes once more.
 pub fn remove_cell(page: &mut [u8], number: u32, usable: u32, at: u32)
-    requires usable { IsUsable usable }
-    requires whole { usable ≤ length page.old }
-    requires long { length page.old ≤ 65536 }
-    requires accepted { IsAccepted page.old number usable }
+    requires page { IsChangeable page.old number usable }
     requires at { at < cell_count page.old number }
     ensures written { OfCells page.old number usable (λ kind cells right. IsWritten page.new number usable kind (remove cells at) right) }
     ensures rest { KeepsRest number usable page.old page.new }

@@ -4,6 +4,7 @@
 #![tactic(auto)]
 
 mod change;
+mod marks;
 mod pack;
 mod places;
 mod put;

@@ -1,5 +1,5 @@
 // Reads the cells of a page.
-ghost use Rattle.std.specs.Prelude.{◌≡◌, ◌+◌, ◌*◌, ◌<◌, ◌≤◌, ◌⊎◌, ℕ, List, Bool, true, false, IfOk, IfSome, IfNone, IsTrue, length, slice_index_or};
+ghost use Rattle.std.specs.Prelude.{◌≡◌, ◌+◌, ◌*◌, ◌<◌, ◌≤◌, ℕ, List, IfOk, IfSome, IfNone, length};
 ghost use Rattle.common_spec.specs.Reading.{ReadsOrWants, OrFault};
 ghost use Rattle.format_spec.specs.declared.CellView.{CellView};
 ghost use Rattle.format_spec.specs.declared.PageKind.{PageKind};
@@ -9,6 +9,7 @@ ghost use Rattle.page_spec.specs.Rooms.{array_end};
 ghost use Rattle.page_layout.specs.declared.reading.PageFault.TheVariants.{Memory};
 ghost use Rattle.page_layout.specs.Views.{HasViews, HasKind, HasPageFault, IsMemory, IsViewAt, AreViews};
 
+use crate::marks::{mark, no_marks};
 use crate::places::{count_of, place_of};
 use crate::put::{header_length, header_place, room};
 use cell_codec::{CellView, PageKind, read_cell};
@@ -83,30 +84,6 @@ fn read_view(
         return None;
     }
     Some(PlacedView { place, view })
-}
-
-// So many marks, none of them set.
-fn no_marks(alloc: Global, size: usize) -> Result<Vec<bool>, AllocError>
-    ensures long { IfOk result (λ marks. length marks.items ≡ size) }
-    ensures unset { IfOk result (λ marks. (b : ℕ) → slice_index_or marks.items b false ≡ false) }
-{
-    vec![in alloc; false; size]
-}
-
-// Sets the marks of so many bytes from a place on, unless one of them is set already.
-fn mark(marks: &mut [bool], place: usize, size: usize) -> bool
-    requires { place + size ≤ length marks.old }
-    ensures free { IsTrue result → (b : ℕ) → place ≤ b → b < place + size → slice_index_or marks.old b false ≡ false }
-    ensures taken { result ≡ false → (b : ℕ) × (place ≤ b) × (b < place + size) × (slice_index_or marks.old b false ≡ true) }
-    ensures set { IsTrue result → (b : ℕ) → place ≤ b → b < place + size → slice_index_or marks.new b false ≡ true }
-    ensures kept { IsTrue result → (b : ℕ) → (b < place) ⊎ (place + size ≤ b) → slice_index_or marks.new b false ≡ slice_index_or marks.old b false }
-{
-    let bytes = &mut marks[place..place + size];
-    if bytes.contains(&true) {
-        return false;
-    }
-    bytes.fill(true);
-    true
 }
 
 // The views of the cells of a page that counts so many. `None` where one does not decode, leaves its bounds, or overlaps another.

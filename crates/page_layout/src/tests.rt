@@ -367,31 +367,22 @@ fn turn(alloc: Global, page: &mut [u8], sample: &Sample, list: &mut Vec<Bytes>) 
     requires whole { sample.now.usable ≤ length page.old }
     requires long { length page.old ≤ 65536 }
 {
-    let [size, ..] = sample.sizes else {
+    let Sample {
+        number,
+        usable,
+        cells,
+        sizes,
+        ..
+    } = *sample;
+    let [size, ..] = sizes else {
         return Err(Fail::new("no cell"));
     };
-    let (first, _) = sample
-        .cells
-        .split_at(sample.cells.len().min(usize::from(*size)));
-    let end = sample.sizes.len().saturating_sub(1);
-    apply(
-        alloc,
-        page,
-        sample.number,
-        sample.usable,
-        list,
-        Change::Remove(0),
-    )?;
-    let put = Change::Insert(end.min(100) as u32, first);
-    apply(alloc, page, sample.number, sample.usable, list, put)?;
-    apply(
-        alloc,
-        page,
-        sample.number,
-        sample.usable,
-        list,
-        Change::Remove(0),
-    )
+    let (first, _) = cells.split_at(cells.len().min(usize::from(*size)));
+    let end = sizes.len().saturating_sub(1).min(100);
+    apply(alloc, page, number, usable, list, Change::Remove(0))?;
+    let put = Change::Insert(end as u32, first);
+    apply(alloc, page, number, usable, list, put)?;
+    apply(alloc, page, number, usable, list, Change::Remove(0))
 }
 
 // Makes a header deny all holes, and lie about the start of the cells.

@@ -6,10 +6,10 @@ use Rattle.std.proofs.lemmas.List.Sums.{sum_by-cons}
 use Rattle.std.proofs.lemmas.Bool.{cases_lt}
 use Rattle.rbu_value.specs.declared.value.Value.{Value}
 use Rattle.format_spec.specs.Varint.{IsVarint}
-use Rattle.format_spec.specs.Record.{IsField, AreFields, IsRecord}
+use Rattle.format_spec.specs.Record.{IsField, AreFields}
 use Rattle.record_codec.specs.declared.read.RecordFault.{RecordFault}
 use Rattle.record_codec.specs.declared.read.RecordFault.TheVariants.{BodyLength}
-use Rattle.record_codec.specs.Faults.{IsMemory, IsReserved, IsValueType, body_size, BeginsWith, After, StopsWith, FieldsHaveFault, HasHeader, HasNoHeader, HasFault}
+use Rattle.record_codec.specs.Faults.{IsReserved, IsValueType, body_size, BeginsWith, After, StopsWith, FieldsHaveFault, HasHeader, HasNoHeader}
 use Rattle.record_codec.specs.RecordLaws.{field-size}
 use Rattle.common_spec.specs.Reading.{Reads, OrNone}
 use Rattle.cell_codec.specs.Varints.{BeginsWithVarint}

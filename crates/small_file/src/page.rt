@@ -1,19 +1,16 @@
 // Reads the table leaf pages of small files: 4096 bytes with no reserved ones (Database File Format, section 1.6).
 ghost use Rattle.std.specs.Prelude.{◌≡◌, ℕ, ◌+◌, ◌*◌, ◌≤◌, ◌↔◌, List, IfOk, IfSome, IfNone, IsTrue, length};
 ghost use Rattle.format_spec.specs.declared.PageKind.TheVariants.{TableLeaf};
-ghost use Rattle.format_spec.specs.Page.{IsPage, array_place, cell_place};
+ghost use Rattle.format_spec.specs.Page.{IsPage, array_place};
 ghost use Rattle.page_layout.specs.Views.{HasKind};
 ghost use Rattle.small_file.specs.Pages.{HoldsCells, placed};
 
-use byte_fields::u16_at;
 use cell_codec::{CellView, PageKind};
-use page_layout::{PageFault, cells, page_kind};
+use page_layout::{PageFault, cells, page_kind, place_of};
 use std::alloc::{AllocError, Global};
 
 /// The bytes of a page.
 pub const PAGE_SIZE: usize = 4096;
-
-const HEADER_LENGTH: usize = 8;
 
 /// Where a cell stands in its page, and what it holds.
 #[derive(Clone, Copy)]
@@ -29,15 +26,6 @@ fn is_table_leaf(page: &[u8], number: u32) -> bool
     matches!(page_kind(page, number), Some(PageKind::TableLeaf))
 }
 
-// Where the cell at an index of a table leaf's array begins.
-fn place_of(page: &[u8], number: u32, index: usize) -> usize
-    requires { array_place number TableLeaf + 2 * (index + 1) ≤ length page.now }
-    ensures { result ≡ cell_place page.now number TableLeaf index }
-{
-    let header = if number == 1 { 100 } else { 0 };
-    usize::from(u16_at(page, header + HEADER_LENGTH + 2 * index))
-}
-
 // The cells of a table leaf with these views.
 fn with_places(
     alloc: Global,
@@ -45,12 +33,13 @@ fn with_places(
     number: u32,
     views: &[CellView],
 ) -> Result<Vec<PlacedCell>, AllocError>
-    requires { array_place number TableLeaf + 2 * length views.now ≤ length page.now }
+    requires long { length page.now ≡ 4096 }
+    requires array { array_place number TableLeaf + 2 * length views.now ≤ 4096 }
     ensures { IfOk result (λ cells. cells.items ≡ placed page.now number views.now) }
 {
     let mut cells = Vec::new(alloc);
     for (index, view) in views.iter().enumerate() {
-        let place = place_of(page, number, index);
+        let place = place_of(page, number, PageKind::TableLeaf, index as u32);
         cells.push(PlacedCell { place, view: *view })?;
     }
     Ok(cells)

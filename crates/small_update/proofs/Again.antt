@@ -4,7 +4,6 @@ use Rattle.std.proofs.lemmas.List.{length-append, length-map, length-take, lengt
 use Rattle.std.proofs.lemmas.List.Elements.{All-append, All-map}
 use Rattle.std.proofs.lemmas.List.Sorted.{All-permutation}
 use Rattle.std.specs.List.{All, AllZip}
-use Rattle.std.proofs.lemmas.Bool.Decides.{nat_tests}
 use Rattle.rbu_value.specs.declared.value.Value.{Value}
 use Rattle.rbu_value.specs.declared.value.Value.TheVariants.{Null, Int}
 use Rattle.format_spec.specs.declared.PageKind.TheVariants.{TableLeaf}

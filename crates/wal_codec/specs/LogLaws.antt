@@ -1,6 +1,6 @@
 -- Laws about the definitions of the write-ahead log.
 use Rattle.std.proofs.Common.{◌≡◌, ℕ, ◌%◌, ◌<◌, ◌≤◌, Bool, List, [], ◌∷◌, ◌++◌, length, unwrap_or, zero, suc, refl, sym, ap, ◌∙◌, arith}
-use Rattle.std.proofs.lemmas.List.{append-nil, length-append}
+use Rattle.std.proofs.lemmas.List.{append-nil}
 use Rattle.byte_fields.specs.NumbersLaws.{page_at-whole}
 use Rattle.byte_fields.specs.Numbers.{page_at}
 use Rattle.format_spec.specs.Log.{checksum, word, sums_after, last_frame_of, IsOverlay}

@@ -9,10 +9,13 @@
 //! both pages of a file of two pages overlays any other file by it.
 #![tactic(auto)]
 
+mod frames;
 mod headers;
 mod laws;
+mod log;
 mod sums;
 
 pub use headers::{frame_bytes, header_bytes};
 pub use laws::{checksum_goes_on, written_log_is_a_log};
+pub use log::{Log, LogFault, read_log};
 pub use sums::checksum;

@@ -11,7 +11,7 @@ use Rattle.page_layout.proofs.change.remove_over.Goals as goal
 pub take_cell-requires-clause-packed : goal.take_cell-requires-clause-packed
 take_cell-requires-clause-packed c =
     let m = c.pack_into-measured in
-    let of = c.requires.accepted in
+    let of = c.requires.page.accepted in
     (of.cells, of.right, subst⁻¹ (λ (bytes : List ℕ). IsPacked bytes m.result.layout of.cells of.right) c.copy_from_slice.ensures.after (packed-laid (m.ensures.laid of.kind of.cells of.right of.is_page)))
 
 pub returns-clause-written : goal.returns-clause-written

@@ -1,12 +1,8 @@
-use Rattle.std.proofs.Common.{◌≡◌, ◌<◌, ℕ, length, take, refl, sym, ap, ◌∙◌, subst, arith}
-use Rattle.std.proofs.Math.Path.{subst⁻¹}
-use Rattle.std.proofs.lemmas.List.{take_all}
-use Rattle.format_spec.specs.declared.PageKind.{PageKind}
-use Rattle.format_spec.specs.Page.{IsPage, cell_place}
+use Rattle.std.proofs.Common.{◌<◌, length, refl, ap, ◌∙◌, arith}
+use Rattle.format_spec.specs.Page.{cell_place}
 use Rattle.page_spec.specs.Rooms.{rooms}
-use Rattle.page_layout.proofs.Packing.{IsLowest, lowest_none, lowest_more, measured, measured_more}
+use Rattle.page_layout.proofs.Packing.{all_read, lowest_none, lowest_more, measured, measured_more}
 use Rattle.page_layout.proofs.Spans.{of_kind}
-use Rattle.page_layout.proofs.Viewing.{kind_byte-same}
 use Rattle.page_layout.proofs.pack.measure.Goals as goal
 
 pub overflow_sub-bottom : goal.overflow_sub-bottom
@@ -38,15 +34,9 @@ loop-index-preserved c =
 pub returns : goal.returns
 returns c kind cells right is =
     let a = c.args in
-    let page = a.page.now in
     let inv = c.loop-index.invariant in
-    let i = c.loop-index.index in
     let found = c.kind_of-kind.result in
-    let same : found ≡ kind = kind_byte-same found kind (sym c.kind_of-kind.ensures ∙ is.kind_is) in
-    let there : IsPage page a.number a.usable found cells right = subst⁻¹ (λ (k : PageKind). IsPage page a.number a.usable k cells right) same is in
-    let all : i ≡ length cells = omega (arith, c.loop-index-test.false, c.loop-index.auto.index-end, c.count_of-count.ensures.value, is.count) in
-    let whole : take i cells ≡ cells = take_all i cells (omega arith) in
-    let low = subst (λ (n : ℕ). IsLowest (cell_place page a.number kind) a.usable n c.loop-index.lowest) all
-    (subst (λ (k : PageKind). IsLowest (cell_place page a.number k) a.usable i c.loop-index.lowest) same inv.lowest_is) in
-    measured page a.number a.usable kind cells (record { number = a.number; usable = a.usable; kind = found; count = c.count_of-count.result; bottom = c.loop-index.bottom }) c.loop-index.lowest
-    refl refl same (c.count_of-count.ensures.value ∙ is.count) (omega (arith, inv.laid cells right there, ap rooms whole)) low
+    let count = c.count_of-count in
+    let read = all_read a.page.now a.number a.usable found kind cells right c.loop-index.index c.loop-index.lowest count.result is c.kind_of-kind.ensures count.ensures.value c.loop-index-test.false c.loop-index.auto.index-end inv.lowest_is in
+    measured a.page.now a.number a.usable kind cells (record { number = a.number; usable = a.usable; kind = found; count = count.result; bottom = c.loop-index.bottom }) c.loop-index.lowest
+    refl refl read.same (count.ensures.value ∙ is.count) (omega (arith, inv.laid cells right read.there, ap rooms read.front)) read.low

@@ -1,15 +1,14 @@
 use Rattle.std.proofs.Common.{◌≡◌, ◌+◌, ◌-◌, ◌<◌, ◌≤◌, ℕ, List, [], length, take, drop, get_or, sym, ap, ◌∙◌, subst, arith}
 use Rattle.std.proofs.Math.Path.{subst⁻¹}
-use Rattle.std.proofs.lemmas.List.{take_all, get_or_default, length-take-le}
+use Rattle.std.proofs.lemmas.List.{get_or_default, length-take-le}
 use Rattle.format_spec.specs.declared.PageKind.{PageKind}
-use Rattle.format_spec.specs.Page.{IsPage, cell_place, cell_room}
+use Rattle.format_spec.specs.Page.{cell_place, cell_room}
 use Rattle.page_spec.specs.Rooms.{array_end, rooms, IsOneCell, KeepsRest}
 use Rattle.page_layout.specs.declared.put.Layout.{Layout}
 use Rattle.page_layout.specs.Written.{IsLaid}
 use Rattle.page_layout.proofs.Inserting.{packed-laid}
-use Rattle.page_layout.proofs.Packing.{IsLowest, lowest_none, lowest_more, measured, measured_more, put_more, right-kept, as_known, as_laid, KeepsRest-then}
+use Rattle.page_layout.proofs.Packing.{all_read, lowest_none, lowest_more, measured, measured_more, put_more, right-kept, as_known, as_laid, KeepsRest-then}
 use Rattle.page_layout.proofs.Spans.{of_kind, span_is}
-use Rattle.page_layout.proofs.Viewing.{kind_byte-same}
 use Rattle.page_layout.proofs.pack.pack_into.Goals as goal
 
 pub loop-index-init : goal.loop-index-init
@@ -94,27 +93,17 @@ loop-index-preserved c =
 pub returns-clause-measured : goal.returns-clause-measured
 returns-clause-measured c kind cells right is =
     let a = c.args in
-    let page = a.page.now in
     let inv = c.loop-index.invariant in
-    let i = c.loop-index.index in
-    let found = c.kind_of-kind.result in
-    let same : found ≡ kind = kind_byte-same found kind (sym c.kind_of-kind.ensures ∙ is.kind_is) in
-    let there : IsPage page a.number a.usable found cells right = subst⁻¹ (λ (k : PageKind). IsPage page a.number a.usable k cells right) same is in
-    let all : i ≡ length cells = omega (arith, c.loop-index-test.false, c.loop-index.auto.index-end, c.count_of-count.ensures.value, is.count) in
-    let whole : take i cells ≡ cells = take_all i cells (omega arith) in
-    let low = subst (λ (n : ℕ). IsLowest (cell_place page a.number kind) a.usable n c.loop-index.lowest) all
-    (subst (λ (k : PageKind). IsLowest (cell_place page a.number k) a.usable i c.loop-index.lowest) same inv.lowest_is) in
-    measured page a.number a.usable kind cells c.loop-index.layout c.loop-index.lowest inv.number_is inv.usable_is (inv.kind_is ∙ same) (inv.count_is ∙ all)
-    (omega (arith, (inv.laid cells right there).bottom, ap rooms whole, inv.usable_is)) low
+    let layout = c.loop-index.layout in
+    let read = all_read a.page.now a.number a.usable c.kind_of-kind.result kind cells right c.loop-index.index c.loop-index.lowest c.count_of-count.result is c.kind_of-kind.ensures c.count_of-count.ensures.value
+    c.loop-index-test.false c.loop-index.auto.index-end inv.lowest_is in
+    measured a.page.now a.number a.usable kind cells layout c.loop-index.lowest inv.number_is inv.usable_is (inv.kind_is ∙ read.same) (inv.count_is ∙ read.all)
+    (omega (arith, (inv.laid cells right read.there).bottom, ap rooms read.front, inv.usable_is)) read.low
 
 pub returns-clause-laid : goal.returns-clause-laid
 returns-clause-laid c kind cells right is =
     let a = c.args in
-    let page = a.page.now in
     let inv = c.loop-index.invariant in
-    let i = c.loop-index.index in
-    let found = c.kind_of-kind.result in
-    let same : found ≡ kind = kind_byte-same found kind (sym c.kind_of-kind.ensures ∙ is.kind_is) in
-    let there : IsPage page a.number a.usable found cells right = subst⁻¹ (λ (k : PageKind). IsPage page a.number a.usable k cells right) same is in
-    let whole : take i cells ≡ cells = take_all i cells (omega (arith, c.loop-index-test.false, c.count_of-count.ensures.value, is.count)) in
-    subst (λ (all : List (List ℕ)). IsLaid c.loop-index.buffer c.loop-index.layout all right) whole (inv.laid cells right there)
+    let read = all_read a.page.now a.number a.usable c.kind_of-kind.result kind cells right c.loop-index.index c.loop-index.lowest c.count_of-count.result is c.kind_of-kind.ensures c.count_of-count.ensures.value
+    c.loop-index-test.false c.loop-index.auto.index-end inv.lowest_is in
+    subst (λ (all : List (List ℕ)). IsLaid c.loop-index.buffer c.loop-index.layout all right) read.front (inv.laid cells right read.there)

@@ -5,7 +5,7 @@ use Rattle.format_spec.specs.Page.{IsPage, cell_count}
 use Rattle.page_spec.specs.Rooms.{array_end}
 use Rattle.page_spec.specs.RoomsLaws.{array-fits}
 use Rattle.page_layout.specs.Views.{AreViews}
-use Rattle.page_layout.proofs.Viewing.{kind_byte-same}
+use Rattle.page_layout.specs.ViewsLaws.{kind_byte-same}
 use Rattle.page_layout.proofs.Accepting.{accepted, views_are, has_views, answer-one}
 use Rattle.page_layout.proofs.reading.cells.Goals as goal
 

@@ -32,7 +32,7 @@ loop-index-preserved c =
     let found = subst (λ (n : ℕ). IsViewAt a.page.now a.number a.usable a.kind a.count n cell.view) (sym inv.many) c.in-Some.ensures.found in
     record {
       many = ap length items ∙ length_push views cell.view ∙ ap (λ (n : ℕ). n + 1) inv.many;
-      long = c.mark.auto.marks ∙ inv.long;
+      long = omega (arith, c.mark.auto.marks, inv.long);
       first = subst⁻¹ (AreViews a.page.now a.number a.usable a.kind a.count) items
           (one_more_view a.page.now a.number a.kind views cell.view c.loop-index.marks inv.marked a.usable a.count inv.first found
           (λ b low high. c.mark.ensures.free c.if-not-mark.false b (omega (arith, low, place)) (omega (arith, high, c.room.ensures, place))));

@@ -1,5 +1,5 @@
 -- Children of an interior page by their places, and cells by theirs.
-use Rattle.std.specs.Prelude.{◌≡◌, ℕ, ℤ, zero, suc, ◌≤◌, ◌<ℤ◌, ◌≤ℤ◌, List, [], ◌∷◌, ◌++◌, length, map}
+use Rattle.std.specs.Prelude.{◌≡◌, ℕ, ℤ, zero, suc, ◌≤◌, ◌<ℤ◌, ◌≤ℤ◌, List, [], ◌∷◌, ◌++◌, length, map, AllPairs}
 use Rattle.std.specs.List.{AllByRecursion}
 use Rattle.format_spec.specs.declared.CellView.{CellView}
 use Rattle.tree_spec.specs.declared.TreeKind.{TreeKind}
@@ -44,6 +44,10 @@ abbrev pub Meets : ℤ → ℕ → List CellView → Type 0
 Meets rowid i [] = ⊥
 Meets rowid zero (view ∷ views) = view.rowid ≡ rowid
 Meets rowid (suc i) (view ∷ views) = Meets rowid i views
+
+-- the rowids of a list strictly rise
+abbrev pub Rises : List Member → Type 0
+Rises members = AllPairs (λ (a b : Member). a.rowid <ℤ b.rowid) members
 
 -- which members a put replaces: in a table the one of its rowid, in an index none
 abbrev pub IsReplaced : TreeKind → Member → Member → Type 0

@@ -220,3 +220,15 @@ put-within kind put front back xs ys is = record {
   same = is.same;
   few = is.few;
 }
+
+-- a member in front of both lists
+pub put-behind : (kind : TreeKind) (put first : Member) (xs ys : List Member) → PutIn kind put xs ys → PutIn kind put (first ∷ xs) (first ∷ ys)
+put-behind kind put first xs ys is = record {
+  front = first ∷ is.front;
+  replaced = is.replaced;
+  back = is.back;
+  old_is = ap (λ (l : List Member). first ∷ l) is.old_is;
+  new_is = ap (λ (l : List Member). first ∷ l) is.new_is;
+  same = is.same;
+  few = is.few;
+}

@@ -1,5 +1,5 @@
 -- A cell is put among the cells of a leaf: crates above cite these facts in their proofs.
-use Rattle.std.proofs.Common.{◌≡◌, ℕ, ℤ, zero, suc, ◌+◌, ◌-◌, ◌<◌, ◌≤◌, ◌<ℤ◌, ◌≤ℤ◌, List, [], ◌∷◌, length, map, set, slice_index_or, refl, ap, subst, arith}
+use Rattle.std.proofs.Common.{◌≡◌, ℕ, ℤ, zero, suc, ◌+◌, ◌-◌, ◌<◌, ◌≤◌, ◌<ℤ◌, ◌≤ℤ◌, List, [], ◌∷◌, length, map, set, slice_index_or, refl, subst, arith}
 use Rattle.std.proofs.Math.Path.{subst⁻¹}
 use Rattle.std.specs.List.{AllByRecursion, insert}
 use Rattle.std.proofs.lemmas.Int.{ints}
@@ -13,6 +13,7 @@ use Rattle.tree_spec.specs.Standing.{Sizes, IsHeld}
 use Rattle.tree_spec.specs.StandingLaws.{chain-none}
 use Rattle.tree_spec.specs.ChangesLaws.{Turns-same}
 use Rattle.put_spec.specs.Children.{PutIn, Belongs, Meets, views_of}
+use Rattle.put_spec.specs.ChildrenLaws.{put-behind}
 use Rattle.put_spec.specs.Puts.{InBounds, Before, hand_before, hand_after, leaf_after, IsReady, IsOpened}
 
 abbrev rowids : List TreeCell → List ℤ
@@ -45,15 +46,7 @@ module _ (P : TreeCell → Type 0) (kind : TreeKind) (put : TreeCell) where
       record {
         count = λ n. omega (arith, times-append n cell.chain (chain_pages cells), times-append n cell.chain (chain_pages (insert cells i put)), rest.count n);
         held = λ all one. (all.0, rest.held all.1 one);
-        list = record {
-          front = member cell ∷ rest.list.front;
-          replaced = rest.list.replaced;
-          back = rest.list.back;
-          old_is = ap (λ l. member cell ∷ l) rest.list.old_is;
-          new_is = ap (λ l. member cell ∷ l) rest.list.new_is;
-          same = rest.list.same;
-          few = rest.list.few;
-        };
+        list = put-behind kind (member put) (member cell) (map member cells) (map member (insert cells i put)) rest.list;
         some = omega arith;
       }
 
@@ -102,15 +95,7 @@ replaced P put (suc i) (cell ∷ cells) meets =
       count = λ n. omega (arith, times-append n cell.chain (chain_pages cells), times-append n cell.chain (chain_pages (set cells i put)), rest.count n);
       held = λ all one. let both = rest.held all.1 one in ((all.0, both.0), both.1);
       rises = λ low high rises. (rises.0, rest.rises cell.view.rowid high rises.1);
-      list = record {
-        front = member cell ∷ rest.list.front;
-        replaced = rest.list.replaced;
-        back = rest.list.back;
-        old_is = ap (λ l. member cell ∷ l) rest.list.old_is;
-        new_is = ap (λ l. member cell ∷ l) rest.list.new_is;
-        same = rest.list.same;
-        few = rest.list.few;
-      };
+      list = put-behind Table (member put) (member cell) (map member cells) (map member (set cells i put)) rest.list;
       some = omega arith;
     }
 

@@ -1,8 +1,9 @@
 pub mod Children
 pub mod Puts
-pub mod ChildrenLaws
-pub mod PutsLaws
-pub mod LeavesLaws
-pub mod WorldsLaws
 pub mod Steps
+pub mod ChildrenLaws
+pub mod LeavesLaws
+pub mod PutsLaws
 pub mod StepsLaws
+pub mod WorldsLaws
+pub mod MembersLaws

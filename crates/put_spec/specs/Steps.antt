@@ -6,14 +6,15 @@ use Rattle.format_spec.specs.declared.PageKind.{PageKind}
 use Rattle.format_spec.specs.declared.CellView.{CellView}
 use Rattle.format_spec.specs.Cell.{IsCell}
 use Rattle.format_spec.specs.Page.{IsPage}
+use Rattle.page_spec.specs.Chains.{IsChain}
 use Rattle.page_spec.specs.Freelists.{Trunk}
 use Rattle.tree_spec.specs.declared.TreeKind.{TreeKind}
 use Rattle.tree_spec.specs.declared.TreeKind.TheVariants.{Table, Index}
-use Rattle.tree_spec.specs.Trees.{TreeCell, TreeOf, Rooted, interior_kind, kind_at, page_of, cells_behind}
+use Rattle.tree_spec.specs.Trees.{member, list_in, root_of, TreeCell, TreeOf, Rooted, interior_kind, kind_at, page_of, cells_behind}
 use Rattle.tree_spec.specs.Standing.{Sizes, Paged, IsNumber}
-use Rattle.tree_spec.specs.Worlds.{IsFree}
-use Rattle.tree_spec.specs.Changes.{Turns, Writes}
-use Rattle.put_spec.specs.Children.{Belongs, Meets}
+use Rattle.tree_spec.specs.Worlds.{IsFree, IsWorld, with_tree}
+use Rattle.tree_spec.specs.Changes.{Within, Turns, Writes}
+use Rattle.put_spec.specs.Children.{Belongs, Meets, PutIn}
 use Rattle.put_spec.specs.Puts.{Before, IsReady, IsPut, IsRootPut}
 
 -- a cell as it is spelled in a page: its bytes and what they say
@@ -152,6 +153,21 @@ module _ (sizes : Sizes) where
     pub writes : Writes root between new
     pub root_page : IsPage (new.pages root) root sizes.usable (interior_kind kind) (bytes_in dividers) fresh
     pub some : 0 < length dividers
+
+-- an overflow chain was given back, whatever its pages are: they are free now
+abbrev pub GivesBack : Sizes → ℕ → ℕ → Paged → Paged → Type 0
+GivesBack sizes first bytes old new =
+    (chain : List ℕ) (trunks : List Trunk) → IsChain old.pages sizes.size sizes.usable old.count first bytes chain → IsFree sizes old trunks → Within sizes old chain trunks
+    → (rest : List Trunk) × Turns sizes old chain trunks new [] rest
+
+-- A root's tree has a cell too, and all other trees are as they were.
+pub record IsWorldPut (sizes : Sizes) (front : List Rooted) (old : Rooted) (back : List Rooted) (cell : TreeCell) (new_base : Paged) : Type 0 where
+  pub new : Rooted
+  pub trunks : List Trunk
+  pub world : IsWorld sizes new_base (with_tree front new back trunks)
+  pub root : root_of new ≡ root_of old
+  pub kind_is : new.kind ≡ old.kind
+  pub list : PutIn old.kind (member cell) (list_in old) (list_in new)
 
 -- A table leaf's cells with one put in, or in place of the one of its rowid, whose overflow chain is told by its first page and its bytes.
 pub record IsLeafEdit (old : List Spelled) (cell : Spelled) (new : List Spelled) (first bytes : ℕ) : Type 0 where

@@ -1,12 +1,12 @@
 -- A put in a world: crates above cite these facts in their proofs.
-use Rattle.std.proofs.Common.{◌≡◌, ℕ, ℤ, ◌≤◌, ◌<ℤ◌, ◌≤ℤ◌, List, [], ◌++◌, arith}
+use Rattle.std.proofs.Common.{◌≡◌, ℕ, ℤ, ◌≤◌, ◌<ℤ◌, ◌≤ℤ◌, List, [], ◌++◌, arith, refl}
 use Rattle.std.proofs.Math.Path.{subst⁻¹}
 use Rattle.page_spec.specs.Freelists.{Trunk}
 use Rattle.tree_spec.specs.declared.TreeKind.{TreeKind}
 use Rattle.tree_spec.specs.declared.TreeKind.TheVariants.{Table, Index}
 use Rattle.page_spec.specs.Counts.{times}
 use Rattle.page_spec.specs.CountsLaws.{times-append}
-use Rattle.tree_spec.specs.Trees.{TreeCell, TreeOf, Rooted, leaf_kind, pages_in}
+use Rattle.tree_spec.specs.Trees.{TreeCell, TreeOf, Rooted, leaf_kind, pages_in, root_of}
 use Rattle.tree_spec.specs.Bounds.{IsOrdered, below_rowids, greatest_rowid}
 use Rattle.tree_spec.specs.Standing.{Sizes, Paged, IsHeld}
 use Rattle.tree_spec.specs.StandingLaws.{IsRoot-kept, Stands-kept}
@@ -14,6 +14,7 @@ use Rattle.tree_spec.specs.Worlds.{greatest_count, with_tree, IsWorld}
 use Rattle.tree_spec.specs.WorldsLaws.{world-root, world-within}
 use Rattle.tree_spec.specs.Changes.{Turns}
 use Rattle.tree_spec.specs.ChangesLaws.{Turns-then, Turns-wide, Turns-within, Turns-keeps, world-after}
+use Rattle.put_spec.specs.Steps.{spelled, PutAt, GivesBack, IsWorldPut}
 use Rattle.put_spec.specs.Puts.{InBounds, HasRowid, before_of, IsReady, IsRootPut}
 
 ordered-bounds : (kind : TreeKind) (levels : ℕ) (tree : TreeOf levels) → IsOrdered kind levels tree → InBounds kind levels below_rowids greatest_rowid tree
@@ -70,3 +71,22 @@ module _ (sizes : Sizes) (front : List Rooted) (old : Rooted) (back : List Roote
       })
       )
       put.root few
+
+  -- The same of what a writer did: the chain was written, the cell was put below the root's page, and the chain of the cell that it replaced was given back.
+  pub put-in-world : (a b c d : Paged) (first bytes : ℕ) (p q : List Trunk) → IsWorld sizes a (with_tree front old back p) → Turns sizes a [] p b cell.chain q → IsHeld sizes b (leaf_kind old.kind) cell
+      → HasRowid old.kind cell → PutAt sizes old.kind old.levels (root_of old) (spelled cell) b c first bytes → GivesBack sizes first bytes c d → d.count ≤ greatest_count
+      → IsWorldPut sizes front old back cell d
+  put-in-world a b c d first bytes p q world written held rowid put freed few =
+      let ready = world-ready a b p q world written held in
+      let done = put old.tree q cell.payload cell.chain refl (written.freelist world.freelist) ready in
+      let within = Turns-within sizes b c (pages_in old ++ cell.chain) (pages_in done.rooted ++ done.chain) q done.trunks ready.within done.put.turns in
+      let free = done.put.turns.freelist (written.freelist world.freelist) in
+      let given = freed done.chain done.trunks done.put.freed free (λ n. omega (arith, within n, times-append n (pages_in done.rooted) done.chain)) in
+      record {
+        new = done.rooted;
+        trunks = given.0;
+        world = world-put a b c d done.rooted first bytes done.chain p q done.trunks given.0 world written rowid done.put given.1 few;
+        root = done.put.root;
+        kind_is = done.put.kind_is;
+        list = done.put.list;
+      }

@@ -1,16 +1,16 @@
 // Laws about the definitions.
-ghost use Rattle.std.specs.Prelude.{◌≡◌, ◌-◌, ◌<◌, ◌≤◌, ℕ, zero, suc, List, [], ◌∷◌, ◌++◌, length, map, slice_index_or, slice_set};
+ghost use Rattle.std.specs.Prelude.{◌≡◌, ◌≢◌, ◌⊎◌, ◌↔◌, Contains, ◌-◌, ◌<◌, ◌≤◌, ℕ, zero, suc, List, [], ◌∷◌, ◌++◌, length, map, slice_index_or, slice_set};
 ghost use Rattle.std.specs.List.{insert};
 ghost use Rattle.page_spec.specs.Freelists.{Trunk};
 ghost use Rattle.tree_spec.specs.declared.TreeKind.{TreeKind};
 ghost use Rattle.tree_spec.specs.declared.TreeKind.TheVariants.{Table, Index};
-ghost use Rattle.tree_spec.specs.Trees.{TreeCell, TreeOf, Rooted, leaf_kind, interior_kind, kind_at, page_of, own_cells, own_right, cells_behind};
+ghost use Rattle.tree_spec.specs.Trees.{Member, TreeCell, TreeOf, Rooted, root_of, leaf_kind, interior_kind, kind_at, page_of, own_cells, own_right, cells_behind};
 ghost use Rattle.tree_spec.specs.Standing.{Sizes, Paged, IsNumber, IsHeld, IsBehind, HasOwnPage, Stands};
 ghost use Rattle.tree_spec.specs.Worlds.{IsWorld, greatest_count, with_tree};
 ghost use Rattle.tree_spec.specs.Changes.{Within, Turns, Writes};
-ghost use Rattle.put_spec.specs.Children.{Belongs, Meets, views_of};
+ghost use Rattle.put_spec.specs.Children.{Belongs, Meets, PutIn, Rises, views_of};
 ghost use Rattle.put_spec.specs.Puts.{Before, After, HasRowid, before_of, hand_before, child_before, interior_after, leaf_after, IsCut, cut_after, moved, deeper, IsReady, IsOpened, IsPut, IsRootPut};
-ghost use Rattle.put_spec.specs.Steps.{Spelled, spelled, views_in, HasCells, child_page, with_dividers, IsSettled, PutBelow, PutAt, IsDeepened, IsLeafEdit};
+ghost use Rattle.put_spec.specs.Steps.{Spelled, spelled, views_in, HasCells, child_page, with_dividers, IsSettled, PutBelow, PutAt, IsDeepened, IsLeafEdit, GivesBack, IsWorldPut};
 
 /// Where a child has had the put, its parent has, but for the writing of its own page.
 pub fn put_child_opens_its_parent()
@@ -119,4 +119,18 @@ pub fn root_has_the_cell()
     ensures deepened { (sizes : Sizes) (kind : TreeKind) (levels root : ℕ) (cell : Spelled) (old between new : Paged) (dividers : List Spelled) (first bytes : ℕ)
         → PutBelow sizes kind levels root cell old between dividers first bytes
         → IsDeepened sizes levels kind root dividers between new → PutAt sizes kind levels root cell old new first bytes }
+{}
+
+/// What a writer did in a world is a put into one of its trees: the world holds again, this tree's list has the member, and all other trees are as they were.
+pub fn writer_keeps_the_world()
+    ensures { (sizes : Sizes) (front : List Rooted) (old : Rooted) (back : List Rooted) (cell : TreeCell) (a b c d : Paged) (first bytes : ℕ) (p q : List Trunk)
+        → IsWorld sizes a (with_tree front old back p) → Turns sizes a [] p b cell.chain q → IsHeld sizes b (leaf_kind old.kind) cell
+        → HasRowid old.kind cell → PutAt sizes old.kind old.levels (root_of old) (spelled cell) b c first bytes
+        → GivesBack sizes first bytes c d → d.count ≤ greatest_count → IsWorldPut sizes front old back cell d }
+{}
+
+/// After a put into a table its member is the one of its rowid, and the members of other rowids are those that were there.
+pub fn put_changes_one_row()
+    ensures { (put : Member) (old new : List Member) → PutIn Table put old new → Rises new
+        → (m : Member) → Contains new m ↔ ((m ≡ put) ⊎ (Contains old m × (m.rowid ≢ put.rowid))) }
 {}

@@ -140,16 +140,23 @@ module _ (sizes : Sizes) where
         (tree : TreeOf levels) (trunks : List Trunk) (payload chain : List ℕ) → page_of levels tree ≡ root → IsFree sizes old trunks
         → IsReady sizes kind levels (before_at old tree trunks cell payload chain) → RootDone levels (before_at old tree trunks cell payload chain) new first bytes
 
+    -- the same whatever levels the tree has: a writer that meets a page knows none
+    abbrev pub PutUnder : ℕ → Spelled → Paged → Paged → List Spelled → ℕ → ℕ → Type 0
+    PutUnder page cell old new dividers first bytes = (levels : ℕ) → PutBelow levels page cell old new dividers first bytes
+
+    abbrev pub PutInto : ℕ → Spelled → Paged → Paged → ℕ → ℕ → Type 0
+    PutInto root cell old new first bytes = (levels : ℕ) → PutAt levels root cell old new first bytes
+
   -- What a root's page had was put on a page that was taken, and the root was made its parent.
-  pub record IsDeepened (levels : ℕ) (kind : TreeKind) (root : ℕ) (dividers : List Spelled) (old new : Paged) : Type 0 where
+  pub record IsDeepened (page_kind : PageKind) (kind : TreeKind) (root : ℕ) (dividers : List Spelled) (old new : Paged) : Type 0 where
     pub fresh : ℕ
     pub between : Paged
     pub cells : List Spelled
     pub right : ℕ
-    pub has : HasCells sizes old (kind_at kind levels) root cells right
+    pub has : HasCells sizes old page_kind root cells right
     pub took : Took fresh old between
     pub in_range : IsNumber sizes between fresh
-    pub is_page : IsPage (between.pages fresh) fresh sizes.usable (kind_at kind levels) (bytes_in cells) right
+    pub is_page : IsPage (between.pages fresh) fresh sizes.usable page_kind (bytes_in cells) right
     pub writes : Writes root between new
     pub root_page : IsPage (new.pages root) root sizes.usable (interior_kind kind) (bytes_in dividers) fresh
     pub some : 0 < length dividers

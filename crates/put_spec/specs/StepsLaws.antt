@@ -19,6 +19,7 @@ use Rattle.tree_spec.specs.Trees.{TreeCell, TreeOf, leaf_kind, interior_kind, ki
 use Rattle.tree_spec.specs.Standing.{Sizes, Paged, Keeps, IsNumber, IsHeld, IsBehind, HasOwnPage, HasBelow, Stands, StandsBefore}
 use Rattle.tree_spec.specs.StandingLaws.{divider-held, held-kept, own-kept, keeps-first}
 use Rattle.tree_spec.specs.PagesLaws.{page-same}
+use Rattle.tree_spec.specs.OneTreeLaws.{leaf-levels, interior-levels}
 use Rattle.tree_spec.specs.Worlds.{IsFree}
 use Rattle.tree_spec.specs.WorldsLaws.{all-back}
 use Rattle.tree_spec.specs.Changes.{Turns, Writes}
@@ -28,7 +29,7 @@ use Rattle.put_spec.specs.ChildrenLaws.{child-stands, child-within, keeps-fewer}
 use Rattle.put_spec.specs.Puts.{Before, After, hand_before, hand_after, child_before, interior_after, leaf_after, IsCut, cut_after, moved, deeper, IsReady, IsOpened, IsPut}
 use Rattle.put_spec.specs.PutsLaws.{pages-parts, cut-count, put-above, put-cut, put-settled, put-stays, put-deepens, hand-parts, moved-page}
 use Rattle.put_spec.specs.LeavesLaws.{belongs-within, leaf-inserted, leaf-met}
-use Rattle.put_spec.specs.Steps.{Spelled, spelled, bytes_in, views_in, HasCells, child_page, with_dividers, IsRaised, AreParts, before_at, Took, IsSettled, PutDone, PutBelow, PutAt, IsDeepened, IsLeafEdit}
+use Rattle.put_spec.specs.Steps.{Spelled, spelled, bytes_in, views_in, HasCells, child_page, with_dividers, IsRaised, AreParts, before_at, Took, IsSettled, PutDone, PutBelow, PutAt, PutUnder, PutInto, IsDeepened, IsLeafEdit}
 
 -- Lists of cells.
 
@@ -474,7 +475,7 @@ module _ (sizes : Sizes) (kind : TreeKind) where
 
   -- Where siblings came, the root gets a level more.
   pub root-deepens : (levels root : ℕ) (cell : Spelled) (old between new : Paged) (dividers : List Spelled) (first bytes : ℕ) → PutBelow sizes kind levels root cell old between dividers first bytes
-      → IsDeepened sizes levels kind root dividers between new → PutAt sizes kind levels root cell old new first bytes
+      → IsDeepened sizes (kind_at kind levels) kind root dividers between new → PutAt sizes kind levels root cell old new first bytes
   root-deepens levels root cell old between new dividers first bytes put deep tree trunks payload chain is free ready =
       let before : Before levels = before_at old tree trunks cell payload chain in
       let done = put tree trunks payload chain is free ready in
@@ -496,6 +497,44 @@ module _ (sizes : Sizes) (kind : TreeKind) where
             (subst⁻¹ (λ (p : ℕ). Writes p deep.between new) page deep.writes) top
             (omega (arith, deep.some, ap length done.dividers_are, cells-many done.siblings));
       }
+
+  -- Where the depth is not known.
+
+  none-suc : (n : ℕ) → suc n ≡ 0 → ⊥
+  none-suc n e = omega arith
+
+  -- a put below a leaf is one whatever levels a tree there has: it has none
+  pub leaf-under : (page : ℕ) (cell : Spelled) (old : Paged) (cells : List Spelled) (right : ℕ) (new : Paged) (dividers : List Spelled) (first bytes : ℕ) → HasCells sizes old (leaf_kind kind) page cells right
+      → PutBelow sizes kind zero page cell old new dividers first bytes → PutUnder sizes kind page cell old new dividers first bytes
+  leaf-under page cell old cells right new dividers first bytes has put zero tree trunks payload chain is free ready = put tree trunks payload chain is free ready
+  leaf-under page cell old cells right new dividers first bytes has put (suc levels) tree trunks payload chain is free ready =
+      absurd (none-suc levels (leaf-levels sizes old kind (suc levels) page tree (bytes_in cells) right is has.is_page ready.stands.0))
+
+  -- and a put below an interior page is one where it is one for some levels
+  pub interior-under : (page : ℕ) (cell : Spelled) (old : Paged) (cells : List Spelled) (right : ℕ) (new : Paged) (dividers : List Spelled) (first bytes : ℕ)
+      → HasCells sizes old (interior_kind kind) page cells right → ((levels : ℕ) → PutBelow sizes kind (suc levels) page cell old new dividers first bytes)
+      → PutUnder sizes kind page cell old new dividers first bytes
+  interior-under page cell old cells right new dividers first bytes has put zero tree trunks payload chain is free ready =
+      absurd (interior-levels sizes old kind zero page tree (bytes_in cells) right is has.is_page ready.stands.0 refl)
+  interior-under page cell old cells right new dividers first bytes has put (suc levels) tree trunks payload chain is free ready = put levels tree trunks payload chain is free ready
+
+  -- a root that was a leaf gets its first level
+  pub leaf-deepens : (root : ℕ) (cell : Spelled) (old between new : Paged) (dividers : List Spelled) (first bytes : ℕ) → PutUnder sizes kind root cell old between dividers first bytes
+      → IsDeepened sizes (leaf_kind kind) kind root dividers between new → PutInto sizes kind root cell old new first bytes
+  leaf-deepens root cell old between new dividers first bytes put deep zero tree trunks payload chain is free ready =
+      root-deepens zero root cell old between new dividers first bytes (put zero) deep tree trunks payload chain is free ready
+  leaf-deepens root cell old between new dividers first bytes put deep (suc levels) tree trunks payload chain is free ready =
+      let done = put (suc levels) tree trunks payload chain is free ready in
+      absurd (none-suc levels (leaf-levels sizes between kind (suc levels) root done.home (bytes_in deep.cells) deep.right (done.put.opened.page ∙ is) deep.has.is_page done.put.own))
+
+  -- and one that was interior gets one more
+  pub interior-deepens : (root : ℕ) (cell : Spelled) (old between new : Paged) (dividers : List Spelled) (first bytes : ℕ) → PutUnder sizes kind root cell old between dividers first bytes
+      → IsDeepened sizes (interior_kind kind) kind root dividers between new → PutInto sizes kind root cell old new first bytes
+  interior-deepens root cell old between new dividers first bytes put deep zero tree trunks payload chain is free ready =
+      let done = put zero tree trunks payload chain is free ready in
+      absurd (interior-levels sizes between kind zero root done.home (bytes_in deep.cells) deep.right (done.put.opened.page ∙ is) deep.has.is_page done.put.own refl)
+  interior-deepens root cell old between new dividers first bytes put deep (suc levels) tree trunks payload chain is free ready =
+      root-deepens (suc levels) root cell old between new dividers first bytes (put (suc levels)) deep tree trunks payload chain is free ready
 
 -- A leaf.
 

@@ -10,7 +10,7 @@ ghost use Rattle.tree_spec.specs.Worlds.{IsWorld, greatest_count, with_tree};
 ghost use Rattle.tree_spec.specs.Changes.{Within, Turns, Writes};
 ghost use Rattle.put_spec.specs.Children.{Belongs, Meets, PutIn, Rises, views_of};
 ghost use Rattle.put_spec.specs.Puts.{Before, After, HasRowid, before_of, hand_before, child_before, interior_after, leaf_after, IsCut, cut_after, moved, deeper, IsReady, IsOpened, IsPut, IsRootPut};
-ghost use Rattle.put_spec.specs.Steps.{Spelled, spelled, views_in, HasCells, child_page, with_dividers, IsSettled, PutBelow, PutAt, IsDeepened, IsLeafEdit, GivesBack, IsWorldPut};
+ghost use Rattle.put_spec.specs.Steps.{Spelled, spelled, views_in, HasCells, child_page, with_dividers, IsSettled, PutBelow, PutAt, PutUnder, PutInto, IsDeepened, IsLeafEdit, GivesBack, IsWorldPut};
 
 /// Where a child has had the put, its parent has, but for the writing of its own page.
 pub fn put_child_opens_its_parent()
@@ -118,7 +118,7 @@ pub fn root_has_the_cell()
         → PutBelow sizes kind levels root cell old new [] first bytes → PutAt sizes kind levels root cell old new first bytes }
     ensures deepened { (sizes : Sizes) (kind : TreeKind) (levels root : ℕ) (cell : Spelled) (old between new : Paged) (dividers : List Spelled) (first bytes : ℕ)
         → PutBelow sizes kind levels root cell old between dividers first bytes
-        → IsDeepened sizes levels kind root dividers between new → PutAt sizes kind levels root cell old new first bytes }
+        → IsDeepened sizes (kind_at kind levels) kind root dividers between new → PutAt sizes kind levels root cell old new first bytes }
 {}
 
 /// What a writer did in a world is a put into one of its trees: the world holds again, this tree's list has the member, and all other trees are as they were.
@@ -133,4 +133,17 @@ pub fn writer_keeps_the_world()
 pub fn put_changes_one_row()
     ensures { (put : Member) (old new : List Member) → PutIn Table put old new → Rises new
         → (m : Member) → Contains new m ↔ ((m ≡ put) ⊎ (Contains old m × (m.rowid ≢ put.rowid))) }
+{}
+
+/// A writer need not know how many levels a tree has: the kind of a page tells whether it has some.
+pub fn depth_need_not_be_known()
+    ensures leaf { (sizes : Sizes) (kind : TreeKind) (page : ℕ) (cell : Spelled) (old : Paged) (cells : List Spelled) (right : ℕ) (new : Paged) (dividers : List Spelled) (first bytes : ℕ)
+        → HasCells sizes old (leaf_kind kind) page cells right → PutBelow sizes kind zero page cell old new dividers first bytes → PutUnder sizes kind page cell old new dividers first bytes }
+    ensures interior { (sizes : Sizes) (kind : TreeKind) (page : ℕ) (cell : Spelled) (old : Paged) (cells : List Spelled) (right : ℕ) (new : Paged) (dividers : List Spelled) (first bytes : ℕ)
+        → HasCells sizes old (interior_kind kind) page cells right → ((levels : ℕ) → PutBelow sizes kind (suc levels) page cell old new dividers first bytes)
+        → PutUnder sizes kind page cell old new dividers first bytes }
+    ensures leaf_root { (sizes : Sizes) (kind : TreeKind) (root : ℕ) (cell : Spelled) (old between new : Paged) (dividers : List Spelled) (first bytes : ℕ)
+        → PutUnder sizes kind root cell old between dividers first bytes → IsDeepened sizes (leaf_kind kind) kind root dividers between new → PutInto sizes kind root cell old new first bytes }
+    ensures interior_root { (sizes : Sizes) (kind : TreeKind) (root : ℕ) (cell : Spelled) (old between new : Paged) (dividers : List Spelled) (first bytes : ℕ)
+        → PutUnder sizes kind root cell old between dividers first bytes → IsDeepened sizes (interior_kind kind) kind root dividers between new → PutInto sizes kind root cell old new first bytes }
 {}

@@ -1,19 +1,20 @@
 -- Changes join, and a change of one tree gives the world after it: crates above cite these facts in their proofs.
-use Rattle.std.proofs.Common.{◌≡◌, ℕ, ◌+◌, ◌<◌, ◌≤◌, ◌⊎◌, List, [], ◌∷◌, ◌++◌, length, map, max, drop, slice_index, refl, ap, ◌∙◌, subst, inl, inr, arith}
+use Rattle.std.proofs.Common.{◌≡◌, ◌≢◌, ℕ, ◌+◌, ◌<◌, ◌≤◌, ◌⊎◌, List, [], ◌∷◌, ◌++◌, length, map, max, drop, slice_index, refl, ap, ◌∙◌, subst, inl, inr, arith, sym, length-drop}
 use Rattle.std.proofs.Math.Path.{subst⁻¹}
 use Rattle.std.specs.List.{flat_map, AllByRecursion, AllPairs}
-use Rattle.std.proofs.lemmas.Bool.{cases_lt}
+use Rattle.std.proofs.lemmas.Bool.{cases_lt, cases_eq}
+use Rattle.std.proofs.lemmas.List.{ext_get_or, get_or-drop}
 use Rattle.format_spec.specs.Header.{freelist_trunk}
 use Rattle.format_spec.specs.Page.{header_place}
 use Rattle.page_spec.specs.PlacesLaws.{number_at-same}
 use Rattle.page_spec.specs.Freelists.{Trunk, free_pages}
 use Rattle.page_spec.specs.FreelistsLaws.{IsFreelist-same, free-in_range}
-use Rattle.page_spec.specs.FreePages.{due, due_pages}
-use Rattle.page_spec.specs.FreePagesLaws.{due-most, due-grows, due-past, due-number, due-counted, due_pages-grows}
+use Rattle.page_spec.specs.FreePages.{due, due_pages, KeepsFirstPage}
+use Rattle.page_spec.specs.FreePagesLaws.{due-within, due-most, due-grows, due-past, due-number, due-counted, due_pages-grows}
 use Rattle.page_spec.specs.Counts.{times}
 use Rattle.page_spec.specs.CountsLaws.{distinct-once, up_to, up_to-sum, up_to-same, times-counted}
 use Rattle.tree_spec.specs.Trees.{Rooted, root_of, pages_in}
-use Rattle.tree_spec.specs.Standing.{Sizes, Paged, Keeps, IsRoot}
+use Rattle.tree_spec.specs.Standing.{Sizes, Paged, SamePage, Keeps, IsRoot}
 use Rattle.tree_spec.specs.StandingLaws.{IsRoot-kept, keeps-front, keeps-back}
 use Rattle.tree_spec.specs.PagesLaws.{SamePage-whole}
 use Rattle.tree_spec.specs.Worlds.{with_tree, greatest_count, IsFree, IsWorld, slack}
@@ -89,6 +90,28 @@ module _ (sizes : Sizes) where
       let whole = λ (n : ℕ) (some : 0 < times n (free_pages trunks)). SamePage-whole n (a.pages n) (b.pages n)
       (free-in_range sizes.size sizes.usable a.pages a.count (freelist_trunk (a.pages 1)) trunks is.named n some).behind_first (keeps.same n some) in
       IsFreelist-same sizes.size sizes.usable a.pages b.pages a.count b.count trunks whole keeps.grows (field 32 (omega arith)) (field 36 (omega arith)) is
+
+  -- page 1 is the same as far as trees see it, where only the size and the freelist's fields changed
+  first-kept : (old new : List ℕ) → KeepsFirstPage old new → SamePage 1 old new
+  first-kept old new keeps =
+      ext_get_or 0 (drop 100 new) (drop 100 old) (omega (arith, length-drop 100 new, length-drop 100 old, keeps.long))
+      (λ k low. get_or-drop 100 new k 0 ∙ keeps.rest (100 + k) (inr (omega arith)) ∙ sym (get_or-drop 100 old k 0))
+
+  -- A change of which is known what it did to single pages, as a page that is taken from the freelist or given back.
+  pub Turns-few : (a b : Paged) (x y : List ℕ) (p q : List Trunk) → a.count ≤ b.count
+      → ((n : ℕ) → n ≢ 1 → n ≤ a.count → times n x ≡ 0 → times n (free_pages p) ≡ 0 → b.pages n ≡ a.pages n) → KeepsFirstPage (a.pages 1) (b.pages 1) → (IsFree sizes a p → IsFree sizes b q)
+      → ((n : ℕ) → times n y + times n (free_pages q) + due sizes.size a.count n ≡ times n x + times n (free_pages p) + due sizes.size b.count n) → Turns sizes a x p b y q
+  Turns-few a b x y p q grows others first freelist balance = record {
+    grows = grows;
+    kept = λ n is_due no_x no_p.
+        elim (cases_eq n 1) [
+          | inl one ↦ subst⁻¹ (λ (m : ℕ). SamePage m (a.pages m) (b.pages m)) one (first-kept (a.pages 1) (b.pages 1) first)
+          | inr other ↦ ap (drop (header_place n)) (others n other (due-within sizes.size a.count n is_due) no_x no_p)
+        ];
+    header = λ k low outside. first.rest k outside;
+    freelist = freelist;
+    balance = balance;
+  }
 
   header-written : (a b : Paged) (number : ℕ) → Writes number a b → (k : ℕ) → k < 100 → slice_index (b.pages 1) k ≡ slice_index (a.pages 1) k
   header-written a b number writes k low =

@@ -1,5 +1,5 @@
 -- One tree stands at a root: crates above cite these facts in their proofs.
-use Rattle.std.proofs.Common.{◌≡◌, ℕ, zero, suc, ◌-◌, List, [], ◌∷◌, ◌++◌, map, slice_index, refl, sym, ap, ◌∙◌, subst, arith}
+use Rattle.std.proofs.Common.{◌≡◌, ◌≢◌, ℕ, zero, suc, ◌-◌, List, [], ◌∷◌, ◌++◌, map, slice_index, refl, sym, ap, ◌∙◌, subst, arith}
 use Rattle.std.proofs.Math.Path.{subst⁻¹}
 use Rattle.std.specs.List.{AllByRecursion}
 use Rattle.byte_fields.specs.Bytes.{part_of}
@@ -104,6 +104,19 @@ module _ (sizes : Sizes) (base : Paged) where
   bytes-one : (k l : TreeKind) (m n : ℕ) (a : TreeOf m) (b : TreeOf n) → page_of m a ≡ page_of n b → HasOwnPage sizes base k m a → HasOwnPage sizes base l n b
       → kind_byte (kind_at k m) ≡ kind_byte (kind_at l n)
   bytes-one k l m n a b page one two = sym one.kind_is ∙ ap (λ (p : ℕ). slice_index (base.pages p) (header_place p)) page ∙ two.kind_is
+
+  -- a tree whose own page is a leaf has no levels, and one whose own page is interior has some
+  pub leaf-levels : (kind : TreeKind) (levels page : ℕ) (tree : TreeOf levels) (cells : List (List ℕ)) (right : ℕ) → page_of levels tree ≡ page
+      → IsPage (base.pages page) page sizes.usable (leaf_kind kind) cells right → HasOwnPage sizes base kind levels tree → levels ≡ 0
+  leaf-levels kind zero page tree cells right is told own = refl
+  leaf-levels kind (suc levels) page tree cells right is told own =
+      absurd (kinds-apart kind kind (sym told.kind_is ∙ ap (λ (p : ℕ). slice_index (base.pages p) (header_place p)) (sym is) ∙ own.kind_is))
+
+  pub interior-levels : (kind : TreeKind) (levels page : ℕ) (tree : TreeOf levels) (cells : List (List ℕ)) (right : ℕ) → page_of levels tree ≡ page
+      → IsPage (base.pages page) page sizes.usable (interior_kind kind) cells right → HasOwnPage sizes base kind levels tree → levels ≢ 0
+  interior-levels kind zero page tree cells right is told own none =
+      kinds-apart kind kind (sym own.kind_is ∙ ap (λ (p : ℕ). slice_index (base.pages p) (header_place p)) is ∙ told.kind_is)
+  interior-levels kind (suc levels) page tree cells right is told own none = omega arith
 
   -- trees that stand at one page have one kind and as many levels
   pub levels-one : (k l : TreeKind) (m n : ℕ) (a : TreeOf m) (b : TreeOf n) → page_of m a ≡ page_of n b → Stands sizes base k m a → Stands sizes base l n b → (k ≡ l) × (m ≡ n)

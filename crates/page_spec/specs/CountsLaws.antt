@@ -133,8 +133,8 @@ few-once xs last once within =
     omega (arith, times-counted xs last none, few last)
   where
     none : (n : ℕ) → last < n → times n xs ≡ 0
-    none n past = elim (cases_lt 0 (times n xs)) [ | inl some ↦ absurd (omega (arith, (within n some).1)) | inr not_some ↦ omega arith ]
+    none n past = elim (cases_lt 0 (times n xs)) [ inl some ↦ absurd (omega (arith, (within n some).1)) | inr not_some ↦ omega arith ]
 
     few : (m : ℕ) → up_to (λ n. times n xs) m ≤ m
-    few zero = elim (cases_lt 0 (times 0 xs)) [ | inl some ↦ absurd (omega (arith, (within 0 some).0)) | inr not_some ↦ omega arith ]
+    few zero = elim (cases_lt 0 (times 0 xs)) [ inl some ↦ absurd (omega (arith, (within 0 some).0)) | inr not_some ↦ omega arith ]
     few (suc m) = omega (arith, once (suc m), few m)

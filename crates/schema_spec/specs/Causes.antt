@@ -20,22 +20,22 @@ use Rattle.schema_spec.specs.declared.syntax.IndexText.{IndexText}
 use Rattle.schema_spec.specs.Words.{is_keyword}
 use Rattle.schema_spec.specs.Names.{Key, keys, repeated_key, rowid_name, is_rowid, collation_of, named_collations, declared_type}
 
--- the order of the causes; two at one place exclude each other
+-- the order of the causes; a text has but one of `Generated` and `As`
 abbrev pub clause_order : Clause → ℕ
 clause_order Without = 0
 clause_order Strict = 1
 clause_order Generated = 2
-clause_order As = 2
-clause_order On = 3
-clause_order Desc = 4
-clause_order Collate = 5
-clause_order Real = 6
-clause_order Unique = 7
-clause_order Primary = 8
-clause_order Where = 9
-clause_order Expression = 10
-clause_order Virtual = 11
-clause_order View = 12
+clause_order As = 3
+clause_order On = 4
+clause_order Desc = 5
+clause_order Collate = 6
+clause_order Real = 7
+clause_order Unique = 8
+clause_order Primary = 9
+clause_order Where = 10
+clause_order Expression = 11
+clause_order Virtual = 12
+clause_order View = 13
 
 abbrev pub is_without : TableOption → Bool
 is_without WithoutRowid = true

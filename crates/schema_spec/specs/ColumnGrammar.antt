@@ -1,5 +1,5 @@
 -- The definition of a column (CREATE TABLE, section 3; the diagrams column-def, type-name, column-constraint and foreign-key-clause).
-use Rattle.std.specs.Prelude.{ℕ, ◌&&◌, ◌||◌, Bool, true, false, List, [], ◌∷◌, Option, Some, None, is_some, codes}
+use Rattle.std.specs.Prelude.{ℕ, ◌&&◌, ◌||◌, Bool, true, false, if◌then◌else◌, List, [], ◌∷◌, Option, Some, None, is_some, codes}
 use Rattle.schema_spec.specs.declared.token.Token.{Token}
 use Rattle.schema_spec.specs.declared.syntax.ListedColumn.{ListedColumn}
 use Rattle.schema_spec.specs.declared.syntax.ColumnConstraint.{ColumnConstraint}
@@ -140,10 +140,15 @@ module _ (text : List ℕ) where
       one (is_word_of (codes "DELETE" ∷ codes "UPDATE" ∷ codes "INSERT" ∷ []) text) rest >>= λ change rest.
       foreign_action rest)
 
+  -- a deferral begins: in a column NOT may begin NOT NULL too, so the word behind it decides
+  abbrev pub at_deferral : Bool → List Token → Bool
+  at_deferral in_column tokens =
+      at_word (codes "DEFERRABLE") tokens || (if in_column then at_words (codes "NOT") (codes "DEFERRABLE") tokens else at_word (codes "NOT") tokens)
+
   -- DEFERRABLE with NOT or without, and INITIALLY with its word or without; or nothing
-  abbrev pub deferral : List Token → Front (Option Token)
-  deferral =
-      either (λ tokens. at_word (codes "DEFERRABLE") tokens || at_words (codes "NOT") (codes "DEFERRABLE") tokens)
+  abbrev pub deferral : Bool → List Token → Front (Option Token)
+  deferral in_column =
+      either (at_deferral in_column)
       (λ tokens.
       optional (is_keyword (codes "NOT") text) tokens >>= λ not rest.
       word (codes "DEFERRABLE") rest >>= λ deferrable rest.
@@ -152,14 +157,14 @@ module _ (text : List ℕ) where
       (nothing (Some deferrable)) rest)
       (nothing None)
 
-  -- REFERENCES and its clauses: the first token
-  abbrev pub references : List Token → Front Token
-  references tokens =
+  -- REFERENCES and its clauses, in a column or in a constraint of the table: the first token
+  abbrev pub references : Bool → List Token → Front Token
+  references in_column tokens =
       word (codes "REFERENCES") tokens >>= λ references rest.
       name rest >>= λ table rest.
       either (at_sign 40) (list_in_brackets name) (nothing []) rest >>= λ columns rest.
       many (λ all. at_word (codes "ON") all || at_word (codes "MATCH") all) foreign_clause rest >>= λ clauses rest.
-      deferral rest >>= λ deferral rest.
+      deferral in_column rest >>= λ deferral rest.
       Behind references rest
 
   -- what a constraint says, and whether ON CONFLICT stands in it
@@ -208,7 +213,7 @@ module _ (text : List ℕ) where
       made first Skipped false rest
 
   abbrev pub refers : List Token → Front ColumnConstraint
-  refers tokens = references tokens >>= λ first rest. made first Skipped false rest
+  refers tokens = references true tokens >>= λ first rest. made first Skipped false rest
 
   -- AS, a text in brackets, and STORED or VIRTUAL or neither; its first token is given
   abbrev pub generated_as : Token → List Token → Front ColumnConstraint

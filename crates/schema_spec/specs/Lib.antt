@@ -10,3 +10,4 @@ pub mod Names
 pub mod Causes
 pub mod Texts
 pub mod Stops
+pub mod TextsLaws

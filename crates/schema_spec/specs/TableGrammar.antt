@@ -52,7 +52,7 @@ module _ (text : List ℕ) where
       word text (codes "FOREIGN") tokens >>= λ first rest.
       word text (codes "KEY") rest >>= λ key rest.
       list_in_brackets text (listed_column text (codes "ASC" ∷ [])) rest >>= λ columns rest.
-      references text rest >>= λ references rest.
+      references text false rest >>= λ references rest.
       made first ForeignKey columns false rest
 
   -- a constraint of a table, behind its name

@@ -16,9 +16,9 @@ loop-number-preserved c =
     let counted : (n : ℕ) → times n c.push.new.self.items ≡ times n items + times n (number ∷ []) = λ n. ap (times n) more ∙ times-append n items (number ∷ []) in
     record {
       once = λ n. elim (cases_eq number n) [
-          | inl same ↦ omega (arith, counted n, inv.below n (omega arith), ap (λ (x : ℕ). times n (x ∷ [])) same, times-itself n)
-          | inr apart ↦ omega (arith, counted n, inv.once n, times-other n number apart)
-        ];
+        | inl same ↦ omega (arith, counted n, inv.below n (omega arith), ap (λ (x : ℕ). times n (x ∷ [])) same, times-itself n)
+        | inr apart ↦ omega (arith, counted n, inv.once n, times-other n number apart)
+      ];
       below = λ n past. omega (arith, counted n, inv.below n (omega arith), times-other n number (λ e. omega arith));
       within = subst⁻¹ (λ (ns : List ℕ). All (λ n. (2 ≤ n) × (n < number + 1)) ns) more
           (All-push (λ n. (2 ≤ n) × (n < number + 1)) items number (All-weaker (λ n. (2 ≤ n) × (n < number)) (λ n. (2 ≤ n) × (n < number + 1)) (λ n w. (w.0, omega (arith, w.1))) items inv.within)

@@ -75,25 +75,25 @@ module _ (pages : Pages) (size usable count : ℕ) where
     refuses-one limit a b (inr p) (inl q) = absurd (p.0 q.0)
     refuses-one limit a b (inr p) (inr q) = take_fault-one (freelist_trunk (pages 1)) a b p.1 q.1
 
-    not_full : (limit page : ℕ) (fault : FreeFault F) → page ≡ page_past size count → page ≤ limit → ¬ IsFull size count limit fault
-    not_full limit page (TrunkDamaged b) past within full = full
-    not_full limit page (TargetFull b y) past within full = omega (arith, past, within, full.0)
-    not_full limit page (Store b) past within full = full
-    not_full limit page (Memory b) past within full = full
+    past-not_full : (limit page : ℕ) (fault : FreeFault F) → page ≡ page_past size count → page ≤ limit → ¬ IsFull size count limit fault
+    past-not_full limit page (TrunkDamaged b) past within full = full
+    past-not_full limit page (TargetFull b y) past within full = omega (arith, past, within, full.0)
+    past-not_full limit page (Store b) past within full = full
+    past-not_full limit page (Memory b) past within full = full
 
-    not_take_fault : (trunk page : ℕ) (fault : FreeFault F) → HasTrunk pages size usable count trunk → page ≡ given_page trunk (pages trunk) → IsInRange size count page
+    given_page-not_refused : (trunk page : ℕ) (fault : FreeFault F) → HasTrunk pages size usable count trunk → page ≡ given_page trunk (pages trunk) → IsInRange size count page
         → ¬ IsTakeFault pages size usable count trunk fault
-    not_take_fault trunk page (TrunkDamaged b) has it in_range (inl bad) = bad-none trunk b bad has
-    not_take_fault trunk page (TrunkDamaged b) has it in_range (inr out) = out.1 (subst (IsInRange size count) it in_range)
-    not_take_fault trunk page (TargetFull b y) has it in_range bad = bad
-    not_take_fault trunk page (Store b) has it in_range bad = bad
-    not_take_fault trunk page (Memory b) has it in_range bad = bad
+    given_page-not_refused trunk page (TrunkDamaged b) has it in_range (inl bad) = bad-none trunk b bad has
+    given_page-not_refused trunk page (TrunkDamaged b) has it in_range (inr out) = out.1 (subst (IsInRange size count) it in_range)
+    given_page-not_refused trunk page (TargetFull b y) has it in_range bad = bad
+    given_page-not_refused trunk page (Store b) has it in_range bad = bad
+    given_page-not_refused trunk page (Memory b) has it in_range bad = bad
 
     next-not_refused : (limit page : ℕ) (fault : FreeFault F) → IsNext pages size usable count limit page → ¬ RefusesNext pages size usable count limit fault
-    next-not_refused limit page fault (inl p) (inl q) = not_full limit page fault p.1 p.2 q.1
+    next-not_refused limit page fault (inl p) (inl q) = past-not_full limit page fault p.1 p.2 q.1
     next-not_refused limit page fault (inl p) (inr q) = q.0 p.0
     next-not_refused limit page fault (inr p) (inl q) = p.0 q.0
-    next-not_refused limit page fault (inr p) (inr q) = not_take_fault (freelist_trunk (pages 1)) page fault p.1 p.2 p.3 q.1
+    next-not_refused limit page fault (inr p) (inr q) = given_page-not_refused (freelist_trunk (pages 1)) page fault p.1 p.2 p.3 q.1
 
     answer-one : (limit : ℕ) → IsOne (OrFault (IsNext pages size usable count limit) (RefusesNext pages size usable count {F = F} limit))
     answer-one limit = OrFault-one _ _ (next-one limit) (refuses-one limit) (next-not_refused limit)

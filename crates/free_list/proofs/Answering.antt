@@ -1,5 +1,5 @@
 -- Which answer is right, that there is one, and which pages change.
-use Rattle.std.proofs.Common.{◌≡◌, ◌≢◌, ℕ, ◌+◌, ◌-◌, ◌<◌, ◌≤◌, ◌⊎◌, ◌==◌, ◌/◌, if◌then◌else◌, Bool, List, Option, Some, None, Result, Ok, Err, IfOk, IfErr, length, refl, sym, ap, ◌∙◌, subst, inl, inr, arith}
+use Rattle.std.proofs.Common.{◌≡◌, ◌≢◌, ℕ, ◌-◌, ◌<◌, ◌≤◌, ◌⊎◌, if◌then◌else◌, Bool, List, Option, Some, Result, IfOk, IfErr, length, sym, ap, ◌∙◌, subst, inl, inr, arith}
 use Rattle.std.proofs.Math.Path.{subst⁻¹}
 use Rattle.std.proofs.lemmas.Bool.{ne_eqb, eq-eqb}
 use Rattle.std.proofs.lemmas.Result.{IfOk-weaker, IfErr-weaker}
@@ -9,12 +9,12 @@ use Rattle.format_spec.specs.Header.{freelist_trunk, freelist_pages}
 use Rattle.page_spec.specs.Pages.{Pages, IsInRange, with_page, next_page}
 use Rattle.page_spec.specs.PagesLaws.{with_page-itself, with_page-other}
 use Rattle.page_spec.specs.FreePages.{page_past, KeepsFirstPage}
-use Rattle.page_spec.specs.Freelists.{leaf_count, leaf_at, trunk_limit}
+use Rattle.page_spec.specs.Freelists.{leaf_count, leaf_at}
 use Rattle.free_list.specs.declared.fault.FreeFault.{FreeFault}
 use Rattle.free_list.specs.declared.fault.FreeFault.TheVariants.{TrunkDamaged, TargetFull, Store, Memory}
-use Rattle.free_list.specs.Answers.{IsOther, given_page, IsFull, HasTrunk, IsBadTrunk, IsTrunkFault, IsNext, IsBadTake, IsTakeFault, RefusesNext, CanRelease, RefusesRelease}
+use Rattle.free_list.specs.Answers.{IsOther, given_page, IsFull, HasTrunk, IsBadTrunk, IsTrunkFault, IsNext, IsBadTake, IsTakeFault, RefusesNext}
 use Rattle.free_list.specs.Steps.{ChangesFew}
-use Rattle.free_list.specs.Written.{with_freelist, with_size, without_leaf, TakesFrom, Appends}
+use Rattle.free_list.specs.Written.{with_freelist, without_leaf, TakesFrom, Appends}
 use Rattle.free_list.proofs.Bytes.{first-stays, rest-stays}
 
 full-one : (size count limit : ℕ) (F : Type 0) → IsOne (IsFull {F = F} size count limit)

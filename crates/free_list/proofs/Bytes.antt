@@ -1,7 +1,7 @@
 -- What the pages that a change of the freelist writes hold.
-use Rattle.std.proofs.Common.{◌≡◌, ◌≢◌, ℕ, zero, suc, ◌+◌, ◌-◌, ◌*◌, ◌^◌, ◌<◌, ◌≤◌, List, [], ◌∷◌, length, replicate, slice_index, refl, sym, ap, ◌∙◌, inl, inr, arith}
+use Rattle.std.proofs.Common.{◌≡◌, ℕ, ◌+◌, ◌-◌, ◌*◌, ◌^◌, ◌<◌, ◌≤◌, List, length, replicate, sym, ◌∙◌, inl, inr, arith}
 use Rattle.std.proofs.lemmas.List.{length-replicate, get_or-replicate}
-use Rattle.byte_fields.specs.Numbers.{number_at, with_number_at}
+use Rattle.byte_fields.specs.Numbers.{with_number_at}
 use Rattle.byte_fields.specs.NumbersLaws.{length-with_number_at, number_at-written, number_at-apart, slice_index-apart_from_number}
 use Rattle.format_spec.specs.Header.{freelist_trunk, freelist_pages, pages as pages_field}
 use Rattle.page_spec.specs.Pages.{next_page}

@@ -1,5 +1,5 @@
 -- What follows for the pages that a call found from what its parts say.
-use Rattle.std.proofs.Common.{◌≡◌, ◌≢◌, ℕ, ◌+◌, ◌-◌, ◌/◌, ◌^◌, ◌<◌, ◌≤◌, ◌⊎◌, List, [], ◌∷◌, Option, Some, None, Result, Ok, Err, IfOk, IfErr, OnOk, IfSome, length, refl, sym, ap, ◌∙◌, subst, inl, inr, arith}
+use Rattle.std.proofs.Common.{◌≡◌, ◌≢◌, ℕ, ◌+◌, ◌-◌, ◌/◌, ◌^◌, ◌<◌, ◌≤◌, ◌⊎◌, List, [], Option, Some, Result, Ok, Err, IfOk, IfErr, OnOk, IfSome, length, sym, ap, ◌∙◌, subst, inl, inr, arith}
 use Rattle.std.proofs.Math.Path.{subst⁻¹}
 use Rattle.std.proofs.lemmas.Result.{IfOk-weaker, IfErr-weaker, on_ok_weaker}
 use Rattle.common_spec.specs.Told.{Leads}
@@ -9,7 +9,7 @@ use Rattle.page_spec.specs.Pages.{Pages, IsInRange, with_page}
 use Rattle.page_spec.specs.Counts.{times}
 use Rattle.page_spec.specs.FreePages.{page_past}
 use Rattle.page_spec.specs.PagesLaws.{page_past-cases}
-use Rattle.page_spec.specs.Freelists.{Trunk, AreTrunks, IsFreelist, free_pages, leaf_count}
+use Rattle.page_spec.specs.Freelists.{Trunk, IsFreelist, free_pages, leaf_count}
 use Rattle.page_store.specs.StoreLaws.{IfSome-told, Leads-told}
 use Rattle.free_list.specs.declared.fault.FreeFault.{FreeFault}
 use Rattle.free_list.specs.Answers.{IsOther, IsTakeFault}
@@ -17,7 +17,7 @@ use Rattle.free_list.specs.Steps.{Takes, Gives, ChangesFew}
 use Rattle.free_list.specs.Written.{TakesFrom, Appends, with_freelist, with_leaf, empty_trunk, one_more_free}
 use Rattle.free_list.proofs.Answering.{IsAnswer, answers-take, few-past, few-take, few-both}
 use Rattle.free_list.proofs.Taking.{taken-from, taken-past, free-none}
-use Rattle.free_list.proofs.Giving.{given-trunk, given-leaf, free-room}
+use Rattle.free_list.proofs.Giving.{given-trunk, given-leaf}
 
 -- what holds at sizes that stayed
 pub sizes-stayed : (P : ℕ → ℕ → ℕ → Type 0) {size usable count size1 usable1 count1 : ℕ} → size1 ≡ size → usable1 ≡ usable → count1 ≡ count

@@ -1,5 +1,5 @@
 -- What giving a page back makes of a freelist.
-use Rattle.std.proofs.Common.{◌≡◌, ◌≢◌, ℕ, zero, suc, ◌+◌, ◌-◌, ◌*◌, ◌/◌, ◌^◌, ◌<◌, ◌≤◌, List, [], ◌∷◌, ◌++◌, Option, Some, length, get_or, slice_index, refl, sym, ap, ◌∙◌, subst, inl, inr, arith, length-append}
+use Rattle.std.proofs.Common.{◌≡◌, ◌≢◌, ℕ, ◌+◌, ◌-◌, ◌*◌, ◌/◌, ◌^◌, ◌<◌, ◌≤◌, List, [], ◌∷◌, ◌++◌, Option, Some, length, slice_index, refl, sym, ap, ◌∙◌, inl, inr, arith}
 use Rattle.std.proofs.Math.Path.{subst⁻¹}
 use Rattle.std.proofs.lemmas.Bool.{cases_eq, cases_lt}
 use Rattle.std.proofs.lemmas.List.{length_push, get_or_push, get_or_append_left}
@@ -12,13 +12,13 @@ use Rattle.page_spec.specs.Counts.{times}
 use Rattle.page_spec.specs.FreePages.{KeepsFirstPage}
 use Rattle.page_spec.specs.CountsLaws.{times-cons, times-append, times-itself, times-other, distinct-once, once-distinct, few-once}
 use Rattle.page_spec.specs.FreePagesLaws.{slack-more}
-use Rattle.page_spec.specs.Freelists.{Trunk, IsTrunk, AreTrunks, IsFreelist, free_pages, leaf_count, leaf_at, trunk_limit}
+use Rattle.page_spec.specs.Freelists.{Trunk, IsTrunk, AreTrunks, IsFreelist, free_pages, leaf_count, leaf_at}
 use Rattle.page_spec.specs.FreelistsLaws.{times-free_pages, AreTrunks-same, free-in_range}
 use Rattle.page_spec.specs.WrittenChainsLaws.{SameOn}
 use Rattle.free_list.specs.Steps.{Gives}
 use Rattle.free_list.specs.Written.{with_freelist, with_leaf, empty_trunk, one_more_free}
 use Rattle.free_list.proofs.Bytes.{trunk-written, free-written, size-stays, first-stays, count-with, next-with, leaf-with, leaf-before, next-empty, count-empty}
-use Rattle.free_list.proofs.Taking.{length-free_pages, first-fits}
+use Rattle.free_list.proofs.Taking.{length-free_pages}
 
 -- with a page that is not free the free pages still differ
 free-once : (size usable count : ℕ) (m : Pages) (trunks : List Trunk) → IsFreelist m size usable count trunks

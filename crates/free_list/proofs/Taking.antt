@@ -1,8 +1,6 @@
 -- What taking a page makes of a freelist.
-use Rattle.std.proofs.Common.{◌≡◌, ◌≢◌, ℕ, zero, suc, ◌+◌, ◌-◌, ◌*◌, ◌^◌, ◌<◌, ◌≤◌, ◌⊎◌, List, [], ◌∷◌, ◌++◌, Option, Some, length, take, get_or, slice_index, refl, sym, ap, ap₂, ◌∙◌, subst, inl, inr, arith, length-append}
+use Rattle.std.proofs.Common.{◌≡◌, ◌≢◌, ℕ, ◌+◌, ◌-◌, ◌^◌, ◌<◌, ◌≤◌, List, [], ◌∷◌, ◌++◌, Option, Some, length, take, slice_index, refl, sym, ap, ◌∙◌, subst, inl, inr, arith, length-append}
 use Rattle.std.proofs.Math.Path.{subst⁻¹}
-use Rattle.std.specs.List.{IsDistinct}
-use Rattle.std.proofs.lemmas.Bool.{cases_eq}
 use Rattle.std.proofs.lemmas.List.{nil_from_length, take_more, take_all, length-take, get_or-take}
 use Rattle.std.proofs.lemmas.List.Elements.{All-take}
 use Rattle.format_spec.specs.Header.{freelist_trunk, freelist_pages, pages as pages_field}
@@ -14,10 +12,10 @@ use Rattle.page_spec.specs.FreePages.{due, slack, page_past, KeepsFirstPage}
 use Rattle.page_spec.specs.CountsLaws.{times-cons, times-append, times-itself, distinct-once, once-distinct}
 use Rattle.page_spec.specs.FreePagesLaws.{due-appended, slack-appended, slack-more}
 use Rattle.page_spec.specs.Freelists.{Trunk, IsTrunk, AreTrunks, IsFreelist, free_pages, leaf_count, leaf_at, trunk_limit}
-use Rattle.page_spec.specs.FreelistsLaws.{times-free_pages, IsFreelist-same, AreTrunks-same, free-in_range, first-not_free, free_pages-few}
+use Rattle.page_spec.specs.FreelistsLaws.{times-free_pages, AreTrunks-same, free-in_range, free_pages-few}
 use Rattle.page_spec.specs.WrittenChainsLaws.{SameOn}
 use Rattle.free_list.specs.Steps.{Takes}
-use Rattle.free_list.specs.Written.{with_freelist, with_size, without_leaf, TakesFrom, Appends}
+use Rattle.free_list.specs.Written.{with_freelist, without_leaf, TakesFrom, Appends}
 use Rattle.free_list.proofs.Bytes.{trunk-written, free-written, size-stays, first-stays, size-written, trunk-stays, free-stays, rest-stays, count-without, next-without, leaf-without}
 
 -- how many pages a trunk makes free

@@ -4,7 +4,7 @@ use Rattle.std.proofs.Math.Path.{subst⁻¹}
 use Rattle.common_spec.specs.Reading.{Reads, OrFault}
 use Rattle.common_spec.specs.ReadingLaws.{IsOne, OrFault-one, Reads-one}
 use Rattle.page_spec.specs.Pages.{Pages, IsInRange, next_page}
-use Rattle.page_spec.specs.Chains.{AreLinked, named_behind, last_linked, pages_for, IsChain, IsBroken, content_of, chain_bytes}
+use Rattle.page_spec.specs.Chains.{AreLinked, named_behind, last_linked, pages_for, IsChain, content_of, chain_bytes}
 use Rattle.page_spec.specs.ChainsLaws.{same_chain, same_broken, chain-not_broken, linked_more, named-more, last-more}
 use Rattle.overflow_chain.specs.declared.fault.ChainFault.{ChainFault}
 use Rattle.overflow_chain.specs.declared.fault.ChainFault.TheVariants.{ChainBroken, Store, Memory}

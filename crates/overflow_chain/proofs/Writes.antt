@@ -1,10 +1,10 @@
 -- What pages hold while a chain is written over them.
-use Rattle.std.proofs.Common.{◌≡◌, ◌≢◌, ℕ, zero, suc, ◌+◌, ◌-◌, ◌*◌, ◌/◌, ◌%◌, ◌<◌, ◌≤◌, ◌==◌, if◌then◌else◌, Bool, true, false, min, List, [], ◌∷◌, ◌++◌, length, take, drop, get_or, replicate, refl, sym, ap, ap₂, ◌∙◌, subst, inl, inr, arith, append_assoc, append-nil, length-append, length-drop}
+use Rattle.std.proofs.Common.{◌≡◌, ◌≢◌, ℕ, suc, ◌+◌, ◌-◌, ◌/◌, ◌%◌, ◌<◌, ◌≤◌, ◌==◌, if◌then◌else◌, Bool, true, false, min, List, [], ◌∷◌, ◌++◌, length, take, drop, get_or, replicate, refl, sym, ap, ap₂, ◌∙◌, inl, inr, arith, append_assoc, append-nil, length-append, length-drop}
 use Rattle.std.proofs.Math.Path.{subst⁻¹}
-use Rattle.std.proofs.lemmas.Bool.{cases_lt, cases_eq, ne_eqb}
-use Rattle.std.proofs.lemmas.Nat.{div_below, div-add-mod'}
+use Rattle.std.proofs.lemmas.Bool.{cases_lt}
+use Rattle.std.proofs.lemmas.Nat.{div_below}
 use Rattle.std.proofs.Math.Nat.{zero-div, zero-mod, div-eq-sub-div, mod-eq-sub-mod}
-use Rattle.std.proofs.lemmas.List.{take_at, take_rest, take_min, drop_min, drop_all, nil_from_length}
+use Rattle.std.proofs.lemmas.List.{take_at, take_rest, take_min, drop_min, drop_all}
 use borrow.Rule.Slice.PartMut.{put_mid}
 use Rattle.byteorder.specs.Endian.{big_bytes}
 use Rattle.byteorder.specs.Numbers.{length-bytes_high_first}
@@ -15,8 +15,8 @@ use Rattle.page_spec.specs.PagesLaws.{with_page-itself, with_page-other}
 use Rattle.page_spec.specs.Chains.{pages_for}
 use Rattle.page_spec.specs.Counts.{times}
 use Rattle.page_spec.specs.CountsLaws.{times-cons, times-itself}
-use Rattle.page_spec.specs.PlacesLaws.{with_part, put_mid-part, length-with_part}
-use Rattle.page_spec.specs.WrittenChains.{overflow_page, first_of, HoldChain, WritesChain}
+use Rattle.page_spec.specs.PlacesLaws.{put_mid-part}
+use Rattle.page_spec.specs.WrittenChains.{overflow_page, first_of, HoldChain}
 
 -- Some of the pages are still to be written, with the rest of the bytes. Once these hold it, all hold all bytes.
 pub record HasWritten (size usable : ℕ) (numbers bytes left rest : List ℕ) (old now : Pages) : Type 0 where

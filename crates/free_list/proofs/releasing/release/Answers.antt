@@ -1,4 +1,4 @@
-use Rattle.std.proofs.Common.{◌≡◌, ◌+◌, ◌-◌, ◌/◌, ◌^◌, ◌<◌, ℕ, List, OnOk, length, sym, ap, ◌∙◌, subst, arith}
+use Rattle.std.proofs.Common.{◌≡◌, ◌-◌, ◌/◌, ◌^◌, ◌<◌, ℕ, OnOk, length, sym, ap, ◌∙◌, subst, arith}
 use Rattle.common_spec.specs.Told.{Leads}
 use Rattle.format_spec.specs.Header.{freelist_trunk}
 use Rattle.page_spec.specs.Pages.{IsInRange, with_page}

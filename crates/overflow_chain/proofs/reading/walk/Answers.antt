@@ -1,9 +1,9 @@
-use Rattle.std.proofs.Common.{◌≡◌, ◌≢◌, ◌+◌, ◌<◌, ℕ, List, ◌++◌, length, refl, sym, ap, ◌∙◌, subst, inl, inr, arith}
+use Rattle.std.proofs.Common.{◌≡◌, ◌<◌, ℕ, ◌++◌, length, refl, ap, ◌∙◌, subst, inl, inr, arith}
 use Rattle.std.proofs.lemmas.Option.{IfSome_then}
 use Rattle.common_spec.specs.ToldLaws.{told-both}
-use Rattle.page_spec.specs.Pages.{Pages, IsInRange}
+use Rattle.page_spec.specs.Pages.{IsInRange}
 use Rattle.page_spec.specs.Chains.{pages_for}
-use Rattle.overflow_chain.proofs.Walks.{HasWalked, walked-more, walked-none, walked-all, walked-broken}
+use Rattle.overflow_chain.proofs.Walks.{walked-more, walked-none, walked-all, walked-broken}
 use Rattle.overflow_chain.proofs.reading.walk.Goals as goal
 
 pub loop-preserved : goal.loop-preserved

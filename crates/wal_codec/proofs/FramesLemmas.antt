@@ -30,10 +30,10 @@ page_size-whole size is =
     elim (cases_lt k 3) [
       | inl below ↦ let low : 2 ^ k ≤ 2 ^ 3 = power_le k 3 (omega arith) in absurd (omega arith)
       | inr above ↦
-        let j : ℕ = k - 3 in
-        let exponent : k ≡ 3 + j = omega arith in
-        let eight : size ≡ 8 * 2 ^ j = same ∙ ap (λ (e : ℕ). 2 ^ e) exponent ∙ pow-add 2 3 j in
-        omega arith
+          let j : ℕ = k - 3 in
+          let exponent : k ≡ 3 + j = omega arith in
+          let eight : size ≡ 8 * 2 ^ j = same ∙ ap (λ (e : ℕ). 2 ^ e) exponent ∙ pow-add 2 3 j in
+          omega arith
     ]
 
 -- one more frame counts
@@ -61,6 +61,7 @@ counts-one_more needed frames frame =
         → cond b (length (committed frames)) (length frames + 1) ≡ length (cond b (committed frames) (frames ++ frame ∷ []))
     lengths true one_more = refl
     lengths false one_more = sym one_more
+
     commits : (b : Bool) → cond b (last_commit (committed frames)) frame.commit ≡ last_commit (cond b (committed frames) (frames ++ frame ∷ []))
     commits true = refl
     commits false = sym (last_commit-one_more frames frame)

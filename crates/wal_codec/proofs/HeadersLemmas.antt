@@ -61,6 +61,6 @@ frame_header-written big number commit salt before page old first middle sums se
     let summed : pair_of sums ≡ frame_sums big (pair_of before) number commit page =
     sums_is ∙ ap (λ (s : ℕ × ℕ). checksum big s page) (middle_is ∙ ap (checksum big (pair_of before)) (take_at first (drop 8 old) 8 first_long ∙ front)) in (
       put_mid-halves first second old 8 16 first_long second_long old_long
-      ∙ ap₂ (λ (a b : List ℕ). a ++ b) front (second_is ∙ ap (λ (s : ℕ × ℕ). pair_bytes (pair_of salt) ++ pair_bytes s) summed),
+          ∙ ap₂ (λ (a b : List ℕ). a ++ b) front (second_is ∙ ap (λ (s : ℕ × ℕ). pair_bytes (pair_of salt) ++ pair_bytes s) summed),
       summed,
     )

@@ -76,9 +76,11 @@ committed-one_more (other ∷ frames) frame = more (frame.commit == 0) (committe
     longer : (fs : List Frame) → (length (fs ++ frame ∷ []) == 0) ≡ false
     longer [] = refl
     longer (f ∷ fs) = eqb-suc-zero (length (fs ++ frame ∷ []))
+
     none : (b : Bool) → (b && false) ≡ false
     none true = refl
     none false = refl
+
     more : (b : Bool) → committed (frames ++ frame ∷ []) ≡ (if b then committed frames else frames ++ frame ∷ [])
         → (if (other.commit == 0) && (length (committed (frames ++ frame ∷ [])) == 0) then [] else other ∷ committed (frames ++ frame ∷ []))
         ≡ (if b then (if (other.commit == 0) && (length (committed frames) == 0) then [] else other ∷ committed frames) else other ∷ (frames ++ frame ∷ []))

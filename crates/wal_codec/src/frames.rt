@@ -154,7 +154,9 @@ pub(crate) fn read_frames(
     };
     let mut left = bytes;
     while let Some(frame) = read_frame(head, read.sums, left) {
-        read.counts = read.counts.after(read.numbers.len() as u64, frame.commit, needed);
+        read.counts = read
+            .counts
+            .after(read.numbers.len() as u64, frame.commit, needed);
         read.numbers.push(frame.number)?;
         let sums = frame.sums;
         read.sums = sums;

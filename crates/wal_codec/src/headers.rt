@@ -34,7 +34,14 @@ pub(crate) fn write_log_header(
     ensures sums { pair_of result ≡ log_sums big page_size sequence (pair_of salt) }
     ensures words { AreWords (pair_of salt) }
 {
-    let front = [magic(big), FILE_FORMAT, page_size, sequence, salt[0], salt[1]];
+    let front = [
+        magic(big),
+        FILE_FORMAT,
+        page_size,
+        sequence,
+        salt[0],
+        salt[1],
+    ];
     BigEndian::write_u32_into(&front, &mut into[..24]);
     let sums = checksum(&into[..24], big, [0, 0]);
     BigEndian::write_u32_into(&sums, &mut into[24..]);

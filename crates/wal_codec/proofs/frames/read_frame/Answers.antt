@@ -9,8 +9,13 @@ pub returns-then-bytes-size-clause-none : goal.returns-then-bytes-size-clause-no
 returns-then-bytes-size-clause-none c frame more is bytes_is =
     let header : List ℕ = frame_header c.args.head.now.big (pair_of c.args.head.now.salt) (pair_of c.args.sums) frame.number frame.commit frame.page in
     let whole = is.whole in
-    omega (arith, ap length bytes_is, length-append (header ++ frame.page) more, length-append header frame.page,
-    length-frame_header c.args.head.now.big (pair_of c.args.head.now.salt) (pair_of c.args.sums) frame.number frame.commit frame.page)
+    omega (
+      arith,
+      ap length bytes_is,
+      length-append (header ++ frame.page) more,
+      length-append header frame.page,
+      length-frame_header c.args.head.now.big (pair_of c.args.head.now.salt) (pair_of c.args.sums) frame.number frame.commit frame.page,
+    )
 
 pub returns-then-number-eq0-clause-none : goal.returns-then-number-eq0-clause-none
 returns-then-number-eq0-clause-none c frame more is bytes_is =

@@ -1,6 +1,6 @@
 // What stands at the front of some tokens.
-ghost use Rattle.std.specs.Prelude.{◌≡◌, map, is_some};
-ghost use Rattle.schema_spec.specs.Fronts.{begins, one, optional};
+ghost use Rattle.std.specs.Prelude.{◌≡◌, ◌<◌, IfOk, map, length};
+ghost use Rattle.schema_spec.specs.Fronts.{one};
 ghost use Rattle.schema_spec.specs.Words.{is_keyword, is_word_of, is_sign};
 ghost use Rattle.schema_spec.specs.Texts.{offset_of};
 ghost use Rattle.schema_spec.specs.ColumnGrammar.{word, sign, name, at_word, at_sign, at_words};
@@ -56,7 +56,8 @@ pub(crate) fn word<'a>(
     text: &[u8],
     tokens: &'a [Token],
 ) -> Result<(Token, &'a [Token]), SqlFault>
-    ensures { Parses text.now (word text.now bytes.now tokens.now) result }
+    ensures parses { Parses text.now (word text.now bytes.now tokens.now) result }
+    ensures shorter { IfOk result (λ read. length read.1.now < length tokens.now) }
 {
     match tokens {
         [token, rest @ ..] if is_keyword(bytes, text, *token) => Ok((*token, rest)),
@@ -70,7 +71,8 @@ pub(crate) fn sign<'a>(
     text: &[u8],
     tokens: &'a [Token],
 ) -> Result<(Token, &'a [Token]), SqlFault>
-    ensures { Parses text.now (sign text.now byte tokens.now) result }
+    ensures parses { Parses text.now (sign text.now byte tokens.now) result }
+    ensures shorter { IfOk result (λ read. length read.1.now < length tokens.now) }
 {
     match tokens {
         [token, rest @ ..] if is_sign(byte, text, *token) => Ok((*token, rest)),
@@ -84,7 +86,8 @@ pub(crate) fn one_of<'a>(
     text: &[u8],
     tokens: &'a [Token],
 ) -> Result<(Token, &'a [Token]), SqlFault>
-    ensures { Parses text.now (one (is_word_of (map (λ word. word.now) words.now) text.now) tokens.now) result }
+    ensures parses { Parses text.now (one (is_word_of (map (λ word. word.now) words.now) text.now) tokens.now) result }
+    ensures shorter { IfOk result (λ read. length read.1.now < length tokens.now) }
 {
     match tokens {
         [token, rest @ ..] if is_word_of(words, text, *token) => Ok((*token, rest)),
@@ -94,7 +97,8 @@ pub(crate) fn one_of<'a>(
 
 // A name.
 pub(crate) fn name<'a>(text: &[u8], tokens: &'a [Token]) -> Result<(Token, &'a [Token]), SqlFault>
-    ensures { Parses text.now (name text.now tokens.now) result }
+    ensures parses { Parses text.now (name text.now tokens.now) result }
+    ensures shorter { IfOk result (λ read. length read.1.now < length tokens.now) }
 {
     match tokens {
         [token, rest @ ..] if is_name(text, *token) => Ok((*token, rest)),

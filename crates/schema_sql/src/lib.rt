@@ -3,6 +3,7 @@
 //! `tokens` gives the tokens of a text by their places. What these are is said by `Tokens` in the `specs/` of `schema_spec`.
 #![tactic(auto)]
 
+mod brackets;
 mod columns;
 mod fronts;
 mod tokenizer;

@@ -1,7 +1,9 @@
 // Words, names and numbers of a text, by its tokens.
 ghost use Rattle.std.specs.Prelude.{◌≡◌, ◌∷◌, ◌≤◌, IfOk, length, map, slice_index, slice_range};
 ghost use Rattle.std.specs.Char.{is_ascii_digit};
-ghost use Rattle.schema_spec.specs.Words.{spelling, inner, same_name, is_one_of, is_word_of, is_keyword, is_sign, is_name, reserved_words, name_of, undoubled, behind_digits, are_digits, is_power, ends_number, is_fraction, is_number, is_number_token};
+ghost use Rattle.schema_spec.specs.Words.{spelling, inner, same_name, is_one_of, is_word_of, is_keyword, is_sign, is_name, reserved_words, name_of, undoubled, behind_digits, are_digits, is_power, ends_number, is_fraction, is_number, is_number_token, is_hex, is_sql};
+ghost use Rattle.std.specs.Char.{is_ascii_hexdigit};
+ghost use Rattle.std.specs.List.{list_all};
 
 use rbu_value::Bytes;
 use schema_spec::{Token, TokenKind};
@@ -221,4 +223,100 @@ fn behind_digits(text: &[u8]) -> &[u8]
         left = rest;
     }
     left
+}
+
+// Digits, at least one, and nothing else.
+fn are_digits(text: &[u8]) -> bool
+    ensures { result ≡ are_digits text.now }
+{
+    match text {
+        [] => false,
+        [first, rest @ ..] => first.is_ascii_digit() && all_digits(rest),
+    }
+}
+
+// Digits alone.
+fn all_digits(text: &[u8]) -> bool
+    ensures { result ≡ list_all is_ascii_digit text.now }
+{
+    text.iter().all(|byte| byte.is_ascii_digit())
+}
+
+// An exponent's digits, behind one sign or none.
+fn is_power(text: &[u8]) -> bool
+    ensures { result ≡ is_power text.now }
+{
+    match text {
+        [b'+' | b'-', digits @ ..] => are_digits(digits),
+        _ => are_digits(text),
+    }
+}
+
+// An exponent or nothing.
+fn ends_number(text: &[u8]) -> bool
+    ensures { result ≡ ends_number text.now }
+{
+    match text {
+        [] => true,
+        [b'e' | b'E', power @ ..] => is_power(power),
+        _ => false,
+    }
+}
+
+// A point with digits or without, or none, and an exponent or none.
+fn is_fraction(text: &[u8]) -> bool
+    ensures { result ≡ is_fraction text.now }
+{
+    match text {
+        [b'.', digits @ ..] => ends_number(behind_digits(digits)),
+        _ => ends_number(text),
+    }
+}
+
+// Hexadecimal digits alone.
+fn are_hex_digits(text: &[u8]) -> bool
+    ensures { result ≡ list_all is_ascii_hexdigit text.now }
+{
+    text.iter().all(|byte| byte.is_ascii_hexdigit())
+}
+
+// What stands behind the first digit of 0x and hexadecimal digits.
+fn is_hex(text: &[u8]) -> bool
+    ensures { result ≡ is_hex text.now }
+{
+    match text {
+        [b'x' | b'X', digits @ ..] => !digits.is_empty() && are_hex_digits(digits),
+        _ => false,
+    }
+}
+
+// The spelling of a number's token is a number of SQL.
+fn is_number(text: &[u8]) -> bool
+    ensures { result ≡ is_number text.now }
+{
+    match text {
+        [] => false,
+        [first, rest @ ..] => is_fraction(behind_digits(text)) || (*first == b'0' && is_hex(rest)),
+    }
+}
+
+// The token is a number.
+pub(crate) fn is_number_token(text: &[u8], token: Token) -> bool
+    ensures { result ≡ is_number_token text.now token }
+{
+    match token.kind {
+        TokenKind::Number => is_number(spelling(text, token)),
+        _ => false,
+    }
+}
+
+// The token is one of SQL.
+pub(crate) fn is_sql(text: &[u8], token: Token) -> bool
+    ensures { result ≡ is_sql text.now token }
+{
+    match token.kind {
+        TokenKind::Unclosed => false,
+        TokenKind::Number => is_number(spelling(text, token)),
+        _ => true,
+    }
 }

@@ -1,3 +1,5 @@
 pub mod Calls
+pub mod Volume
+pub mod VolumeLaws
 pub mod Disk
 pub mod Sink

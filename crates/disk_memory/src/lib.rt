@@ -11,6 +11,7 @@ mod file;
 mod sink;
 #[cfg(test)]
 mod tests;
+mod volume;
 
 pub use disk::MemoryDisk;
 pub use sink::MemorySink;

@@ -8,10 +8,12 @@
 mod calls;
 mod disk;
 mod file;
+mod fused;
 mod sink;
 #[cfg(test)]
 mod tests;
 mod volume;
 
 pub use disk::MemoryDisk;
+pub use fused::FusedDisk;
 pub use sink::MemorySink;

@@ -1,6 +1,8 @@
 -- Files that slots show.
 use Rattle.std.proofs.Common.{◌≡◌, Bool, true, false, if◌then◌else◌, List, [], ◌∷◌, ◌++◌, ℕ, Option, Some, None, unwrap_or, Result, Ok, Err, OnOk, OnErr, refl, sym, ap, ◌∙◌}
 use Rattle.std.proofs.Math.Path.{fun_ext}
+use Rattle.std.specs.List.{All}
+use Rattle.std.proofs.lemmas.List.Elements.{All-push, All-same}
 use Rattle.common_spec.specs.Maps.{set_at}
 use Rattle.file_spec.specs.declared.FileName.{FileName}
 use Rattle.file_spec.specs.Files.{Files, content, is_name, with_file, after_rename, moved}
@@ -8,7 +10,7 @@ use Rattle.file_spec.specs.FilesLaws.{with_file-again, with_file-same}
 use Rattle.disk_memory.specs.declared.volume.Slot.{Slot}
 use Rattle.disk_memory.specs.declared.volume.Slot.TheVariants as slot
 use Rattle.disk_memory.specs.declared.volume.Step.{Step}
-use Rattle.disk_memory.specs.Volume.{VolumeState, files_at, files_in, slot_at, slot_file, slot_files, with_step}
+use Rattle.disk_memory.specs.Volume.{IsShort, VolumeState, files_at, files_in, slot_at, slot_file, slot_files, with_step}
 
 -- a slot is put under a name
 pub slots-set : (start : Files) (slots new : List Slot) (name : FileName) (s : Slot) → slot_at new ≡ set_at is_name (slot_at slots) name s →
@@ -58,9 +60,12 @@ slots-stay start slots taken from to s takes is none =
     slots-set start slots taken from slot.Missing takes ∙ with_file-same (slot_files start slots) from None missing ∙ ap (moved (slot_files start slots) from to) (sym missing)
 
 -- a step was noted, and the slots show what it leaves
-pub step-shown : (start : List (Option (List ℕ))) (steps items : List Step) (slots new : List Slot) (s : Step) (after : Files → Files) → items ≡ steps ++ s ∷ [] →
-    slot_files (files_at start) slots ≡ files_in (record { start = start; steps = steps }) → slot_files (files_at start) new ≡ after (slot_files (files_at start) slots) →
+pub step-noted : (start : List (Option (List ℕ))) (steps items : List Step) (slots new : List Slot) (s : Step) (after : Files → Files) → items ≡ steps ++ s ∷ [] →
+    (slot_files (files_at start) slots ≡ files_in (record { start = start; steps = steps })) × All IsShort steps → IsShort s →
+    slot_files (files_at start) new ≡ after (slot_files (files_at start) slots) →
     files_in (with_step (record { start = start; steps = steps }) s) ≡ after (files_in (record { start = start; steps = steps })) →
-    slot_files (files_at start) new ≡ files_in (record { start = start; steps = items })
-step-shown start steps items slots new s after noted shows changed shown =
-    changed ∙ ap after shows ∙ sym shown ∙ ap (λ (l : List Step). files_in (record { start = start; steps = l })) (sym noted)
+    (slot_files (files_at start) new ≡ files_in (record { start = start; steps = items })) × All IsShort items
+step-noted start steps items slots new s after noted known short changed shown = (
+  changed ∙ ap after known.0 ∙ sym shown ∙ ap (λ (l : List Step). files_in (record { start = start; steps = l })) (sym noted),
+  All-same IsShort items (steps ++ s ∷ []) noted (All-push IsShort steps s known.1 short),
+)

@@ -10,7 +10,7 @@ at-among [] i other = inl refl
 at-among (n ∷ ns) zero other = inr (inl refl)
 at-among (n ∷ ns) (suc i) other = elim (at-among ns i other) [ inl same ↦ inl same | inr among ↦ inr (inr among) ]
 
-kept-may : (choice : ℕ) (r : Record) → MayName r (kept_names choice r)
+pub kept-may : (choice : ℕ) (r : Record) → MayName r (kept_names choice r)
 kept-may choice r = elim (at-among (r.names ∷ r.older) (length r.older - choice % (length r.older + 1)) r.names) [ inl same ↦ inl same | inr among ↦ among ]
 
 filled-may : (fill : ℕ → ℕ) (s : Stored) (bytes : List ℕ) → MayHold s s.shown → IsFilled fill s bytes → MayHold s bytes

@@ -5,4 +5,5 @@ pub mod Disk
 pub mod Crash
 pub mod CrashLaws
 pub mod Fused
+pub mod Replay
 pub mod Sink

@@ -117,11 +117,11 @@ fine-step t s fine = record {
       (omega (arith, length-append t.earlier (t.now ∷ [])));
 }
 
-fine-from : (t : Trail) (ss : List Step) → IsFine t → IsFine (trail_from t ss)
+pub fine-from : (t : Trail) (ss : List Step) → IsFine t → IsFine (trail_from t ss)
 fine-from t [] fine = fine
 fine-from t (s ∷ ss) fine = fine-from (gone_on t s) ss (fine-step t s fine)
 
-index-below : (name : FileName) → name_index name < 7
+pub index-below : (name : FileName) → name_index name < 7
 index-below Target = omega arith
 index-below Oal = omega arith
 index-below Wal = omega arith
@@ -130,7 +130,7 @@ index-below Rbu = omega arith
 index-below State = omega arith
 index-below StateTemp = omega arith
 
-fine-first : (files : Files) → IsFine (first_trail files)
+pub fine-first : (files : Files) → IsFine (first_trail files)
 fine-first files = record { sound = rest-sound files; below = below }
   where
     number : (name : FileName) (file : Option (List ℕ)) (id : ℕ) → option_map (λ _. name_index name) file ≡ Some id → id < 7
@@ -152,7 +152,7 @@ sound-trail volume = (fine-trail volume).sound
 pub first-shown : (start : List (Option (List ℕ))) → files_in (record { start = start; steps = [] }) ≡ files_at start
 first-shown start = rest-shown (files_at start)
 
-from-more : (t : Trail) (ss : List Step) (s : Step) → trail_from t (ss ++ s ∷ []) ≡ gone_on (trail_from t ss) s
+pub from-more : (t : Trail) (ss : List Step) (s : Step) → trail_from t (ss ++ s ∷ []) ≡ gone_on (trail_from t ss) s
 from-more t [] s = refl
 from-more t (x ∷ xs) s = from-more (gone_on t x) xs s
 

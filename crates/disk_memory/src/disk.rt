@@ -3,18 +3,20 @@ ghost use Rattle.std.specs.Prelude.{◌≡◌, ◌≤◌, ◌<◌, ◌+◌, ◌^
 ghost use Rattle.file_spec.specs.declared.FileName.TheVariants.{Target};
 ghost use Rattle.byte_fields.specs.Bytes.{part_of};
 ghost use Rattle.file_spec.specs.Files.{after_create, after_remove, after_rename, after_set_len, after_write, content};
-ghost use Rattle.file_spec.specs.Steps.{AfterCreate, AfterFolderSync, AfterRemove, AfterRename, AfterSetLen, AfterSync, AfterWrite};
+ghost use Rattle.file_spec.specs.Records.{IsImage};
+ghost use Rattle.file_spec.specs.Steps.{AfterCrash, AfterCreate, AfterFolderSync, AfterRemove, AfterRename, AfterSetLen, AfterSync, AfterWrite};
 ghost use Rattle.rbu_disk.specs.Call.{HasCause};
 ghost use Rattle.common_spec.specs.Counts.{one_more};
 ghost use Rattle.disk_memory.specs.Calls.{CountsRefusal, after_call, is_listed};
 ghost use Rattle.disk_memory.specs.Volume.{files_at, first_entries, trail_of};
+ghost use Rattle.disk_memory.specs.Crash.{LeavesBy};
 ghost use Rattle.disk_memory.specs.Disk.{failures_of, files_of, is_over_limit};
 
 use crate::calls::Calls;
 use crate::file::copy_part;
 use crate::volume::Volume;
 use rbu_disk::{Disk, DiskCall, DiskFault, FileName};
-use std::alloc::Global;
+use std::alloc::{AllocError, Global};
 use std::marker::Model;
 
 /// The greatest length of a file, in bytes.
@@ -66,6 +68,23 @@ impl MemoryDisk {
         ensures { option_map (λ bytes. bytes.now) result ≡ files_of self.now name }
     {
         self.volume.contents(name)
+    }
+
+    /// A disk as a crash leaves it. With k changes of names pending, it keeps the first `choice mod (k + 1)`; by
+    /// `(choice / (k + 1)) mod 3` the pending ranges hold the bytes of the last sync (zero past their end), the shown
+    /// bytes, or 0xA5; each length is the shown one. None of its calls are to fail.
+    pub fn crash(&self, alloc: Global, choice: u64) -> Result<MemoryDisk, AllocError>
+        ensures left { IfOk result (λ disk. LeavesBy choice (trail_of self.now.volume).now.at (files_of disk)) }
+        ensures image { IfOk result (λ disk. IsImage (trail_of self.now.volume).now.at (files_of disk)) }
+        ensures trail { IfOk result (λ disk. AfterCrash (trail_of self.now.volume) (trail_of disk.volume)) }
+        ensures counts { IfOk result (λ disk. disk.counts ≡ record { fail_list = []; calls = 0; faults = 0; refused = 0 }) }
+        ensures none { IfOk result (λ disk. disk.last_fault ≡ None) }
+    {
+        Ok(MemoryDisk {
+            volume: self.volume.crash(alloc, choice)?,
+            calls: Calls::new(Vec::new(alloc)),
+            last_fault: None,
+        })
     }
 
     /// How many calls found no memory. It stands still at the last value of 64 bits.

@@ -9,6 +9,7 @@ mod calls;
 mod disk;
 mod file;
 mod fused;
+mod replay;
 mod sink;
 #[cfg(test)]
 mod tests;

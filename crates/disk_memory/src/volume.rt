@@ -4,13 +4,26 @@ ghost use Rattle.common_spec.specs.Maps.{set_at};
 ghost use Rattle.byte_fields.specs.Bytes.{overwritten, resized};
 ghost use Rattle.file_spec.specs.Files.{after_create, after_rename, after_set_len, after_write, is_name, name_index, with_file};
 ghost use Rattle.disk_memory.specs.declared.volume.Step.TheVariants.{Create, Remove, Rename, SetLen, Sync, SyncFolder, Write};
-ghost use Rattle.disk_memory.specs.Volume.{files_at, files_in, first_entries, slot_at, slot_file, slot_files, with_step};
+ghost use Rattle.disk_memory.specs.Volume.{files_at, files_in, first_entries, slot_at, slot_file, slot_files, trail_of, with_step};
+ghost use Rattle.disk_memory.specs.Crash.{LeavesBy};
 
 use crate::file::File;
+use crate::replay::replayed;
 use rbu_disk::FileName;
 use std::alloc::{AllocError, Global};
 use std::marker::Model;
 use std::mem;
+
+/// The names in order.
+pub const NAMES: [FileName; 7] = [
+    FileName::Target,
+    FileName::Oal,
+    FileName::Wal,
+    FileName::Journal,
+    FileName::Rbu,
+    FileName::State,
+    FileName::StateTemp,
+];
 
 /// A call that ended well and was no look, with what it was given.
 #[derive(Drop)]
@@ -61,17 +74,18 @@ pub struct Volume {
 
 impl Model for Volume {
     ghost use Rattle.std.specs.Prelude.{◌≡◌};
-    ghost use Rattle.disk_memory.specs.Volume.{VolumeState, files_at, files_in, slot_files};
+    ghost use Rattle.std.specs.List.{All};
+    ghost use Rattle.disk_memory.specs.Volume.{IsShort, VolumeState, files_at, files_in, slot_files};
 
     ghost Value = { VolumeState };
 
     ghost view = { λ v. record { start = v.start; steps = v.steps.items } };
 
-    ghost invariant = { λ v. slot_files (files_at v.start) v.slots ≡ files_in (record { start = v.start; steps = v.steps.items }) };
+    ghost invariant = { λ v. (slot_files (files_at v.start) v.slots ≡ files_in (record { start = v.start; steps = v.steps.items })) × All IsShort v.steps.items };
 }
 
 /// The place of a name among the names.
-fn place(name: FileName) -> usize
+pub fn place(name: FileName) -> usize
     ensures value { result ≡ name_index name }
     ensures bound { result < 7 }
 {
@@ -79,7 +93,11 @@ fn place(name: FileName) -> usize
 }
 
 /// Puts a file or none under a name, and gives what that had.
-fn replace_file(places: &mut [Option<File>; 7], name: FileName, file: Option<File>) -> Option<File>
+pub fn replace_file(
+    places: &mut [Option<File>; 7],
+    name: FileName,
+    file: Option<File>,
+) -> Option<File>
     ensures value { result ≡ files_at places.old name }
     ensures after { files_at places.new ≡ with_file (files_at places.old) name file }
 {
@@ -113,7 +131,7 @@ fn places_of(mut files: Vec<(FileName, Vec<u8>)>) -> [Option<File>; 7]
 }
 
 /// The bytes that were given under a name.
-fn given_bytes(start: &[Option<File>; 7], name: FileName) -> Option<&[u8]>
+pub fn given_bytes(start: &[Option<File>; 7], name: FileName) -> Option<&[u8]>
     ensures { option_map (λ bytes. bytes.now) result ≡ files_at start.now name }
 {
     match &start[place(name)] {
@@ -253,9 +271,17 @@ impl Volume {
         ensures start { files_at result.start ≡ first_entries (map (λ entry. (entry.0, entry.1.items)) files.items) }
         ensures steps { result.steps ≡ [] }
     {
+        Volume::from_places(alloc, places_of(files))
+    }
+
+    /// The files by the places of their names. Takes no memory.
+    fn from_places(alloc: Global, start: [Option<File>; 7]) -> Volume
+        ensures start { result.start ≡ start }
+        ensures steps { result.steps ≡ [] }
+    {
         Volume {
             alloc,
-            start: places_of(files),
+            start,
             slots: [
                 Slot::Given(FileName::Target),
                 Slot::Given(FileName::Oal),
@@ -267,6 +293,15 @@ impl Volume {
             ],
             steps: Vec::new(alloc),
         }
+    }
+
+    /// The files that a crash leaves by a choice.
+    pub fn crash(&self, alloc: Global, choice: u64) -> Result<Volume, AllocError>
+        ensures left { IfOk result (λ volume. LeavesBy choice (trail_of self.now).now.at (files_at volume.start)) }
+        ensures steps { IfOk result (λ volume. volume.steps ≡ []) }
+    {
+        let replay = replayed(alloc, &self.start, self.steps.as_slice())?;
+        Ok(Volume::from_places(alloc, replay.crash(alloc, choice)?))
     }
 
     /// The bytes under the name, or nothing for a missing file.
@@ -306,6 +341,7 @@ impl Volume {
 
     /// Sets the length; a missing file is made first.
     pub fn set_len(&mut self, name: FileName, n: u64) -> Result<(), AllocError>
+        requires { n ≤ 2 ^ 62 }
         ensures done { OnOk result (self.new ≡ with_step self.old (SetLen name n)) }
         ensures failed { OnErr result (self.new ≡ self.old) }
     {

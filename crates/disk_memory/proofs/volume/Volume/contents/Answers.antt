@@ -7,5 +7,5 @@ pub returns : goal.returns
 returns c =
     c.slot_bytes.ensures
     ∙ ap (slot_file (files_at c.self.inside.start)) c.slot_of.ensures
-    ∙ ap (λ (files : Files). files c.args.name) c.self.invariant
+    ∙ ap (λ (files : Files). files c.args.name) c.self.invariant.0
     ∙ ap (λ (volume : VolumeState). files_in volume c.args.name) c.self.view_is

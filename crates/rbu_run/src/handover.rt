@@ -3,7 +3,7 @@ ghost use Rattle.std.specs.Prelude.{◌≡◌, ◌<◌, ◌^◌, ◌⊎◌, [], 
 ghost use Rattle.std.specs.List.{flat_map};
 ghost use Rattle.file_spec.specs.declared.FileName.TheVariants.{Target, Oal, Wal};
 ghost use Rattle.file_spec.specs.Files.{content, with_file, after_remove, after_rename, OnlyChanges};
-ghost use Rattle.rbu_disk.specs.Disk.{Goes, Owes};
+ghost use Rattle.rbu_disk.specs.Disk.{AllowsAll, Goes, Owes};
 ghost use Rattle.format_spec.specs.Log.{AreWords, pair_of};
 ghost use Rattle.rbu_run.specs.Halt.{FailsAtChange};
 ghost use Rattle.rbu_run.specs.Handover.{log_of, IsAlone, HasPages, IsMidway};
@@ -15,7 +15,8 @@ const PAGE_SIZE: usize = 4096;
 
 /// Writes the parts one after the other into the hidden log, which is empty.
 fn write_parts<D: Disk>(disk: &mut D, parts: &[&[u8]]) -> Result<(), DiskFault>
-    requires { length (flat_map (λ part. part.now) parts.now) < 2 ^ 64 }
+    requires allowed { AllowsAll D.Disk disk.old }
+    requires short { length (flat_map (λ part. part.now) parts.now) < 2 ^ 64 }
     ensures done { OnOk result (Goes D.Disk disk.old disk.new
         (λ f g. f Oal ≡ Some [] → g ≡ with_file f Oal (Some (flat_map (λ part. part.now) parts.now)))) }
     ensures only { Goes D.Disk disk.old disk.new (OnlyChanges Oal) }
@@ -32,7 +33,8 @@ fn write_parts<D: Disk>(disk: &mut D, parts: &[&[u8]]) -> Result<(), DiskFault>
 
 /// Writes the whole log of both pages to the hidden log, and makes it stable.
 fn write_log<D: Disk>(disk: &mut D, salt: [u32; 2], pages: &[u8]) -> Result<(), DiskFault>
-    requires { length pages.now ≡ 8192 }
+    requires allowed { AllowsAll D.Disk disk.old }
+    requires long { length pages.now ≡ 8192 }
     ensures done { OnOk result (Goes D.Disk disk.old disk.new
         (λ f g. f Oal ≡ None → g ≡ with_file f Oal (Some (log_of (pair_of salt) pages.now)))) }
     ensures only { Goes D.Disk disk.old disk.new (OnlyChanges Oal) }
@@ -54,7 +56,8 @@ fn write_log<D: Disk>(disk: &mut D, salt: [u32; 2], pages: &[u8]) -> Result<(), 
 
 /// Copies both pages into the target, and makes it stable.
 fn copy_back<D: Disk>(disk: &mut D, pages: &[u8]) -> Result<(), DiskFault>
-    requires { length pages.now ≡ 8192 }
+    requires allowed { AllowsAll D.Disk disk.old }
+    requires long { length pages.now ≡ 8192 }
     ensures done { OnOk result (Goes D.Disk disk.old disk.new (λ f g. length (content f Target) ≡ 8192 → HasPages pages.now f g)) }
     ensures only { Goes D.Disk disk.old disk.new (OnlyChanges Target) }
     ensures fault { FailsAtChange result }
@@ -68,6 +71,7 @@ fn copy_back<D: Disk>(disk: &mut D, pages: &[u8]) -> Result<(), DiskFault>
 
 /// Renames the log to be the target's write-ahead log, which readers see from then on.
 fn move_log<D: Disk>(disk: &mut D) -> Result<(), DiskFault>
+    requires allowed { AllowsAll D.Disk disk.old }
     ensures done { OnOk result (Goes D.Disk disk.old disk.new (λ f g. g ≡ after_rename f Oal Wal)) }
     ensures failed { OnErr result (Goes D.Disk disk.old disk.new (λ f g. (g ≡ f) ⊎ (g ≡ after_rename f Oal Wal))) }
     ensures fault { FailsAtChange result }
@@ -79,6 +83,7 @@ fn move_log<D: Disk>(disk: &mut D) -> Result<(), DiskFault>
 
 /// Removes the write-ahead log, whose pages the target has.
 fn drop_log<D: Disk>(disk: &mut D) -> Result<(), DiskFault>
+    requires allowed { AllowsAll D.Disk disk.old }
     ensures done { OnOk result (Goes D.Disk disk.old disk.new (λ f g. g ≡ after_remove f Wal)) }
     ensures failed { OnErr result (Goes D.Disk disk.old disk.new (λ f g. (g ≡ f) ⊎ (g ≡ after_remove f Wal))) }
     ensures fault { FailsAtChange result }
@@ -91,7 +96,8 @@ fn drop_log<D: Disk>(disk: &mut D) -> Result<(), DiskFault>
 /// Brings the pages into the target. Where a call fails it stops midway, and a reader of the files sees the target as it
 /// was, or the pages.
 pub fn hand_over<D: Disk>(disk: &mut D, salt: [u32; 2], pages: &[u8]) -> Result<(), DiskFault>
-    requires { length pages.now ≡ 8192 }
+    requires allowed { AllowsAll D.Disk disk.old }
+    requires long { length pages.now ≡ 8192 }
     ensures done { OnOk result (Goes D.Disk disk.old disk.new (λ f g. IsAlone f → HasPages pages.now f g)) }
     ensures failed { OnErr result (Goes D.Disk disk.old disk.new (λ f g. IsAlone f → IsMidway (pair_of salt) pages.now f g)) }
     ensures words { AreWords (pair_of salt) }

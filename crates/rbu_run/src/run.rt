@@ -1,6 +1,6 @@
 // The commands, from the words in to the line out.
 ghost use Rattle.std.specs.Prelude.{◌≡◌, ◌≢◌, ◌⊎◌, ◌↔◌, map, string_bytes, IsTrue};
-ghost use Rattle.rbu_disk.specs.Disk.{Goes};
+ghost use Rattle.rbu_disk.specs.Disk.{AllowsAll, Goes};
 ghost use Rattle.format_spec.specs.Log.{pair_of};
 ghost use Rattle.update_spec.specs.declared.Command.TheVariants.{Apply};
 ghost use Rattle.update_spec.specs.declared.Answer.TheVariants.{Usage};
@@ -29,6 +29,7 @@ pub struct Ran<D> {
 
 /// The answer of the update.
 fn update_answer<D: Disk>(alloc: Global, salt: [u32; 2], disk: &mut D) -> Answer
+    requires allowed { AllowsAll D.Disk disk.old }
     ensures ended { result ≢ Usage }
     ensures files { Goes D.Disk disk.old disk.new (EndsAs (pair_of salt) result) }
     ensures calls { IsCounted D.Disk disk.old disk.new result }
@@ -55,6 +56,7 @@ fn is_whole_update(command: &Command) -> bool
 
 /// The answer of the command that the words ask for. Words that ask for no update make no call on the disk.
 fn answer_of<D: Disk>(alloc: Global, words: &[String], salt: [u32; 2], disk: &mut D) -> Answer
+    requires allowed { AllowsAll D.Disk disk.old }
     ensures words { IsOfWords (map string_bytes words.now) result }
     ensures files { AsksUpdate (map string_bytes words.now) → Goes D.Disk disk.old disk.new (EndsAs (pair_of salt) result) }
     ensures idle { (¬ AsksUpdate (map string_bytes words.now)) → disk.new ≡ disk.old }
@@ -83,6 +85,8 @@ pub fn run_command<D: Disk, O: Sink>(
     mut disk: D,
     out: &mut O,
 ) -> Ran<D>
+    requires allowed { AllowsAll D.Disk disk }
+
     // Whatever stopped the call, a reader of the files sees the old database, or all of the new one.
     ensures headline { Goes D.Disk disk result.disk (SeesOldOrNew small_inserts) }
 

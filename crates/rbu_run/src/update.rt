@@ -1,6 +1,6 @@
 // The update of a small target, from the files in to the files out.
 ghost use Rattle.std.specs.Prelude.{◌≡◌, ◌≤◌, ℕ, List, length, OnOk, OnErr};
-ghost use Rattle.rbu_disk.specs.Disk.{Goes, Owes, OwesBy};
+ghost use Rattle.rbu_disk.specs.Disk.{AllowsAll, Goes, Owes, OwesBy};
 ghost use Rattle.format_spec.specs.Log.{AreWords, pair_of};
 ghost use Rattle.refusal.specs.declared.Refusal.TheVariants.{NotYet};
 ghost use Rattle.update_spec.specs.declared.Outcome.TheVariants.{Refused};
@@ -36,6 +36,7 @@ fn install<D: Disk>(
     target: &mut [u8],
     rows: &[TargetRow],
 ) -> Result<(), DiskFault>
+    requires allowed { AllowsAll D.Disk disk.old }
     requires long { length target.old ≡ 8192 }
     requires room { page_room rows.now ≤ 4096 }
     ensures done { OnOk result (Goes D.Disk disk.old disk.new (λ f g. IsAlone f → HasPages (new_pages target.old rows.now) f g)) }
@@ -57,6 +58,7 @@ fn finish<D: Disk>(
     old: Vec<TargetRow>,
     prepared: Vec<PreparedRow>,
 ) -> Result<Outcome, Halt>
+    requires allowed { AllowsAll D.Disk disk.old }
     requires target { IsSmallTarget target.items old.items }
     requires rbu { (bytes : List ℕ) × IsSmallRbu bytes prepared.items }
     ensures files { Goes D.Disk disk.old disk.new (λ f g. IsSmallWith target.items old.items prepared.items f → Ends (pair_of salt) result f g) }
@@ -81,6 +83,7 @@ fn finish<D: Disk>(
 
 /// The update, from its first call on the disk on.
 pub fn update<D: Disk>(alloc: Global, salt: [u32; 2], disk: &mut D) -> Result<Outcome, Halt>
+    requires allowed { AllowsAll D.Disk disk.old }
     ensures files { Goes D.Disk disk.old disk.new (Ends (pair_of salt) result) }
     ensures calls { OwesBy D.Disk fault_in disk.old disk.new result }
 {

@@ -17,7 +17,7 @@ returns-in_err-write_at-2-clause-only g c =
 pub returns-clause-done : goal.returns-clause-done
 returns-clause-done g c =
     on-ok c.sync.result (rw c.sync.ensures.same (pages-copied c.args.pages.now c.split_at.result.0.now c.split_at.result.1.now
-    (omega (arith, c.split_at.ensures.front_len)) (omega (arith, c.split_at.ensures.back_len, c.requires))
+    (omega (arith, c.split_at.ensures.front_len)) (omega (arith, c.split_at.ensures.back_len, c.requires.long))
     (cc (c.split_at.ensures.front, c.split_at.ensures.back, take-append-drop 4096 c.args.pages.now))
     c.in_ok-write_at.ensures.done c.in_ok-write_at-2.ensures.done))
 

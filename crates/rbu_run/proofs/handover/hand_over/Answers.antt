@@ -1,3 +1,4 @@
+use Rattle.std.proofs.Common.{rules}
 use Rattle.common_spec.specs.Told.{Leads}
 use Rattle.format_spec.specs.Log.{pair_of}
 use Rattle.rbu_run.proofs.Parts.{on-err, on-ok-map, on-err-map}
@@ -19,6 +20,27 @@ returns-in_err-copy_back-clause-failed g c =
     on-err c.from_residual-in_err-copy_back.result
     (stopped-copy (pair_of c.args.salt) c.args.pages.now
     (log-moved (pair_of c.args.salt) c.args.pages.now c.in_ok-write_log.ensures.done c.in_ok-move_log.ensures.done) c.copy_back.ensures.only)
+
+pub returns-in_err-copy_back-clause-calls : goal.returns-in_err-copy_back-clause-calls
+returns-in_err-copy_back-clause-calls g c = record {
+  later = search rules;
+  still = search rules;
+  cause = search rules;
+  allows = λ all. c.copy_back.ensures.calls.allows (c.in_ok-move_log.ensures.calls.allows (c.in_ok-write_log.ensures.calls.allows all));
+}
+
+pub drop_log-requires : goal.drop_log-requires
+drop_log-requires g c = record {
+  allowed = c.in_ok-copy_back.ensures.calls.allows (c.in_ok-move_log.ensures.calls.allows (c.in_ok-write_log.ensures.calls.allows c.requires.allowed));
+}
+
+pub returns-clause-calls : goal.returns-clause-calls
+returns-clause-calls g c = record {
+  later = search rules;
+  still = search rules;
+  cause = search rules;
+  allows = λ all. c.drop_log.ensures.calls.allows (c.in_ok-copy_back.ensures.calls.allows (c.in_ok-move_log.ensures.calls.allows (c.in_ok-write_log.ensures.calls.allows all)));
+}
 
 -- the pages stand in the log and in the target
 copied : (g : given.Over) (c : goal.After-drop_log g) → Leads (PagesCopied (pair_of c.args.salt) c.args.pages.now) (g.D.Disk.shown c.args.disk.now) (g.D.Disk.shown c.copy_back.new.disk)

@@ -10,10 +10,10 @@ use Rattle.rbu_run.proofs.handover.write_log.Goals as goal
 pub returns-in_err-create-clause-only : goal.returns-in_err-create-clause-only
 returns-in_err-create-clause-only g c = only-same Oal c.in_err-create.ensures.failed
 
-pub write_parts-requires : goal.write_parts-requires
-write_parts-requires g c =
+pub write_parts-requires-clause-short : goal.write_parts-requires-clause-short
+write_parts-requires-clause-short g c =
     five_short c.header_bytes-sums.new.into c.frame_bytes-sums.new.into c.split_at.result.0.now c.frame_bytes-sums-2.new.into c.split_at.result.1.now
-    (omega (arith, c.header_bytes-sums.array_long)) (omega (arith, c.frame_bytes-sums.array_long)) (omega (arith, c.split_at.ensures.front_len)) (omega (arith, c.frame_bytes-sums-2.array_long)) (omega (arith, c.split_at.ensures.back_len, c.requires))
+    (omega (arith, c.header_bytes-sums.array_long)) (omega (arith, c.frame_bytes-sums.array_long)) (omega (arith, c.split_at.ensures.front_len)) (omega (arith, c.frame_bytes-sums-2.array_long)) (omega (arith, c.split_at.ensures.back_len, c.requires.long))
 
 pub returns-in_err-write_parts-clause-only : goal.returns-in_err-write_parts-clause-only
 returns-in_err-write_parts-clause-only g c = only-then Oal (only-created Oal c.in_ok-create.ensures.done) c.write_parts.ensures.only

@@ -8,7 +8,7 @@ use Rattle.rbu_run.proofs.LogWrites.{Wrote-none, Wrote-more}
 use Rattle.rbu_run.proofs.handover.write_parts.Goals as goal
 
 pub loop-part-init : goal.loop-part-init
-loop-part-init g c = record { place = refl; wrote = Wrote-none; only = only-same Oal refl; still = refl }
+loop-part-init g c = record { place = refl; wrote = Wrote-none; only = only-same Oal refl; allowed = c.requires.allowed; still = refl }
 
 pub loop-part-preserved : goal.loop-part-preserved
 loop-part-preserved g c =
@@ -21,6 +21,7 @@ loop-part-preserved g c =
       place = omega (arith, c.loop-part.invariant.place, length-append written part.now);
       wrote = Wrote-more written part.now c.loop-part.at c.loop-part.invariant.place c.loop-part.invariant.wrote c.in_ok-write_at.ensures.done;
       only = only-then Oal c.loop-part.invariant.only (only-written Oal c.loop-part.at part.now c.in_ok-write_at.ensures.done);
+      allowed = c.in_ok-write_at.ensures.test.every c.loop-part.invariant.allowed;
       still = c.in_ok-write_at.ensures.cause.counts.still ∙ c.loop-part.invariant.still;
     })
 

@@ -1,4 +1,4 @@
-use Rattle.std.proofs.Common.{rules}
+use Rattle.std.proofs.Common.{arith, refl, rules}
 use mir.Syntax.{w64}
 use mir.Val.{SFits}
 use Rattle.std.proofs.lemmas.Int.{to_z-of_z}
@@ -9,11 +9,20 @@ use Rattle.small_spec.specs.Inserts.{new_pages}
 use Rattle.small_update.specs.Decision.{Decides}
 use Rattle.small_update.specs.declared.Decision.TheVariants as decision
 use Rattle.rbu_run.specs.Handover.{HasPages, IsAlone, IsMidway}
-use Rattle.rbu_run.proofs.Finishes.{memory-ends, shared-ends, room-ends, present-ends, done-ends, fault-stops}
+use Rattle.rbu_run.proofs.Parts.{on-ok}
+use Rattle.rbu_run.proofs.Finishes.{memory-cause, memory-ends, shared-ends, room-ends, present-ends, done-ends, fault-stops}
 use Rattle.rbu_run.proofs.update.finish.Goals as goal
 
 pub returns-in_err-decide-clause-files : goal.returns-in_err-decide-clause-files
 returns-in_err-decide-clause-files g c = Leads-here (λ f known. memory-ends (pair_of c.args.salt) c.from_residual.result c.from_residual.ensures.1 f)
+
+pub returns-in_err-decide-clause-calls : goal.returns-in_err-decide-clause-calls
+returns-in_err-decide-clause-calls g c = record {
+  later = omega arith;
+  still = on-ok c.from_residual.result refl;
+  cause = memory-cause c.from_residual.result c.from_residual.ensures.1 (g.D.Disk.failures c.args.disk.now);
+  allows = λ all. all;
+}
 
 pub returns-in-SharedKey-clause-files : goal.returns-in-SharedKey-clause-files
 returns-in-SharedKey-clause-files g c =

@@ -3,9 +3,13 @@ mod Copies
 mod Endings
 mod FileReads
 mod Finishes
+mod Handings
 mod Handovers
 mod Inspections
 mod LogWrites
+mod Moments
 mod Numerals
 mod Outcomes
 mod Parts
+mod PhaseCalls
+mod PhaseSteps

@@ -1,6 +1,7 @@
 pub mod View
 pub mod ViewLaws
 pub mod Update
+pub mod Crashes
 pub mod Answer
 pub mod Words
 pub mod Text

@@ -4,6 +4,7 @@
 //!
 //! - `Update`: an update, as the outcome of files and the new database that it makes; and what a call leaves of the files;
 //! - `View`: what a reader of the files sees, the pages of the target overlaid by its log;
+//! - `Crashes`: what a crash while a command runs may leave, and what one at its end;
 //! - `ViewLaws`: those are one list of pages, as `view_is_one` promises;
 //! - `Answer`: which answer the files and words have;
 //! - `Words` and `Text`: the words of each command, and the line of each answer.

@@ -1,18 +1,18 @@
 -- What a crash may leave while the handover goes from phase to phase.
-use Rattle.std.proofs.Common.{◌≡◌, ◌≢◌, ◌⊎◌, ℕ, List, [], length, Option, Some, None, option_map, unwrap_or, IfSome, refl, sym, ap, ◌∙◌, subst, inl, inr, arith}
+use Rattle.std.proofs.Common.{◌≡◌, ◌⊎◌, ℕ, List, [], length, Option, Some, None, option_map, unwrap_or, IfSome, refl, sym, ap, ◌∙◌, subst, inl, inr, arith}
 use Rattle.common_spec.specs.Told.{Leads}
 use Rattle.common_spec.specs.ToldLaws.{Leads-then, Leads-weaken, Leads-known}
 use Rattle.file_spec.specs.declared.FileName.{FileName}
 use Rattle.file_spec.specs.declared.FileName.TheVariants.{Target, Oal, Wal, Journal, Rbu, State, StateTemp}
 use Rattle.file_spec.specs.Files.{Files, content, with_file}
-use Rattle.file_spec.specs.Records.{Stored, MayHold, Names, Record, MayName, IsAmong, HoldsAt, Every, IsImage, IsSound, shown_files, stable}
+use Rattle.file_spec.specs.Records.{Names, Record, MayName, IsAmong, HoldsAt, Every, IsSound, shown_files, stable}
 use Rattle.file_spec.specs.RecordsLaws.{stable-only}
 use Rattle.file_spec.specs.Trails.{Trail, Passes}
 use Rattle.file_spec.specs.TrailsLaws.{Passes-now, Passes-then, Passes-weaken}
 use Rattle.update_spec.specs.Crashes.{HasShownFile}
 use Rattle.rbu_run.specs.Handover.{log_of, IsAlone}
 use Rattle.rbu_run.specs.Crash.{HasFirmNames, LooksAsBefore, IsImageMidway, CrashesMidway}
-use Rattle.rbu_run.specs.Phases.{Named, Building, Between, Logged, HasStable, KeepsBuilding, KeepsBetween, MovesLog, HasMovedLog, KeepsLogged}
+use Rattle.rbu_run.specs.Phases.{Building, Between, Logged, HasStable, KeepsBuilding, KeepsBetween, MovesLog, HasMovedLog, KeepsLogged}
 use Rattle.rbu_run.proofs.Moments.{Leads-both}
 use Rattle.rbu_run.proofs.PhaseSteps.{IsUnlogged, building-whole, building-image, between-image, logged-image, logged-copied}
 
@@ -53,8 +53,8 @@ module _ (r : Record) (starts : Starts r) where
   pub begins : (id : ℕ) → r.names Target ≡ Some id → Building id (r.stored id) r
   begins id is = record {
     named = λ n may.
-    let same : n ≡ r.names = only-shown r starts.firm n may in
-    (ap (λ (m : Names). m Target) same ∙ is, ap (λ (m : Names). m Wal) same ∙ unnamed r Wal starts.alone.no_wal);
+        let same : n ≡ r.names = only-shown r starts.firm n may in
+        (ap (λ (m : Names). m Target) same ∙ is, ap (λ (m : Names). m Wal) same ∙ unnamed r Wal starts.alone.no_wal);
     still = refl;
     apart = λ one. let lost : None ≡ Some id = sym (unnamed r Oal starts.alone.no_oal) ∙ one in absurd (cc);
   }

@@ -1,5 +1,6 @@
 mod Answering
 mod Copies
+mod CrashAnswers
 mod Endings
 mod FileReads
 mod Finishes
@@ -13,3 +14,4 @@ mod Outcomes
 mod Parts
 mod PhaseCalls
 mod PhaseSteps
+mod Survivals

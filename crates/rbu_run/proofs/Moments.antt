@@ -1,5 +1,5 @@
 -- How the moments of a disk go on over the calls of a function.
-use Rattle.std.proofs.Common.{◌≡◌, ◌⊎◌, List, [], ◌∷◌, Option, Some, None, is_some, option_map, Result, Ok, Err, OnOk, IfSome, refl, sym, ap, ◌∙◌, subst, inl, inr}
+use Rattle.std.proofs.Common.{◌≡◌, Option, Some, None, option_map, Result, Ok, Err, OnOk, IfSome, refl, subst}
 use Rattle.common_spec.specs.Told.{Leads}
 use Rattle.common_spec.specs.ToldLaws.{Leads-weaken}
 use Rattle.file_spec.specs.declared.FileName.{FileName}
@@ -7,8 +7,8 @@ use Rattle.file_spec.specs.declared.DiskCall.{DiskCall}
 use Rattle.file_spec.specs.Files.{Files}
 use Rattle.file_spec.specs.Records.{Record, shown_files}
 use Rattle.file_spec.specs.Trails.{Trail, Passes, Adds}
-use Rattle.file_spec.specs.TrailsLaws.{Passes-kept, Adds-passes, Fails-passes, FailsStill-passes}
-use Rattle.file_spec.specs.Steps.{Fails, FailsStill}
+use Rattle.file_spec.specs.TrailsLaws.{Adds-passes, Fails-passes}
+use Rattle.file_spec.specs.Steps.{Fails}
 use Rattle.rbu_disk.specs.declared.disk.Disk.{Ghosts}
 use Rattle.rbu_disk.specs.Call.{LeadsBy}
 
@@ -23,6 +23,12 @@ pub Leads-after : {S : Type 0} {R : S → S → Type 0} {P : S → Type 0} {x y 
 Leads-after {x = x} {y = None} led w = tt
 Leads-after {x = None} {y = Some b} led w = absurd (let e = led.goes_on in cc)
 Leads-after {x = Some a} {y = Some b} led w = w a b led.step
+
+-- a step, and what is known of the state that it leaves
+pub Leads-ending : {S : Type 0} {R : S → S → Type 0} {P : S → Type 0} {x y : Option S} → Leads R x y → IfSome y P → Leads (λ a b. R a b × P b) x y
+Leads-ending {x = None} led p = record { goes_on = led.goes_on; step = tt }
+Leads-ending {x = Some a} {y = None} led p = record { goes_on = led.goes_on; step = tt }
+Leads-ending {x = Some a} {y = Some b} led p = record { goes_on = led.goes_on; step = (led.step, p) }
 
 -- what is said of one part of a state
 pub part-Leads : {S T : Type 0} (part : S → T) (R : T → T → Type 0) (x y : Option S) → Leads R (option_map part x) (option_map part y) → Leads (λ a b. R (part a) (part b)) x y

@@ -1,16 +1,15 @@
 -- What each call of the handover makes of the moments, and how they join.
-use Rattle.std.proofs.Common.{◌≡◌, ℕ, ◌+◌, List, [], length, Option, Some, None, option_map, is_some, Result, IfSome, refl, sym, ap, ◌∙◌, subst, inl, inr}
+use Rattle.std.proofs.Common.{◌≡◌, ℕ, List, length, Option, Some, None, option_map, Result, IfSome, sym, ap, ◌∙◌, subst}
 use Rattle.common_spec.specs.Told.{Leads}
 use Rattle.common_spec.specs.ToldLaws.{Leads-here, Leads-then}
 use Rattle.file_spec.specs.declared.FileName.{FileName}
 use Rattle.file_spec.specs.declared.FileName.TheVariants.{Target, Oal, Wal}
 use Rattle.file_spec.specs.declared.DiskCall.{DiskCall}
 use Rattle.file_spec.specs.declared.DiskCall.TheVariants as call
-use Rattle.file_spec.specs.Files.{Files}
-use Rattle.file_spec.specs.Records.{Stored, MayHold, Record, HoldsAt, IsImage, shown_files, stable}
+use Rattle.file_spec.specs.Records.{Stored, MayHold, Record, HoldsAt, shown_files}
 use Rattle.file_spec.specs.RecordsLaws.{stable-only, settled-images, settled-names}
-use Rattle.file_spec.specs.Trails.{Trail, Passes, Adds}
-use Rattle.file_spec.specs.TrailsLaws.{Passes-none, Passes-kept, Passes-then, Passes-now, Adds-passes, FailsStill-passes}
+use Rattle.file_spec.specs.Trails.{Trail, Adds}
+use Rattle.file_spec.specs.TrailsLaws.{Passes-none, Passes-kept, Adds-passes, FailsStill-passes}
 use Rattle.file_spec.specs.Steps.{Changes, Written, Torn, synced_at, removed_at, renamed_at, folder_synced, AfterCreate, AfterFailedCreate, AfterWrite, AfterFailedWrite, AfterSync, AfterFailedSync, AfterRename, AfterFailedRename, AfterRemove, AfterFailedRemove, AfterFolderSync, AfterFailedFolderSync}
 use Rattle.rbu_disk.specs.Call.{LeadsBy}
 use Rattle.update_spec.specs.Crashes.{HasShownNames, HasShownFile}

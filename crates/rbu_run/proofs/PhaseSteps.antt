@@ -1,12 +1,12 @@
 -- How each call on the disk keeps the phase of the handover, or leads to the next.
-use Rattle.std.proofs.Common.{◌≡◌, ◌≢◌, ◌⊎◌, ℕ, List, Option, Some, None, option_map, refl, sym, ap, ◌∙◌, subst, inl, inr}
+use Rattle.std.proofs.Common.{◌≡◌, ◌⊎◌, ℕ, List, Option, Some, None, option_map, refl, sym, ap, ◌∙◌, subst, inl, inr}
 use Rattle.common_spec.specs.Maps.{set_at}
 use Rattle.file_spec.specs.declared.FileName.{FileName}
 use Rattle.file_spec.specs.declared.FileName.TheVariants.{Target, Oal, Wal}
 use Rattle.file_spec.specs.Files.{Files, is_name}
-use Rattle.file_spec.specs.Records.{Stored, MayHold, Names, Record, MayName, HoldsAt, HoldsAll, IsImage, shown_files, stable}
+use Rattle.file_spec.specs.Records.{Stored, MayHold, Names, Record, HoldsAt, HoldsAll, IsImage, shown_files, stable}
 use Rattle.file_spec.specs.RecordsLaws.{stable-only, stored-here, stored-other}
-use Rattle.file_spec.specs.Steps.{with_stored, with_names, with_new, ChangesAt, Changes, synced_at, removed_at, renamed_at, folder_synced}
+use Rattle.file_spec.specs.Steps.{with_names, with_new, ChangesAt, Changes, synced_at, removed_at, renamed_at, folder_synced}
 use Rattle.rbu_run.specs.Phases.{Named, Building, Between, Logged, HasStable}
 
 -- a sync makes what is shown stable

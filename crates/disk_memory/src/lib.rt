@@ -8,9 +8,13 @@
 mod calls;
 mod disk;
 mod file;
+mod fused;
+mod replay;
 mod sink;
 #[cfg(test)]
 mod tests;
+mod volume;
 
 pub use disk::MemoryDisk;
+pub use fused::FusedDisk;
 pub use sink::MemorySink;

@@ -1,8 +1,8 @@
 -- Each file that is taken off the end goes to its place, so at the end the first of each name stands there.
 use Rattle.std.proofs.Common.{◌∙◌}
-use Rattle.disk_memory.specs.Disk.{files_at}
+use Rattle.disk_memory.specs.Volume.{files_at}
 use Rattle.disk_memory.proofs.Places.{places_step}
-use Rattle.disk_memory.proofs.disk.places_of.Goals as goal
+use Rattle.disk_memory.proofs.volume.places_of.Goals as goal
 
 pub loop-name-preserved : goal.loop-name-preserved
 loop-name-preserved c = λ name.

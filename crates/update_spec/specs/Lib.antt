@@ -2,6 +2,7 @@ pub mod View
 pub mod ViewLaws
 pub mod Update
 pub mod Crashes
+pub mod CrashesLaws
 pub mod Answer
 pub mod Words
 pub mod Text

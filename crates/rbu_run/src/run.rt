@@ -95,11 +95,11 @@ pub fn run_command<D: Disk, O: Sink>(
     // Whatever stopped the call, a reader of the files sees the old database, or all of the new one.
     ensures headline { Goes D.Disk disk result.disk (SeesOldOrNew small_inserts) }
 
-    // Whatever stopped the call, and at whichever moment: where each image at its start shows a reader the old database, each image that a crash
-    // since then may have left shows the old database, or all of the new one.
+    // So does a reader of what a crash at any moment of the call leaves, where each image at its start shows the old one.
     ensures images { GoesOn D.Disk disk result.disk (LeavesOldOrNew small_inserts) }
 
-    // Where the update came to an end, each image has the names that are shown, and the new target where it is done.
+    // Where the update came to its outcome no crash takes it back: each image has the names that are shown, and the
+    // target where the update is done.
     ensures names { AsksUpdate (map string_bytes words.now) → HasEnded result.status → HasNow D.Disk result.disk HasShownNames }
     ensures target { result.status ≡ 0 → HasNow D.Disk result.disk (HasShownFile Target) }
 

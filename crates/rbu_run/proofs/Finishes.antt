@@ -57,7 +57,7 @@ module _ (salt : ℕ × ℕ) (target : List ℕ) (old : List TargetRow) (prepare
     only_decided f target old prepared known (decision.KeyPresent table id) decides,
   )
 
-  alone : (f : Files) → IsSmallWith target old prepared f → IsAlone f
+  pub alone : (f : Files) → IsSmallWith target old prepared f → IsAlone f
   alone f known = record {
     no_oal = none-there (f Oal) (λ there. known.small.alone (inr (inr (inr (inl there)))));
     no_wal = none-there (f Wal) (λ there. known.small.alone (inr (inr (inl there))));
@@ -66,7 +66,7 @@ module _ (salt : ℕ × ℕ) (target : List ℕ) (old : List TargetRow) (prepare
 
   module _ (law : UpdateLeavesSmallTarget) (rows : Vec TargetRow Global) (decides : Decides old prepared (decision.Merged rows)) where
     -- the new database's bytes
-    new_bytes : (f : Files) → IsSmallWith target old prepared f → AreNewBytes f (new_pages target rows.items)
+    pub new_bytes : (f : Files) → IsSmallWith target old prepared f → AreNewBytes f (new_pages target rows.items)
     new_bytes f known = record {
       rows = rows.items;
       new_rows = record { old = old; prepared = prepared; can_insert = can_insert f known decides.0 decides.1; none_present = decides.2; merged = decides.3 };

@@ -1,7 +1,8 @@
+// The locks of an updater and readers.
 ghost use Rattle.std.specs.Prelude.{◌≡◌, true, false, Some};
 ghost use Rattle.lock_steps.specs.declared.locks.Bar.TheVariants.{Pending};
 
-use super::*;
+use lock_steps::{Bar, Holders, LockSteps, Locks, OpenRead};
 use std::process::Abort;
 
 // Begins a read, with this mark or with SHARED, where the reader may; else nothing is done.

@@ -1,5 +1,5 @@
 -- Which answer is right, that there is one, and which pages change.
-use Rattle.std.proofs.Common.{◌≡◌, ◌≢◌, ℕ, ◌+◌, ◌-◌, ◌<◌, ◌≤◌, ◌⊎◌, ◌==◌, ◌/◌, if◌then◌else◌, Bool, List, Option, Some, None, Result, Ok, Err, IfOk, IfErr, length, refl, sym, ap, ◌∙◌, subst, inl, inr, arith}
+use Rattle.std.proofs.Common.{◌≡◌, ◌≢◌, ℕ, ◌-◌, ◌<◌, ◌≤◌, ◌⊎◌, if◌then◌else◌, Bool, List, Option, Some, Result, IfOk, IfErr, length, sym, ap, ◌∙◌, subst, inl, inr, arith}
 use Rattle.std.proofs.Math.Path.{subst⁻¹}
 use Rattle.std.proofs.lemmas.Bool.{ne_eqb, eq-eqb}
 use Rattle.std.proofs.lemmas.Result.{IfOk-weaker, IfErr-weaker}
@@ -9,12 +9,12 @@ use Rattle.format_spec.specs.Header.{freelist_trunk, freelist_pages}
 use Rattle.page_spec.specs.Pages.{Pages, IsInRange, with_page, next_page}
 use Rattle.page_spec.specs.PagesLaws.{with_page-itself, with_page-other}
 use Rattle.page_spec.specs.FreePages.{page_past, KeepsFirstPage}
-use Rattle.page_spec.specs.Freelists.{leaf_count, leaf_at, trunk_limit}
+use Rattle.page_spec.specs.Freelists.{leaf_count, leaf_at}
 use Rattle.free_list.specs.declared.fault.FreeFault.{FreeFault}
 use Rattle.free_list.specs.declared.fault.FreeFault.TheVariants.{TrunkDamaged, TargetFull, Store, Memory}
-use Rattle.free_list.specs.Answers.{IsOther, given_page, IsFull, HasTrunk, IsBadTrunk, IsTrunkFault, IsNext, IsBadTake, IsTakeFault, RefusesNext, CanRelease, RefusesRelease}
+use Rattle.free_list.specs.Answers.{IsOther, given_page, IsFull, HasTrunk, IsBadTrunk, IsTrunkFault, IsNext, IsBadTake, IsTakeFault, RefusesNext}
 use Rattle.free_list.specs.Steps.{ChangesFew}
-use Rattle.free_list.specs.Written.{with_freelist, with_size, without_leaf, TakesFrom, Appends}
+use Rattle.free_list.specs.Written.{with_freelist, without_leaf, TakesFrom, Appends}
 use Rattle.free_list.proofs.Bytes.{first-stays, rest-stays}
 
 full-one : (size count limit : ℕ) (F : Type 0) → IsOne (IsFull {F = F} size count limit)
@@ -75,25 +75,25 @@ module _ (pages : Pages) (size usable count : ℕ) where
     refuses-one limit a b (inr p) (inl q) = absurd (p.0 q.0)
     refuses-one limit a b (inr p) (inr q) = take_fault-one (freelist_trunk (pages 1)) a b p.1 q.1
 
-    not_full : (limit page : ℕ) (fault : FreeFault F) → page ≡ page_past size count → page ≤ limit → ¬ IsFull size count limit fault
-    not_full limit page (TrunkDamaged b) past within full = full
-    not_full limit page (TargetFull b y) past within full = omega (arith, past, within, full.0)
-    not_full limit page (Store b) past within full = full
-    not_full limit page (Memory b) past within full = full
+    past-not_full : (limit page : ℕ) (fault : FreeFault F) → page ≡ page_past size count → page ≤ limit → ¬ IsFull size count limit fault
+    past-not_full limit page (TrunkDamaged b) past within full = full
+    past-not_full limit page (TargetFull b y) past within full = omega (arith, past, within, full.0)
+    past-not_full limit page (Store b) past within full = full
+    past-not_full limit page (Memory b) past within full = full
 
-    not_take_fault : (trunk page : ℕ) (fault : FreeFault F) → HasTrunk pages size usable count trunk → page ≡ given_page trunk (pages trunk) → IsInRange size count page
+    given_page-not_refused : (trunk page : ℕ) (fault : FreeFault F) → HasTrunk pages size usable count trunk → page ≡ given_page trunk (pages trunk) → IsInRange size count page
         → ¬ IsTakeFault pages size usable count trunk fault
-    not_take_fault trunk page (TrunkDamaged b) has it in_range (inl bad) = bad-none trunk b bad has
-    not_take_fault trunk page (TrunkDamaged b) has it in_range (inr out) = out.1 (subst (IsInRange size count) it in_range)
-    not_take_fault trunk page (TargetFull b y) has it in_range bad = bad
-    not_take_fault trunk page (Store b) has it in_range bad = bad
-    not_take_fault trunk page (Memory b) has it in_range bad = bad
+    given_page-not_refused trunk page (TrunkDamaged b) has it in_range (inl bad) = bad-none trunk b bad has
+    given_page-not_refused trunk page (TrunkDamaged b) has it in_range (inr out) = out.1 (subst (IsInRange size count) it in_range)
+    given_page-not_refused trunk page (TargetFull b y) has it in_range bad = bad
+    given_page-not_refused trunk page (Store b) has it in_range bad = bad
+    given_page-not_refused trunk page (Memory b) has it in_range bad = bad
 
     next-not_refused : (limit page : ℕ) (fault : FreeFault F) → IsNext pages size usable count limit page → ¬ RefusesNext pages size usable count limit fault
-    next-not_refused limit page fault (inl p) (inl q) = not_full limit page fault p.1 p.2 q.1
+    next-not_refused limit page fault (inl p) (inl q) = past-not_full limit page fault p.1 p.2 q.1
     next-not_refused limit page fault (inl p) (inr q) = q.0 p.0
     next-not_refused limit page fault (inr p) (inl q) = p.0 q.0
-    next-not_refused limit page fault (inr p) (inr q) = not_take_fault (freelist_trunk (pages 1)) page fault p.1 p.2 p.3 q.1
+    next-not_refused limit page fault (inr p) (inr q) = given_page-not_refused (freelist_trunk (pages 1)) page fault p.1 p.2 p.3 q.1
 
     answer-one : (limit : ℕ) → IsOne (OrFault (IsNext pages size usable count limit) (RefusesNext pages size usable count {F = F} limit))
     answer-one limit = OrFault-one _ _ (next-one limit) (refuses-one limit) (next-not_refused limit)

@@ -1,5 +1,5 @@
 -- What giving a page back makes of a freelist.
-use Rattle.std.proofs.Common.{◌≡◌, ◌≢◌, ℕ, zero, suc, ◌+◌, ◌-◌, ◌*◌, ◌/◌, ◌^◌, ◌<◌, ◌≤◌, List, [], ◌∷◌, ◌++◌, Option, Some, length, get_or, slice_index, refl, sym, ap, ◌∙◌, subst, inl, inr, arith, length-append}
+use Rattle.std.proofs.Common.{◌≡◌, ◌≢◌, ℕ, ◌+◌, ◌-◌, ◌*◌, ◌/◌, ◌^◌, ◌<◌, ◌≤◌, List, [], ◌∷◌, ◌++◌, Option, Some, length, slice_index, refl, sym, ap, ◌∙◌, inl, inr, arith}
 use Rattle.std.proofs.Math.Path.{subst⁻¹}
 use Rattle.std.proofs.lemmas.Bool.{cases_eq, cases_lt}
 use Rattle.std.proofs.lemmas.List.{length_push, get_or_push, get_or_append_left}
@@ -12,18 +12,18 @@ use Rattle.page_spec.specs.Counts.{times}
 use Rattle.page_spec.specs.FreePages.{KeepsFirstPage}
 use Rattle.page_spec.specs.CountsLaws.{times-cons, times-append, times-itself, times-other, distinct-once, once-distinct, few-once}
 use Rattle.page_spec.specs.FreePagesLaws.{slack-more}
-use Rattle.page_spec.specs.Freelists.{Trunk, IsTrunk, AreTrunks, IsFreelist, free_pages, leaf_count, leaf_at, trunk_limit}
+use Rattle.page_spec.specs.Freelists.{Trunk, IsTrunk, AreTrunks, IsFreelist, free_pages, leaf_count, leaf_at}
 use Rattle.page_spec.specs.FreelistsLaws.{times-free_pages, AreTrunks-same, free-in_range}
 use Rattle.page_spec.specs.WrittenChainsLaws.{SameOn}
 use Rattle.free_list.specs.Steps.{Gives}
 use Rattle.free_list.specs.Written.{with_freelist, with_leaf, empty_trunk, one_more_free}
 use Rattle.free_list.proofs.Bytes.{trunk-written, free-written, size-stays, first-stays, count-with, next-with, leaf-with, leaf-before, next-empty, count-empty}
-use Rattle.free_list.proofs.Taking.{length-free_pages, first-fits}
+use Rattle.free_list.proofs.Taking.{length-free_pages}
 
 -- with a page that is not free the free pages still differ
-once-more : (size usable count : ℕ) (m : Pages) (trunks : List Trunk) → IsFreelist m size usable count trunks
+free-once : (size usable count : ℕ) (m : Pages) (trunks : List Trunk) → IsFreelist m size usable count trunks
     → (page : ℕ) → times page (free_pages trunks) ≡ 0 → (n : ℕ) → times n (page ∷ free_pages trunks) ≤ 1
-once-more size usable count m trunks is page not_free n =
+free-once size usable count m trunks is page not_free n =
     elim (cases_eq page n) [
       | inl same ↦
           let none : times n (free_pages trunks) ≡ 0 = ap (λ (x : ℕ). times x (free_pages trunks)) (sym same) ∙ not_free in
@@ -33,10 +33,10 @@ once-more size usable count m trunks is page not_free n =
     ]
 
 -- there is room for one more free page: they differ, and so does the page that is given back
-pub room-for_more : (size usable count : ℕ) (m : Pages) (trunks : List Trunk) → IsFreelist m size usable count trunks
+pub free-room : (size usable count : ℕ) (m : Pages) (trunks : List Trunk) → IsFreelist m size usable count trunks
     → (page : ℕ) → IsInRange size count page → times page (free_pages trunks) ≡ 0 → length (free_pages trunks) + 1 ≤ count
-room-for_more size usable count m trunks is page in_range not_free =
-    let few : length (page ∷ free_pages trunks) ≤ count = few-once (page ∷ free_pages trunks) count (once-more size usable count m trunks is page not_free) within in omega arith
+free-room size usable count m trunks is page in_range not_free =
+    let few : length (page ∷ free_pages trunks) ≤ count = few-once (page ∷ free_pages trunks) count (free-once size usable count m trunks is page not_free) within in omega arith
   where
     within : (n : ℕ) → 0 < times n (page ∷ free_pages trunks) → (0 < n) × (n ≤ count)
     within n some =
@@ -52,13 +52,13 @@ module _ (size usable limit count : ℕ) (m : Pages) (trunks : List Trunk) (is :
     (long : 40 ≤ length (m 1)) (first_fits : freelist_trunk (m 1) < 256 ^ 4) (room : length (free_pages trunks) + 1 < 2 ^ 32)
     (page : ℕ) (page_fits : page < 256 ^ 4) (in_range : IsInRange size count page) (not_free : times page (free_pages trunks) ≡ 0) where
   -- a page is free now, and page 1 says so
-  given : (k : Pages) (told : Option Pages) (first : ℕ) (more : List Trunk) → told ≡ Some k
+  page-given : (k : Pages) (told : Option Pages) (first : ℕ) (more : List Trunk) → told ≡ Some k
       → k 1 ≡ with_freelist first (one_more_free (m 1)) (m 1) → first < 256 ^ 4 → AreTrunks k size usable count first more
       → ((n : ℕ) → times n (free_pages more) ≡ times n (page ∷ free_pages trunks))
       → length (free_pages more) ≡ length (free_pages trunks) + 1
       → ((n : ℕ) → n ≢ 1 → n ≢ page → times n (free_pages trunks) ≡ 0 → k n ≡ m n)
       → Gives size usable limit count m trunks page told
-  given k told first more tells writes fits named balance many others =
+  page-given k told first more tells writes fits named balance many others =
       let free = one_more_free (m 1) in
       let free_is : free ≡ length (free_pages trunks) + 1 = omega (arith, is.many) in
       let free_fits : free < 256 ^ 4 = omega (arith, free_is) in
@@ -69,7 +69,7 @@ module _ (size usable limit count : ℕ) (m : Pages) (trunks : List Trunk) (is :
         freelist = record {
           named = subst⁻¹ (λ (n : ℕ). AreTrunks k size usable count n more) (ap freelist_trunk writes ∙ trunk-written first free (m 1) long fits) named;
           many = ap freelist_pages writes ∙ free-written first free (m 1) long free_fits ∙ omega (arith, free_is, many);
-          differ = once-distinct (free_pages more) (λ n. omega (arith, balance n, once-more size usable count m trunks is page not_free n));
+          differ = once-distinct (free_pages more) (λ n. omega (arith, balance n, free-once size usable count m trunks is page not_free n));
         };
         balance = balance;
         slack_rises = slack-more size count limit (free_pages trunks) (free_pages more) many;
@@ -79,10 +79,10 @@ module _ (size usable limit count : ℕ) (m : Pages) (trunks : List Trunk) (is :
       }
 
   -- the page is the new first trunk
-  pub gives-trunk : (k : Pages) (told : Option Pages) → 8 ≤ size → told ≡ Some k
+  pub given-trunk : (k : Pages) (told : Option Pages) → 8 ≤ size → told ≡ Some k
       → k ≡ with_page (with_page m page (empty_trunk size (freelist_trunk (m 1)))) 1 (with_freelist page (one_more_free (m 1)) (m 1))
       → Gives size usable limit count m trunks page told
-  gives-trunk k told enough tells writes =
+  given-trunk k told enough tells writes =
       let fields = with_freelist page (one_more_free (m 1)) (m 1) in
       let empty = empty_trunk size (freelist_trunk (m 1)) in
       let more = with_page m page empty in
@@ -100,7 +100,7 @@ module _ (size usable limit count : ℕ) (m : Pages) (trunks : List Trunk) (is :
       let rest : AreTrunks k size usable count (next_page (k page)) trunks =
       subst⁻¹ (λ (n : ℕ). AreTrunks k size usable count n trunks) next
       (AreTrunks-same size usable m k count count (freelist_trunk (m 1)) trunks stays (omega arith) is.named) in
-      given k told page (trunk ∷ trunks) tells here page_fits (
+      page-given k told page (trunk ∷ trunks) tells here page_fits (
         refl,
         record { in_range = in_range; counts = none; few = omega arith; names = λ j low. absurd (omega arith); leaves_in_range = All-nil (IsInRange size count) },
         rest,
@@ -110,11 +110,11 @@ module _ (size usable limit count : ℕ) (m : Pages) (trunks : List Trunk) (is :
       (λ n other also free. apart n other also)
 
   -- the page is a leaf page of the first trunk
-  pub gives-leaf : (t : ℕ) (k : Pages) (told : Option Pages) → IsUsable usable → usable ≤ length (m t) → told ≡ Some k → t ≡ freelist_trunk (m 1) → t ≢ 0
+  pub given-leaf : (t : ℕ) (k : Pages) (told : Option Pages) → IsUsable usable → usable ≤ length (m t) → told ≡ Some k → t ≡ freelist_trunk (m 1) → t ≢ 0
       → leaf_count (m t) < usable / 4 - 8
       → k ≡ with_page (with_page m t (with_leaf (leaf_count (m t)) page (m t))) 1 (with_freelist t (one_more_free (m 1)) (m 1))
       → Gives size usable limit count m trunks page told
-  gives-leaf t k told is_usable whole_page tells first some few writes = by trunks is.named (λ ts e. e)
+  given-leaf t k told is_usable whole_page tells first some few writes = by trunks is.named (λ ts e. e)
     where
       by : (all : List Trunk) → AreTrunks m size usable count (freelist_trunk (m 1)) all → ((ts : List Trunk) → all ≡ ts → trunks ≡ ts) → Gives size usable limit count m trunks page told
       by [] named same = absurd (some (first ∙ named))
@@ -169,7 +169,7 @@ module _ (size usable limit count : ℕ) (m : Pages) (trunks : List Trunk) (is :
           let rest : AreTrunks k size usable count (next_page (k trunk.page)) ts =
           subst⁻¹ (λ (n : ℕ). AreTrunks k size usable count n ts) next (AreTrunks-same size usable m k count count (next_page (m trunk.page)) ts stays (omega arith) named.2) in
           let long_all : length (free_pages trunks) ≡ length (free_pages (trunk ∷ ts)) = ap (λ (ts : List Trunk). length (free_pages ts)) whole in
-          given k told t (left ∷ ts) tells here (subst⁻¹ (λ (n : ℕ). n < 256 ^ 4) first first_fits) (at, is_trunk, rest)
+          page-given k told t (left ∷ ts) tells here (subst⁻¹ (λ (n : ℕ). n < 256 ^ 4) first first_fits) (at, is_trunk, rest)
           (λ n. omega (arith, times-cons n page (free_pages trunks), times-free_pages n left ts, times-free_pages n trunk ts, all_times n, times-append n trunk.leaves (page ∷ [])))
           (omega (arith, long_all, length-free_pages trunk ts, length-free_pages left ts, left_long, counts))
           (λ n other also free. apart n other (λ e.

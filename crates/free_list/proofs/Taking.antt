@@ -1,8 +1,6 @@
 -- What taking a page makes of a freelist.
-use Rattle.std.proofs.Common.{◌≡◌, ◌≢◌, ℕ, zero, suc, ◌+◌, ◌-◌, ◌*◌, ◌^◌, ◌<◌, ◌≤◌, ◌⊎◌, List, [], ◌∷◌, ◌++◌, Option, Some, length, take, get_or, slice_index, refl, sym, ap, ap₂, ◌∙◌, subst, inl, inr, arith, length-append}
+use Rattle.std.proofs.Common.{◌≡◌, ◌≢◌, ℕ, ◌+◌, ◌-◌, ◌^◌, ◌<◌, ◌≤◌, List, [], ◌∷◌, ◌++◌, Option, Some, length, take, slice_index, refl, sym, ap, ◌∙◌, subst, inl, inr, arith, length-append}
 use Rattle.std.proofs.Math.Path.{subst⁻¹}
-use Rattle.std.specs.List.{IsDistinct}
-use Rattle.std.proofs.lemmas.Bool.{cases_eq}
 use Rattle.std.proofs.lemmas.List.{nil_from_length, take_more, take_all, length-take, get_or-take}
 use Rattle.std.proofs.lemmas.List.Elements.{All-take}
 use Rattle.format_spec.specs.Header.{freelist_trunk, freelist_pages, pages as pages_field}
@@ -14,10 +12,10 @@ use Rattle.page_spec.specs.FreePages.{due, slack, page_past, KeepsFirstPage}
 use Rattle.page_spec.specs.CountsLaws.{times-cons, times-append, times-itself, distinct-once, once-distinct}
 use Rattle.page_spec.specs.FreePagesLaws.{due-appended, slack-appended, slack-more}
 use Rattle.page_spec.specs.Freelists.{Trunk, IsTrunk, AreTrunks, IsFreelist, free_pages, leaf_count, leaf_at, trunk_limit}
-use Rattle.page_spec.specs.FreelistsLaws.{times-free_pages, IsFreelist-same, AreTrunks-same, free-in_range, first-not_free, free_pages-few}
+use Rattle.page_spec.specs.FreelistsLaws.{times-free_pages, AreTrunks-same, free-in_range, free_pages-few}
 use Rattle.page_spec.specs.WrittenChainsLaws.{SameOn}
 use Rattle.free_list.specs.Steps.{Takes}
-use Rattle.free_list.specs.Written.{with_freelist, with_size, without_leaf, TakesFrom, Appends}
+use Rattle.free_list.specs.Written.{with_freelist, without_leaf, TakesFrom, Appends}
 use Rattle.free_list.proofs.Bytes.{trunk-written, free-written, size-stays, first-stays, size-written, trunk-stays, free-stays, rest-stays, count-without, next-without, leaf-without}
 
 -- how many pages a trunk makes free
@@ -30,20 +28,20 @@ first-fits pages size usable count first [] fits are = omega (arith, are)
 first-fits pages size usable count first (trunk ∷ trunks) fits are = omega (arith, are.0, are.1.in_range.within)
 
 -- where there is no trunk, no page is free
-pub none-free : (m : Pages) (size usable count : ℕ) (trunks : List Trunk) → freelist_trunk (m 1) ≡ 0 → AreTrunks m size usable count (freelist_trunk (m 1)) trunks → trunks ≡ []
-none-free m size usable count [] none named = refl
-none-free m size usable count (trunk ∷ trunks) none named = absurd (omega (arith, none, named.0, named.1.in_range.behind_first))
+pub free-none : (m : Pages) (size usable count : ℕ) (trunks : List Trunk) → freelist_trunk (m 1) ≡ 0 → AreTrunks m size usable count (freelist_trunk (m 1)) trunks → trunks ≡ []
+free-none m size usable count [] none named = refl
+free-none m size usable count (trunk ∷ trunks) none named = absurd (omega (arith, none, named.0, named.1.in_range.behind_first))
 
 module _ (size usable limit count : ℕ) (m : Pages) (trunks : List Trunk) (is : IsFreelist m size usable count trunks)
     (fits : count < 256 ^ 4) (long : 40 ≤ length (m 1)) where
   -- a page of the freelist is no longer free, and page 1 says so
-  freed : (page : ℕ) (k : Pages) (told : Option Pages) (first : ℕ) (left : List Trunk) → told ≡ Some k
+  page-freed : (page : ℕ) (k : Pages) (told : Option Pages) (first : ℕ) (left : List Trunk) → told ≡ Some k
       → k 1 ≡ with_freelist first (freelist_pages (m 1) - 1) (m 1) → first < 256 ^ 4 → AreTrunks k size usable count first left
       → ((n : ℕ) → times n (page ∷ free_pages left) ≡ times n (free_pages trunks))
       → length (free_pages trunks) ≡ length (free_pages left) + 1
       → ((n : ℕ) → n ≢ 1 → times n (free_pages trunks) ≡ 0 → k n ≡ m n)
       → Takes size usable limit count m trunks page told count
-  freed page k told first left tells writes first_fits named balance many others =
+  page-freed page k told first left tells writes first_fits named balance many others =
       let free = freelist_pages (m 1) - 1 in
       let few = free_pages-few m size usable count trunks is in
       let free_fits : free < 256 ^ 4 = omega (arith, is.many, few) in
@@ -65,9 +63,9 @@ module _ (size usable limit count : ℕ) (m : Pages) (trunks : List Trunk) (is :
       }
 
   -- the first trunk is taken, which has no leaf page
-  take-trunk : (page : ℕ) (k : Pages) (told : Option Pages) → told ≡ Some k → page ≡ freelist_trunk (m 1) → page ≢ 0 → leaf_count (m page) ≡ 0
+  taken-trunk : (page : ℕ) (k : Pages) (told : Option Pages) → told ≡ Some k → page ≡ freelist_trunk (m 1) → page ≢ 0 → leaf_count (m page) ≡ 0
       → k ≡ with_page m 1 (with_freelist (next_page (m page)) (freelist_pages (m 1) - 1) (m 1)) → Takes size usable limit count m trunks page told count
-  take-trunk page k told tells first some none writes = by trunks is.named (λ ts e. e)
+  taken-trunk page k told tells first some none writes = by trunks is.named (λ ts e. e)
     where
       here : k 1 ≡ with_freelist (next_page (m page)) (freelist_pages (m 1) - 1) (m 1)
       here = ap (λ (p : Pages). p 1) writes ∙ with_page-itself m 1 (with_freelist (next_page (m page)) (freelist_pages (m 1) - 1) (m 1))
@@ -91,15 +89,15 @@ module _ (size usable limit count : ℕ) (m : Pages) (trunks : List Trunk) (is :
           let stays : SameOn (free_pages ts) m k = λ n free.
           apart n (λ e. let in_range = free-in_range size usable m count (next_page (m page)) ts rest n free in omega (arith, in_range.behind_first, e)) in
           let long_all : length (free_pages trunks) ≡ length (free_pages (trunk ∷ ts)) = ap (λ (ts : List Trunk). length (free_pages ts)) whole in
-          freed page k told (next_page (m page)) ts tells here (first-fits m size usable count (next_page (m page)) ts fits rest)
+          page-freed page k told (next_page (m page)) ts tells here (first-fits m size usable count (next_page (m page)) ts fits rest)
           (AreTrunks-same size usable m k count count (next_page (m page)) ts stays (omega arith) rest)
           counted (omega (arith, long_all, length-free_pages trunk ts, no_leaf)) (λ n other free. apart n other)
 
   -- the last leaf page of the first trunk is taken
-  take-leaf : (t page : ℕ) (k : Pages) (told : Option Pages) → IsUsable usable → usable ≤ length (m t) → told ≡ Some k → t ≡ freelist_trunk (m 1) → t ≢ 0
+  taken-leaf : (t page : ℕ) (k : Pages) (told : Option Pages) → IsUsable usable → usable ≤ length (m t) → told ≡ Some k → t ≡ freelist_trunk (m 1) → t ≢ 0
       → 0 < leaf_count (m t) → page ≡ leaf_at (m t) (leaf_count (m t) - 1)
       → k ≡ with_page (with_page m t (without_leaf (m t))) 1 (with_freelist t (freelist_pages (m 1) - 1) (m 1)) → Takes size usable limit count m trunks page told count
-  take-leaf t page k told is_usable whole_page tells first some leaf_some it writes = by trunks is.named (λ ts e. e)
+  taken-leaf t page k told is_usable whole_page tells first some leaf_some it writes = by trunks is.named (λ ts e. e)
     where
       by : (all : List Trunk) → AreTrunks m size usable count (freelist_trunk (m 1)) all → ((ts : List Trunk) → all ≡ ts → trunks ≡ ts) → Takes size usable limit count m trunks page told count
       by [] named same = absurd (some (first ∙ named))
@@ -155,7 +153,7 @@ module _ (size usable limit count : ℕ) (m : Pages) (trunks : List Trunk) (is :
           let rest : AreTrunks k size usable count (next_page (k trunk.page)) ts =
           subst⁻¹ (λ (n : ℕ). AreTrunks k size usable count n ts) next (AreTrunks-same size usable m k count count (next_page (m trunk.page)) ts stays (omega arith) named.2) in
           let long_all : length (free_pages trunks) ≡ length (free_pages (trunk ∷ ts)) = ap (λ (ts : List Trunk). length (free_pages ts)) whole in
-          freed page k told t (left ∷ ts) tells here (omega (arith, at, named.1.in_range.within)) (at, is_trunk, rest)
+          page-freed page k told t (left ∷ ts) tells here (omega (arith, at, named.1.in_range.within)) (at, is_trunk, rest)
           (λ n. omega (arith, times-cons n page (free_pages (left ∷ ts)), times-free_pages n left ts, times-free_pages n trunk ts, all_times n, leaf_times n))
           (omega (arith, long_all, length-free_pages trunk ts, length-free_pages left ts, front_long, counts, leaf_some))
           (λ n other free. apart n other (λ e.
@@ -163,21 +161,21 @@ module _ (size usable limit count : ℕ) (m : Pages) (trunks : List Trunk) (is :
           omega (arith, free, all_times n, times-free_pages n trunk ts, alone)))
 
   -- a page that the first trunk gives is taken
-  pub takes-from : (t page : ℕ) (k : Pages) (told : Option Pages) → IsUsable usable → usable ≤ size → told ≡ Some k → t ≡ freelist_trunk (m 1) → t ≢ 0
+  pub taken-from : (t page : ℕ) (k : Pages) (told : Option Pages) → IsUsable usable → usable ≤ size → told ≡ Some k → t ≡ freelist_trunk (m 1) → t ≢ 0
       → TakesFrom size usable count t (m 1) page m k → Takes size usable limit count m trunks page told count
-  takes-from t page k told is_usable within tells first some takes =
+  taken-from t page k told is_usable within tells first some takes =
       elim takes.written [
         | inl trunk ↦
-            take-trunk page k told tells (trunk.1 ∙ first) (λ e. some (sym trunk.1 ∙ e)) (ap (λ (n : ℕ). leaf_count (m n)) trunk.1 ∙ trunk.0)
+            taken-trunk page k told tells (trunk.1 ∙ first) (λ e. some (sym trunk.1 ∙ e)) (ap (λ (n : ℕ). leaf_count (m n)) trunk.1 ∙ trunk.0)
             (trunk.2 ∙ ap (λ (n : ℕ). with_page m 1 (with_freelist (next_page (m n)) (freelist_pages (m 1) - 1) (m 1))) (sym trunk.1))
-        | inr leaf ↦ take-leaf t page k told is_usable (omega (arith, takes.long, within)) tells first some leaf.0 leaf.1 leaf.3
+        | inr leaf ↦ taken-leaf t page k told is_usable (omega (arith, takes.long, within)) tells first some leaf.0 leaf.1 leaf.3
       ]
 
   -- the next page past the end is taken
-  pub takes-past : (page : ℕ) (k : Pages) (told : Option Pages) → told ≡ Some k → freelist_trunk (m 1) ≡ 0 → page ≡ page_past size count → page ≤ limit → page < 256 ^ 4
+  pub taken-past : (page : ℕ) (k : Pages) (told : Option Pages) → told ≡ Some k → freelist_trunk (m 1) ≡ 0 → page ≡ page_past size count → page ≤ limit → page < 256 ^ 4
       → 1 ≤ count → Appends count (m 1) page m k → Takes size usable limit count m trunks page told page
-  takes-past page k told tells none past within page_fits some appends =
-      let no_trunk : trunks ≡ [] = none-free m size usable count trunks none is.named in
+  taken-past page k told tells none past within page_fits some appends =
+      let no_trunk : trunks ≡ [] = free-none m size usable count trunks none is.named in
       let no_page : free_pages trunks ≡ [] = ap free_pages no_trunk in
       let empty : IsFreelist m size usable count [] = subst (IsFreelist m size usable count) no_trunk is in
       record {

@@ -117,7 +117,7 @@ pub fn allocate<S: PageWrite>(
     ensures takes { (m : Pages) (trunks : List Trunk) → S.pages store.old ≡ Some m
         → IsFreelist m (S.size store.old) (S.usable store.old) (S.count store.old) trunks
         → IfOk result (λ page. Takes (S.size store.old) (S.usable store.old) limit (S.count store.old) m trunks page (S.pages store.new) (S.count store.new)) }
-    ensures few { (m : Pages) → S.pages store.old ≡ Some m → IfOk result (λ page. ChangesFew (S.count store.old) page m (S.pages store.new)) }
+    ensures changes { (m : Pages) → S.pages store.old ≡ Some m → IfOk result (λ page. ChangesFew (S.count store.old) page m (S.pages store.new)) }
     ensures in_range { IfOk result (IsNumber S.PageRead store.new) }
     ensures count { OnOk result (S.count store.old ≤ S.count store.new) }
     ensures stays { StaysRefused S.PageRead store.old store.new result }

@@ -87,7 +87,7 @@ pub fn release<S: PageWrite>(
     ensures gives { (m : Pages) (trunks : List Trunk) (limit : ℕ) → S.pages store.old ≡ Some m
         → IsFreelist m (S.size store.old) (S.usable store.old) (S.count store.old) trunks → times page (free_pages trunks) ≡ 0
         → OnOk result (Gives (S.size store.old) (S.usable store.old) limit (S.count store.old) m trunks page (S.pages store.new)) }
-    ensures few { (m : Pages) → S.pages store.old ≡ Some m → OnOk result (ChangesFew (S.count store.old) page m (S.pages store.new)) }
+    ensures changes { (m : Pages) → S.pages store.old ≡ Some m → OnOk result (ChangesFew (S.count store.old) page m (S.pages store.new)) }
     ensures count { OnOk result (S.count store.new ≡ S.count store.old) }
     ensures stays { StaysRefused S.PageRead store.old store.new result }
     ensures owes { OwesBy S.PageRead fault_in store.old store.new result }

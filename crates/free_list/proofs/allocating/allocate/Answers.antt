@@ -1,4 +1,4 @@
-use Rattle.std.proofs.Common.{◌≡◌, ◌^◌, ◌<◌, ◌≤◌, ◌⊎◌, ℕ, List, IfOk, IfErr, OnOk, IfSome, length, sym, ap, ◌∙◌, arith}
+use Rattle.std.proofs.Common.{◌≡◌, ◌^◌, ◌<◌, ◌≤◌, ◌⊎◌, IfOk, IfErr, OnOk, IfSome, length, sym, ap, ◌∙◌, arith}
 use Rattle.std.proofs.lemmas.Result.{on_ok_weaker}
 use Rattle.common_spec.specs.Told.{Leads}
 use Rattle.format_spec.specs.Header.{freelist_trunk}
@@ -6,7 +6,7 @@ use Rattle.page_spec.specs.FreePages.{page_past}
 use Rattle.page_store.specs.StoreLaws.{IfSome-told}
 use Rattle.free_list.specs.Answers.{IsOther, IsTakeFault}
 use Rattle.free_list.specs.Written.{Appends, TakesFrom}
-use Rattle.free_list.proofs.Calls.{sizes-stayed, past-takes, past-few, take-takes, take-few, take-answers}
+use Rattle.free_list.proofs.Calls.{sizes-stayed, past-taken, past-few, take-taken, take-few, take-answers}
 use Rattle.free_list.proofs.allocating.allocate.Goals as goal
 
 pub returns-then-trunk-eq0-clause-takes : goal.returns-then-trunk-eq0-clause-takes
@@ -24,13 +24,13 @@ returns-then-trunk-eq0-clause-takes g c =
     let none : freelist_trunk first ≡ 0 = sym c.u32_at-trunk.ensures ∙ c.if-trunk-eq0.true in
     λ m trunks told is.
     let is_first : first ≡ m 1 = IfSome-told (λ p. first ≡ p 1) m told read.pages.pages.answer in
-    past-takes g.row.S-Fault.Denot size usable a.limit count m first is_first c.requires.sizes.usable c.requires.sizes.within long c.append.result found after (g.S.PageRead.count c.append.new.store) (same ∙ told) none (omega (arith, a.limit, c.ranges.limit)) c.requires.some
+    past-taken g.row.S-Fault.Denot size usable a.limit count m first is_first c.requires.sizes.usable c.requires.sizes.within long c.append.result found after (g.S.PageRead.count c.append.new.store) (same ∙ told) none (omega (arith, a.limit, c.ranges.limit)) c.requires.some
     (sizes-stayed (λ s u n. IfOk c.append.result (λ page. (page ≡ page_past s n) × (page ≤ a.limit))) read.owes.stays.size read.owes.stays.usable read.pages.count c.append.ensures.next)
     c.append.ensures.count
     (sizes-stayed (λ s u n. IfOk c.append.result (λ page. Leads (Appends n first page) found after)) read.owes.stays.size read.owes.stays.usable read.pages.count c.append.ensures.pages) trunks is
 
-pub returns-then-trunk-eq0-clause-few : goal.returns-then-trunk-eq0-clause-few
-returns-then-trunk-eq0-clause-few g c =
+pub returns-then-trunk-eq0-clause-changes : goal.returns-then-trunk-eq0-clause-changes
+returns-then-trunk-eq0-clause-changes g c =
     let a = c.args in
     let size = g.S.PageRead.size a.store.now in
     let usable = g.S.PageRead.usable a.store.now in
@@ -81,13 +81,13 @@ returns-clause-takes g c =
     let trunk = c.u32_at-trunk.result in
     λ m trunks told is.
     let is_first : first ≡ m 1 = IfSome-told (λ p. first ≡ p 1) m told read.pages.pages.answer in
-    take-takes g.row.S-Fault.Denot size usable a.limit count m first is_first c.requires.sizes.usable c.requires.sizes.within long trunk c.u32_at-trunk.ensures c.if-trunk-eq0.false c.take.result found after (same ∙ told)
+    take-taken g.row.S-Fault.Denot size usable a.limit count m first is_first c.requires.sizes.usable c.requires.sizes.within long trunk c.u32_at-trunk.ensures c.if-trunk-eq0.false c.take.result found after (same ∙ told)
     (sizes-stayed (λ s u n. IfOk c.take.result (λ page. Leads (TakesFrom s u n trunk first page) found after)) read.owes.stays.size read.owes.stays.usable read.pages.count c.take.ensures.pages)
     (g.S.PageRead.count c.take.new.store) (on_ok_weaker c.take.result (λ e. e ∙ read.pages.count) c.take.ensures.count)
     (sizes-stayed (λ s u n. OnOk c.take.result (n < 2 ^ 32)) read.owes.stays.size read.owes.stays.usable read.pages.count c.take.ensures.fits) trunks is
 
-pub returns-clause-few : goal.returns-clause-few
-returns-clause-few g c =
+pub returns-clause-changes : goal.returns-clause-changes
+returns-clause-changes g c =
     let a = c.args in
     let size = g.S.PageRead.size a.store.now in
     let usable = g.S.PageRead.usable a.store.now in

@@ -1,5 +1,5 @@
 use Rattle.std.proofs.lemmas.Option.{IfSome_then}
-use Rattle.overflow_chain.proofs.Walks.{pages_stopped, reads_chain}
+use Rattle.overflow_chain.proofs.Walks.{numbers-stopped, numbers-read}
 use Rattle.overflow_chain.proofs.reading.chain_pages.Goals as goal
 
 pub returns-in-Ok-clause-pages : goal.returns-in-Ok-clause-pages
@@ -10,7 +10,7 @@ returns-in-Ok-clause-pages g c =
       same = walk.same;
       count = walk.count;
       answer = IfSome_then (g.S.PageRead.pages a.store.now) walk.answer (λ m walks.
-          reads_chain (g.S.PageRead.size a.store.now) (g.S.PageRead.usable a.store.now) (g.S.PageRead.count a.store.now) a.first a.length m g.row.S-Fault.Denot
+          numbers-read (g.S.PageRead.size a.store.now) (g.S.PageRead.usable a.store.now) (g.S.PageRead.count a.store.now) a.first a.length m g.row.S-Fault.Denot
           c.new-numbers.result.items c.walk.new.keeper.items c.new-numbers.ensures.items walks);
     }
 
@@ -22,6 +22,6 @@ returns-in-Err-clause-pages g c =
       same = walk.same;
       count = walk.count;
       answer = IfSome_then (g.S.PageRead.pages a.store.now) walk.answer (λ m walks.
-          pages_stopped (g.S.PageRead.size a.store.now) (g.S.PageRead.usable a.store.now) (g.S.PageRead.count a.store.now) a.first a.length m g.row.S-Fault.Denot
+          numbers-stopped (g.S.PageRead.size a.store.now) (g.S.PageRead.usable a.store.now) (g.S.PageRead.count a.store.now) a.first a.length m g.row.S-Fault.Denot
           c.in-Err.fault walks);
     }

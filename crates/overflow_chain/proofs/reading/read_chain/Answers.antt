@@ -1,5 +1,5 @@
 use Rattle.std.proofs.lemmas.Option.{IfSome_then}
-use Rattle.overflow_chain.proofs.Walks.{bytes_stopped, reads_bytes}
+use Rattle.overflow_chain.proofs.Walks.{bytes-stopped, bytes-read}
 use Rattle.overflow_chain.proofs.reading.read_chain.Goals as goal
 
 pub returns-in-Ok-clause-pages : goal.returns-in-Ok-clause-pages
@@ -10,7 +10,7 @@ returns-in-Ok-clause-pages g c =
       same = walk.same;
       count = walk.count;
       answer = IfSome_then (g.S.PageRead.pages a.store.now) walk.answer (λ m walks.
-          reads_bytes (g.S.PageRead.size a.store.now) (g.S.PageRead.usable a.store.now) (g.S.PageRead.count a.store.now) a.first a.length m g.row.S-Fault.Denot
+          bytes-read (g.S.PageRead.size a.store.now) (g.S.PageRead.usable a.store.now) (g.S.PageRead.count a.store.now) a.first a.length m g.row.S-Fault.Denot
           c.in_ok-bytes.bytes.items c.walk.new.keeper.items c.truncate.new.self.items c.in_ok-bytes.ensures c.truncate.ensures.items walks);
     }
 
@@ -22,6 +22,6 @@ returns-in-Err-clause-pages g c =
       same = walk.same;
       count = walk.count;
       answer = IfSome_then (g.S.PageRead.pages a.store.now) walk.answer (λ m walks.
-          bytes_stopped (g.S.PageRead.size a.store.now) (g.S.PageRead.usable a.store.now) (g.S.PageRead.count a.store.now) a.first a.length m g.row.S-Fault.Denot
+          bytes-stopped (g.S.PageRead.size a.store.now) (g.S.PageRead.usable a.store.now) (g.S.PageRead.count a.store.now) a.first a.length m g.row.S-Fault.Denot
           c.in-Err.fault walks);
     }

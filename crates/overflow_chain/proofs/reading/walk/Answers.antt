@@ -1,9 +1,9 @@
-use Rattle.std.proofs.Common.{◌≡◌, ◌≢◌, ◌+◌, ◌<◌, ℕ, List, ◌++◌, length, refl, sym, ap, ◌∙◌, subst, inl, inr, arith}
+use Rattle.std.proofs.Common.{◌≡◌, ◌<◌, ℕ, ◌++◌, length, refl, ap, ◌∙◌, subst, inl, inr, arith}
 use Rattle.std.proofs.lemmas.Option.{IfSome_then}
 use Rattle.common_spec.specs.ToldLaws.{told-both}
-use Rattle.page_spec.specs.Pages.{Pages, IsInRange}
+use Rattle.page_spec.specs.Pages.{IsInRange}
 use Rattle.page_spec.specs.Chains.{pages_for}
-use Rattle.overflow_chain.proofs.Walks.{HasWalked, one_further, nothing_walked, walks_all, walks_broken}
+use Rattle.overflow_chain.proofs.Walks.{walked-more, walked-none, walked-all, walked-broken}
 use Rattle.overflow_chain.proofs.reading.walk.Goals as goal
 
 pub loop-preserved : goal.loop-preserved
@@ -30,7 +30,7 @@ loop-preserved g c =
       same = looks.pages.same ∙ inv.same;
       whole = c.follow.auto.page ∙ inv.whole;
       walked = told-both (g.S.PageRead.pages c.args.store.now) inv.same inv.walked looks.pages.answer (λ m walked found.
-          one_further size count c.args.first c.loop.counter (g.K.Keeper.part usable) (g.K.Keeper.kept c.args.keeper.now) kept number c.loop.holder m walked
+          walked-more size count c.args.first c.loop.counter (g.K.Keeper.part usable) (g.K.Keeper.kept c.args.keeper.now) kept number c.loop.holder m walked
           (g.K.Keeper.kept c.keep.new.self) c.in-Ok.next c.follow.new.page in_range found.0 found.1 more);
     }
 
@@ -41,7 +41,7 @@ loop-init g c = record {
   count = refl;
   same = refl;
   whole = ap length c.as_mut_slice-page.ensures.value ∙ c.in_ok-buffer.ensures ∙ c.page_size.ensures;
-  walked = nothing_walked (g.S.PageRead.size c.args.store.now) (g.S.PageRead.count c.args.store.now) c.args.first
+  walked = walked-none (g.S.PageRead.size c.args.store.now) (g.S.PageRead.count c.args.store.now) c.args.first
       (g.K.Keeper.part (g.S.PageRead.usable c.args.store.now)) (g.K.Keeper.kept c.args.keeper.now) (g.S.PageRead.pages c.args.store.now);
 }
 
@@ -63,7 +63,7 @@ returns-then-not-is_in_range-clause-pages g c =
       same = inv.same;
       count = inv.count;
       answer = IfSome_then (g.S.PageRead.pages c.args.store.now) inv.walked (λ m walked.
-          walks_broken size count c.args.first c.loop.counter (g.K.Keeper.part usable) (g.K.Keeper.kept c.args.keeper.now) (g.K.Keeper.kept c.loop.keeper) c.loop.number c.loop.holder m walked
+          walked-broken size count c.args.first c.loop.counter (g.K.Keeper.part usable) (g.K.Keeper.kept c.args.keeper.now) (g.K.Keeper.kept c.loop.keeper) c.loop.number c.loop.holder m walked
           g.row.S-Fault.Denot usable c.args.length c.from.result c.from.ensures (inl (less, out)));
     }
 
@@ -79,7 +79,7 @@ returns-then-number-ne0-clause-pages g c =
       same = inv.same;
       count = inv.count;
       answer = IfSome_then (g.S.PageRead.pages c.args.store.now) inv.walked (λ m walked.
-          walks_broken size count c.args.first c.loop.counter (g.K.Keeper.part usable) (g.K.Keeper.kept c.args.keeper.now) (g.K.Keeper.kept c.loop.keeper) c.loop.number c.loop.holder m walked
+          walked-broken size count c.args.first c.loop.counter (g.K.Keeper.part usable) (g.K.Keeper.kept c.args.keeper.now) (g.K.Keeper.kept c.loop.keeper) c.loop.number c.loop.holder m walked
           g.row.S-Fault.Denot usable c.args.length c.from-then-number-ne0.result c.from-then-number-ne0.ensures (inr (all, c.if-number-ne0.true)));
     }
 
@@ -95,6 +95,6 @@ returns-clause-pages g c =
       same = inv.same;
       count = inv.count;
       answer = IfSome_then (g.S.PageRead.pages c.args.store.now) inv.walked (λ m walked.
-          walks_all size count c.args.first c.loop.counter (g.K.Keeper.part usable) (g.K.Keeper.kept c.args.keeper.now) (g.K.Keeper.kept c.loop.keeper) c.loop.number c.loop.holder m walked
+          walked-all size count c.args.first c.loop.counter (g.K.Keeper.part usable) (g.K.Keeper.kept c.args.keeper.now) (g.K.Keeper.kept c.loop.keeper) c.loop.number c.loop.holder m walked
           g.row.S-Fault.Denot usable c.args.length all c.if-number-ne0.false);
     }

@@ -1,4 +1,4 @@
-use Rattle.std.proofs.Common.{◌≡◌, ◌^◌, ◌<◌, ℕ}
+use Rattle.std.proofs.Common.{◌^◌, ◌<◌}
 use Rattle.std.proofs.lemmas.List.Elements.{All-from_get_or, recursion_from_All}
 use Rattle.std.proofs.lemmas.Result.{on_ok_weaker}
 use Rattle.page_spec.specs.Pages.{IsInRange}

@@ -1,4 +1,4 @@
-use Rattle.std.proofs.Common.{◌≡◌, ◌-◌, ◌<◌, ◌≤◌, ℕ, List, length, take, drop, min, refl, sym, ap, ◌∙◌, arith}
+use Rattle.std.proofs.Common.{◌≡◌, ◌-◌, ◌<◌, ◌≤◌, ℕ, List, length, take, drop, min, refl, ap, ◌∙◌, arith}
 use Rattle.std.proofs.Math.Path.{subst⁻¹}
 use Rattle.page_spec.specs.Counts.{times}
 use Rattle.std.proofs.lemmas.List.{length-take-le, take_rest}
@@ -6,7 +6,7 @@ use Rattle.std.proofs.lemmas.List.Elements.{All-drop, All-same}
 use Rattle.common_spec.specs.ToldLaws.{Leads-here, Leads-then}
 use Rattle.page_spec.specs.CountsLaws.{distinct-once}
 use Rattle.page_spec.specs.WrittenChains.{overflow_page, first_of}
-use Rattle.overflow_chain.proofs.Writes.{nothing_written, front_written, many-left, once-left}
+use Rattle.overflow_chain.proofs.Writes.{written-none, written-front, left-many, left-once}
 use Rattle.overflow_chain.proofs.writing.write_over.Goals as goal
 
 pub loop-left-init : goal.loop-left-init
@@ -18,7 +18,7 @@ loop-left-init g c = record {
   many = c.requires.many;
   once = distinct-once c.args.pages.now c.requires.differ;
   within = c.requires.within;
-  pages = Leads-here (nothing_written (g.S.PageRead.size c.args.store.now) (g.S.PageRead.usable c.args.store.now) c.args.pages.now c.args.bytes.now);
+  pages = Leads-here (written-none (g.S.PageRead.size c.args.store.now) (g.S.PageRead.usable c.args.store.now) c.args.pages.now c.args.bytes.now);
 }
 
 pub loop-left-preserved : goal.loop-left-preserved
@@ -43,9 +43,9 @@ loop-left-preserved g c =
       faults = wrote.cause.still ∙ inv.faults;
       count = wrote.count ∙ inv.count;
       whole = c.fill.auto.page ∙ inv.whole;
-      many = ap length split ∙ many-left usable left rest c.split_at.result.1.now c.requires.sizes.usable.least some behind inv.many;
-      once = λ n. subst⁻¹ (λ (ns : List ℕ). times n ns ≤ 1) split (once-left left inv.once n);
+      many = ap length split ∙ left-many usable left rest c.split_at.result.1.now c.requires.sizes.usable.least some behind inv.many;
+      once = λ n. subst⁻¹ (λ (ns : List ℕ). times n ns ≤ 1) split (left-once left inv.once n);
       within = All-same (λ n. (2 ≤ n) × (n ≤ g.S.PageRead.count c.args.store.now)) others (drop 1 left) split (All-drop (λ n. (2 ≤ n) × (n ≤ g.S.PageRead.count c.args.store.now)) 1 left inv.within);
       pages = Leads-then inv.pages wrote.pages (λ old now next has writes.
-          front_written size usable c.args.pages.now c.args.bytes.now left others rest c.split_at.result.0.now c.split_at.result.1.now c.fill.new.page old now next some split inv.once here behind page writes has);
+          written-front size usable c.args.pages.now c.args.bytes.now left others rest c.split_at.result.0.now c.split_at.result.1.now c.fill.new.page old now next some split inv.once here behind page writes has);
     }

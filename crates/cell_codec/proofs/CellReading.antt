@@ -23,16 +23,16 @@ use Rattle.cell_codec.specs.declared.cell.CellFault.TheVariants.{ShortCell, Size
 abbrev pub BeginsWithNone : List ℕ → Type 0
 BeginsWithNone bytes = (value n : ℕ) → n ≤ length bytes → IsVarint (take n bytes) value → ⊥
 
-pub begins_with_none : (bytes : List ℕ) (r : Option (ℕ × ℕ)) → r ≡ None → Reads (OrNone (BeginsWithVarint bytes)) r → BeginsWithNone bytes
-begins_with_none bytes r e reads value n h v = none-some (value, n) (sym e ∙ reads.only (Some (value, n)) (h, v))
+pub BeginsWithNone-read : (bytes : List ℕ) (r : Option (ℕ × ℕ)) → r ≡ None → Reads (OrNone (BeginsWithVarint bytes)) r → BeginsWithNone bytes
+BeginsWithNone-read bytes r e reads value n h v = none-some (value, n) (sym e ∙ reads.only (Some (value, n)) (h, v))
 
 -- nor with a length that a payload can have
 abbrev pub BeginsWithNoLength : List ℕ → Type 0
 BeginsWithNoLength bytes = (value n : ℕ) → n ≤ length bytes → IsVarint (take n bytes) value → value ≤ payload_limit → ⊥
 
-pub begins_with_no_length : (bytes : List ℕ) (r : Result (ℕ × ℕ) CellFault) (x : CellFault) → r ≡ Err x
+pub BeginsWithNoLength-read : (bytes : List ℕ) (r : Result (ℕ × ℕ) CellFault) (x : CellFault) → r ≡ Err x
     → ((value n : ℕ) → n ≤ length bytes → IsVarint (take n bytes) value → value ≤ payload_limit → r ≡ Ok (value, n)) → BeginsWithNoLength bytes
-begins_with_no_length bytes r x e only value n h v l = let f : r ≡ Ok (value, n) = only value n h v l in absurd (cc)
+BeginsWithNoLength-read bytes r x e only value n h v l = let f : r ≡ Ok (value, n) = only value n h v l in absurd (cc)
 
 -- the bytes begin with this number, in so many bytes
 pub record VarintIs (bytes : List ℕ) (value size : ℕ) : Type 0 where
@@ -40,39 +40,39 @@ pub record VarintIs (bytes : List ℕ) (value size : ℕ) : Type 0 where
   pub spelled : IsVarint (take size bytes) value
 
 -- what was read behind n bytes
-pub varint_is : (bytes rest : List ℕ) (n : ℕ) (r : Option (ℕ × ℕ)) (value size : ℕ) → rest ≡ drop n bytes → r ≡ Some (value, size) → Reads (OrNone (BeginsWithVarint rest)) r
+pub VarintIs-read : (bytes rest : List ℕ) (n : ℕ) (r : Option (ℕ × ℕ)) (value size : ℕ) → rest ≡ drop n bytes → r ≡ Some (value, size) → Reads (OrNone (BeginsWithVarint rest)) r
     → VarintIs (drop n bytes) value size
-varint_is bytes rest n r value size s e h =
+VarintIs-read bytes rest n r value size s e h =
     let f : BeginsWithVarint rest (value, size) = subst (OrNone (BeginsWithVarint rest)) e h.holds in
     record { within = subst (λ t. size ≤ length t) s f.0; spelled = subst (λ t. IsVarint (take size t) value) s f.1 }
 
-pub varint_at : (bytes rest : List ℕ) (n value size : ℕ) → rest ≡ drop n bytes → size ≤ length rest → IsVarint (take size rest) value → VarintIs (drop n bytes) value size
-varint_at bytes rest n value size s h v = record { within = subst (λ t. size ≤ length t) s h; spelled = subst (λ t. IsVarint (take size t) value) s v }
+pub VarintIs-behind : (bytes rest : List ℕ) (n value size : ℕ) → rest ≡ drop n bytes → size ≤ length rest → IsVarint (take size rest) value → VarintIs (drop n bytes) value size
+VarintIs-behind bytes rest n value size s h v = record { within = subst (λ t. size ≤ length t) s h; spelled = subst (λ t. IsVarint (take size t) value) s v }
 
 -- the part that was read
-pub part_is : (P : LocalPart → Type 0) (r : Option LocalPart) (part : LocalPart) → r ≡ Some part → IfSome r P → P part
-part_is P r part e h = subst (λ (o : Option LocalPart). IfSome o P) e h
+pub part-some : (P : LocalPart → Type 0) (r : Option LocalPart) (part : LocalPart) → r ≡ Some part → IfSome r P → P part
+part-some P r part e h = subst (λ (o : Option LocalPart). IfSome o P) e h
 
 -- what is said of none that was read
-pub none_is : (Q : Type 0) (r : Option LocalPart) → r ≡ None → (IsNone r ↔ Q) → Q
-none_is Q r e h = h.0 (rw e refl)
+pub part-none : (Q : Type 0) (r : Option LocalPart) → r ≡ None → (IsNone r ↔ Q) → Q
+part-none Q r e h = h.0 (rw e refl)
 
 -- a local part's own parts
-pub part_whole : (kind : PageKind) (usable payload : ℕ) (bytes : List ℕ) (part : LocalPart) → IsLocalPart kind usable payload bytes part
+pub part-whole : (kind : PageKind) (usable payload : ℕ) (bytes : List ℕ) (part : LocalPart) → IsLocalPart kind usable payload bytes part
     → take part.size bytes ≡ take part.local bytes ++ take (overflow_size part.local payload) (drop part.local bytes)
-part_whole kind usable payload bytes part h = ap (λ k. take k bytes) h.size ∙ take-add part.local (overflow_size part.local payload) bytes
+part-whole kind usable payload bytes part h = ap (λ k. take k bytes) h.size ∙ take-add part.local (overflow_size part.local payload) bytes
 
-pub part_local_length : (kind : PageKind) (usable payload : ℕ) (bytes : List ℕ) (part : LocalPart) → IsLocalPart kind usable payload bytes part → length (take part.local bytes) ≡ part.local
-part_local_length kind usable payload bytes part h = length-take-le part.local bytes (omega (arith, h.size, h.within))
+pub part-local_length : (kind : PageKind) (usable payload : ℕ) (bytes : List ℕ) (part : LocalPart) → IsLocalPart kind usable payload bytes part → length (take part.local bytes) ≡ part.local
+part-local_length kind usable payload bytes part h = length-take-le part.local bytes (omega (arith, h.size, h.within))
 
-pub part_overflow_length : (kind : PageKind) (usable payload : ℕ) (bytes : List ℕ) (part : LocalPart) → IsLocalPart kind usable payload bytes part
+pub part-overflow_length : (kind : PageKind) (usable payload : ℕ) (bytes : List ℕ) (part : LocalPart) → IsLocalPart kind usable payload bytes part
     → length (take (overflow_size part.local payload) (drop part.local bytes)) ≡ overflow_size part.local payload
-part_overflow_length kind usable payload bytes part h =
+part-overflow_length kind usable payload bytes part h =
     length-take-le (overflow_size part.local payload) (drop part.local bytes) (omega (arith, h.size, h.within, length-drop part.local bytes))
 
 -- where a part was not read the cell is short, and not over the limit
-pub not_short_and_over : {A : Type 0} (r : Result CellView CellFault) (x y : CellFault) (o : Option A) → r ≡ Err x → x ≡ y → ◌≡◌ {A = Result A CellFault} (Err y) (ok_or o ShortCell) → o ≡ None → r ≡ Err SizeOverLimit → ⊥
-not_short_and_over {A} r x y o e f g h over =
+pub short-not_over_limit : {A : Type 0} (r : Result CellView CellFault) (x y : CellFault) (o : Option A) → r ≡ Err x → x ≡ y → ◌≡◌ {A = Result A CellFault} (Err y) (ok_or o ShortCell) → o ≡ None → r ≡ Err SizeOverLimit → ⊥
+short-not_over_limit {A} r x y o e f g h over =
     let k : ◌≡◌ {A = Result A CellFault} (Err y) (Err ShortCell) = g ∙ ap (λ (t : Option A). ok_or t ShortCell) h in
     let short : r ≡ Err ShortCell = cc in
     absurd (cc)
@@ -89,8 +89,8 @@ record HasHead (usable : ℕ) (bytes : List ℕ) (cell : CellView) : Type 0 wher
   local : cell.local ≡ local_size TableLeaf usable cell.payload
   within : cell.size ≤ length bytes
 
-head_of : (usable : ℕ) (bytes : List ℕ) (cell : CellView) → BeginsWithCell TableLeaf usable bytes cell → HasHead usable bytes cell
-head_of usable bytes cell h =
+cell-head : (usable : ℕ) (bytes : List ℕ) (cell : CellView) → BeginsWithCell TableLeaf usable bytes cell → HasHead usable bytes cell
+cell-head usable bytes cell h =
     let v : IsTableLeafCell usable (take cell.size bytes) cell = h.1 in
     let p = v.payload_bytes in
     let q = v.rowid_bytes in
@@ -119,46 +119,46 @@ head_of usable bytes cell h =
       within = h.0;
     }
 
-pub same_varint_front : (bytes : List ℕ) (m n i j : ℕ) → VarintIs bytes m i → VarintIs bytes n j → (m ≡ n) × (i ≡ j)
-same_varint_front bytes m n i j v w = varint-same_front bytes i j m n v.within w.within v.spelled w.spelled
+pub VarintIs-same : (bytes : List ℕ) (m n i j : ℕ) → VarintIs bytes m i → VarintIs bytes n j → (m ≡ n) × (i ≡ j)
+VarintIs-same bytes m n i j v w = varint-same_front bytes i j m n v.within w.within v.spelled w.spelled
 
 -- bytes with no payload's length
-pub no_payload : (usable : ℕ) (bytes : List ℕ) → BeginsWithNoLength bytes → (cell : CellView) → BeginsWithCell TableLeaf usable bytes cell → ⊥
-no_payload usable bytes none cell h =
-    let head = head_of usable bytes cell h in
+pub cell-needs_length : (usable : ℕ) (bytes : List ℕ) → BeginsWithNoLength bytes → (cell : CellView) → BeginsWithCell TableLeaf usable bytes cell → ⊥
+cell-needs_length usable bytes none cell h =
+    let head = cell-head usable bytes cell h in
     none cell.payload head.rowid_at head.payload.within head.payload.spelled head.limit
 
 -- bytes with a payload within it
-pub not_over : (bytes : List ℕ) (payload i : ℕ) → VarintIs bytes payload i → payload ≤ payload_limit → BeginsWithLengthOver bytes → ⊥
-not_over bytes payload i v limit h =
+pub length-not_over : (bytes : List ℕ) (payload i : ℕ) → VarintIs bytes payload i → payload ≤ payload_limit → BeginsWithLengthOver bytes → ⊥
+length-not_over bytes payload i v limit h =
     omega (arith, h.4, varint-same_front bytes i h.1 payload h.0 v.within h.2 v.spelled h.3)
 
 -- bytes with no rowid
-pub no_rowid : (usable : ℕ) (bytes : List ℕ) (payload i : ℕ) → VarintIs bytes payload i → BeginsWithNone (drop i bytes) → (cell : CellView) → BeginsWithCell TableLeaf usable bytes cell → ⊥
-no_rowid usable bytes payload i v none cell h =
-    let head = head_of usable bytes cell h in
-    let same : head.rowid_at ≡ i = sym (same_varint_front bytes payload cell.payload i head.rowid_at v head.payload).1 in
+pub cell-needs_rowid : (usable : ℕ) (bytes : List ℕ) (payload i : ℕ) → VarintIs bytes payload i → BeginsWithNone (drop i bytes) → (cell : CellView) → BeginsWithCell TableLeaf usable bytes cell → ⊥
+cell-needs_rowid usable bytes payload i v none cell h =
+    let head = cell-head usable bytes cell h in
+    let same : head.rowid_at ≡ i = sym (VarintIs-same bytes payload cell.payload i head.rowid_at v head.payload).1 in
     let rowid = subst (λ k. VarintIs (drop k bytes) head.number head.rowid_length) same head.rowid in
     none head.number head.rowid_length rowid.within rowid.spelled
 
 -- bytes that end before their cell
-pub too_short : (usable : ℕ) (bytes : List ℕ) (payload i number j : ℕ) → VarintIs bytes payload i → VarintIs (drop i bytes) number j
+pub cell-too_short : (usable : ℕ) (bytes : List ℕ) (payload i number j : ℕ) → VarintIs bytes payload i → VarintIs (drop i bytes) number j
     → length (drop (i + j) bytes) < part_size TableLeaf usable payload → (cell : CellView) → BeginsWithCell TableLeaf usable bytes cell → ⊥
-too_short usable bytes payload i number j v w short cell h =
-    let head = head_of usable bytes cell h in
-    let payloads = same_varint_front bytes payload cell.payload i head.rowid_at v head.payload in
+cell-too_short usable bytes payload i number j v w short cell h =
+    let head = cell-head usable bytes cell h in
+    let payloads = VarintIs-same bytes payload cell.payload i head.rowid_at v head.payload in
     let same : head.rowid_at ≡ i = sym payloads.1 in
     let rowid = subst (λ k. VarintIs (drop k bytes) head.number head.rowid_length) same head.rowid in
-    let rowids = same_varint_front (drop i bytes) number head.number j head.rowid_length w rowid in
+    let rowids = VarintIs-same (drop i bytes) number head.number j head.rowid_length w rowid in
     let part : cell.local + overflow_size cell.local cell.payload ≡ part_size TableLeaf usable payload =
     ap (λ k. k + overflow_size k cell.payload) head.local ∙ ap (part_size TableLeaf usable) (sym payloads.0) in
     omega (arith, head.size, head.within, rowids.1, same, part, short, length-drop (i + j) bytes)
 
 -- bytes that have all of their cell
-pub cell_read : (usable : ℕ) (bytes : List ℕ) (payload i number j : ℕ) (rowid : ℤ) (part : LocalPart) → VarintIs bytes payload i → VarintIs (drop i bytes) number j
+pub cell-read : (usable : ℕ) (bytes : List ℕ) (payload i number j : ℕ) (rowid : ℤ) (part : LocalPart) → VarintIs bytes payload i → VarintIs (drop i bytes) number j
     → payload ≤ payload_limit → rowid ≡ cast_signed w64 number → IsLocalPart TableLeaf usable payload (drop (i + j) bytes) part
     → BeginsWithCell TableLeaf usable bytes (record { size = i + j + part.size; rowid = rowid; child = 0; payload = payload; local_at = i + j; local = part.local; overflow = part.overflow })
-cell_read usable bytes payload i number j rowid part v w limit e h =
+cell-read usable bytes payload i number j rowid part v w limit e h =
     let n = overflow_size part.local payload in
     let behind = drop (i + j) bytes in
     let size = i + j + part.size in
@@ -168,10 +168,10 @@ cell_read usable bytes payload i number j rowid part v w limit e h =
     ∙ take-add i (j + part.size) bytes
     ∙ ap (λ s. take i bytes ++ s) (take-add j part.size (drop i bytes))
     ∙ ap (λ s. take i bytes ++ (take j (drop i bytes) ++ take part.size s)) (drop-drop j i bytes)
-    ∙ ap (λ s. take i bytes ++ (take j (drop i bytes) ++ s)) (part_whole TableLeaf usable payload behind part h) in
+    ∙ ap (λ s. take i bytes ++ (take j (drop i bytes) ++ s)) (part-whole TableLeaf usable payload behind part h) in
     let first_length : length (take i bytes) ≡ i = length-take-le i bytes v.within in
     let second_length : length (take j (drop i bytes)) ≡ j = length-take-le j (drop i bytes) w.within in
-    let overflow_length = part_overflow_length TableLeaf usable payload behind part h in (
+    let overflow_length = part-overflow_length TableLeaf usable payload behind part h in (
       within,
       record {
         payload_bytes = take i bytes;
@@ -186,7 +186,7 @@ cell_read usable bytes payload i number j rowid part v w limit e h =
         rowid = e;
         local_at = omega (arith, first_length, second_length);
         local = h.local;
-        local_length = part_local_length TableLeaf usable payload behind part h;
+        local_length = part-local_length TableLeaf usable payload behind part h;
         overflow_length = overflow_length;
         overflow = h.overflow ∙ ap (λ k. big_number k (take n (drop part.local behind))) (sym overflow_length);
         child = refl;

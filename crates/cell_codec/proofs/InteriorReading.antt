@@ -14,13 +14,13 @@ abbrev pub BeginsWithInterior : List ℕ → CellView → Type 0
 BeginsWithInterior bytes cell = (cell.size ≤ length bytes) × IsTableInteriorCell (take cell.size bytes) cell
 
 -- bytes begin with one cell at most
-pub same_first_interior : (bytes : List ℕ) (c d : CellView) → BeginsWithInterior bytes c → BeginsWithInterior bytes d → c ≡ d
-same_first_interior bytes c d v w =
+pub interior_cell-same_first : (bytes : List ℕ) (c d : CellView) → BeginsWithInterior bytes c → BeginsWithInterior bytes d → c ≡ d
+interior_cell-same_first bytes c d v w =
     (table_interior_cell-same (drop c.size bytes) (drop d.size bytes) v.1 w.1 (take-append-drop c.size bytes ∙ sym (take-append-drop d.size bytes))).1
 
 -- bytes with no rowid behind the child
-pub no_interior_rowid : (bytes : List ℕ) → BeginsWithNone (drop 4 bytes) → (cell : CellView) → BeginsWithInterior bytes cell → ⊥
-no_interior_rowid bytes none cell h =
+pub interior_cell-needs_rowid : (bytes : List ℕ) → BeginsWithNone (drop 4 bytes) → (cell : CellView) → BeginsWithInterior bytes cell → ⊥
+interior_cell-needs_rowid bytes none cell h =
     let v : IsTableInteriorCell (take cell.size bytes) cell = h.1 in
     let c = v.child_bytes in
     let q = v.rowid_bytes in
@@ -31,9 +31,9 @@ no_interior_rowid bytes none cell h =
     none v.rowid_number (length q) (omega (arith, ap length behind, length-append q left)) (subst (λ s. IsVarint s v.rowid_number) (sym first) v.rowid_varint)
 
 -- bytes that have all of a table interior page's cell
-pub interior_read : (bytes : List ℕ) (number j : ℕ) (cell : CellView) → VarintIs (drop 4 bytes) number j → 4 ≤ length bytes → cell.size ≡ 4 + j
+pub interior_cell-read : (bytes : List ℕ) (number j : ℕ) (cell : CellView) → VarintIs (drop 4 bytes) number j → 4 ≤ length bytes → cell.size ≡ 4 + j
     → cell.child ≡ big_number 4 (take 4 bytes) → cell.rowid ≡ cast_signed w64 number → cell.payload ≡ 0 → cell.local_at ≡ 0 → cell.local ≡ 0 → cell.overflow ≡ 0 → BeginsWithInterior bytes cell
-interior_read bytes number j cell w four size child rowid payload at local overflow =
+interior_cell-read bytes number j cell w four size child rowid payload at local overflow =
     let within : cell.size ≤ length bytes = omega (arith, w.within, length-drop 4 bytes) in (
       within,
       record {

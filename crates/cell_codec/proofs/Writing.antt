@@ -11,12 +11,12 @@ pub record IsWrittenFrom (first now : List ℕ) (front number i high : ℕ) : Ty
   pub left : high ≡ number / 128 ^ (front - i)
   pub placed : now ≡ take i first ++ (groups (front - i) number ++ drop front first)
 
-pub nothing_written : (first : List ℕ) (front number : ℕ) → IsWrittenFrom first first front number front number
-nothing_written first front number = grind (arith, common_steps)
+pub IsWrittenFrom-none : (first : List ℕ) (front number : ℕ) → IsWrittenFrom first first front number front number
+IsWrittenFrom-none first front number = grind (arith, common_steps)
 
-pub one_more_written : (first now : List ℕ) (front number j high : ℕ) → IsWrittenFrom first now front number (j + 1) high → front < length first
+pub IsWrittenFrom-one_more : (first now : List ℕ) (front number j high : ℕ) → IsWrittenFrom first now front number (j + 1) high → front < length first
     → IsWrittenFrom first (set now j (128 + high % 128)) front number j (high / 128)
-one_more_written first now front number j high w h =
+IsWrittenFrom-one_more first now front number j high w h =
     let k = front - (j + 1) in
     let here : j < length first = omega (arith, w.within) in
     let size : length (take j first) ≡ j = length-take-le j first (omega arith) in
@@ -34,10 +34,10 @@ one_more_written first now front number j high w h =
           ∙ ap (λ (n : ℕ). take j first ++ (groups n number ++ drop front first)) (sym next);
     }
 
-pub all_written : (old now : List ℕ) (value front weight high : ℕ) → front ≡ varint_front value → weight ≡ last_weight front → front < length old
+pub IsWrittenFrom-all : (old now : List ℕ) (value front weight high : ℕ) → front ≡ varint_front value → weight ≡ last_weight front → front < length old
     → IsWrittenFrom (set old front (value % weight)) now front (value / weight) 0 high → now ≡ varint value ++ drop (front + 1) old
 unfolding varint
-all_written old now value front weight high e f h w =
+IsWrittenFrom-all old now value front weight high e f h w =
     let last = value % weight in
     let all : front - 0 ≡ front = omega arith in
     w.placed

@@ -1,6 +1,6 @@
 -- What follows from the definition of cells alone: crates above cite these facts in their proofs.
 use Rattle.std.proofs.Common.{◌≡◌, ℕ, ℤ, pos, ◌+◌, ◌-◌, ◌^◌, ◌<◌, ◌≤◌, cond, ltb, leb, List, [], ◌++◌, length, take, drop, refl, sym, ◌∙◌, ap, subst, append_assoc, length-append, arith, rules}
-use Rattle.std.proofs.lemmas.List.{append_cancel_left, append-nil, take_at, take_all, drop_at, take-append-drop}
+use Rattle.std.proofs.lemmas.List.{append_cancel_left, append-nil, take_all, drop_at, take-append-drop}
 use Rattle.std.proofs.lemmas.Int.{ints, to_z-of_z}
 use Rattle.std.proofs.lemmas.Bool.{cond_both, cond-true, ltb-false, le-leb, le-ltb}
 use Rattle.std.proofs.lemmas.Bool.Decides.{nat_tests}

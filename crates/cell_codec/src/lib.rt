@@ -16,6 +16,3 @@ pub use varint::{
     push_varint, read_varint, varint_has_one_reading, varint_is_shortest, varint_length,
     write_varint,
 };
-
-#[cfg(test)]
-mod tests;

@@ -14,21 +14,21 @@ use Rattle.db_header.specs.HeaderLaws.{answer-one, first-size_mismatch}
 abbrev pub Answers : List ℕ → ℕ → Result Header HeaderFault → Type 0
 Answers bytes file_len = OrFault (IsHeaderOf bytes file_len) (IsFirstFault bytes file_len)
 
-pub reads : (bytes : List ℕ) (file_len : ℕ) (result : Result Header HeaderFault) → Answers bytes file_len result → Reads (Answers bytes file_len) result
-reads bytes file_len result = Reads-one (Answers bytes file_len) result (answer-one bytes file_len)
+pub Answers-reads : (bytes : List ℕ) (file_len : ℕ) (result : Result Header HeaderFault) → Answers bytes file_len result → Reads (Answers bytes file_len) result
+Answers-reads bytes file_len result = Reads-one (Answers bytes file_len) result (answer-one bytes file_len)
 
 -- the pages that count, as they were computed
 abbrev pub HasPages : ℕ → ℕ → ℕ → Type 0
 HasPages pages size file_len = (0 < pages) × (pages ≤ 2 ^ 24) × (pages * size ≤ file_len)
 
-pub has_its_pages : (bytes : List ℕ) (file_len pages size : ℕ) → pages ≡ counted_pages bytes file_len → size ≡ page_bytes bytes → HasPages pages size file_len → HasItsPages bytes file_len
-has_its_pages bytes file_len pages size pages_is size_is has =
+pub HasPages-its_pages : (bytes : List ℕ) (file_len pages size : ℕ) → pages ≡ counted_pages bytes file_len → size ≡ page_bytes bytes → HasPages pages size file_len → HasItsPages bytes file_len
+HasPages-its_pages bytes file_len pages size pages_is size_is has =
     let product : pages * size ≡ counted_pages bytes file_len * page_bytes bytes = ap₂ (λ (a b : ℕ). a * b) pages_is size_is in
     record { some = omega (arith, has.0); limit = omega (arith, has.1); long = omega (arith, has.2) }
 
-pub no_pages : (bytes : List ℕ) (file_len pages size : ℕ) → pages ≡ counted_pages bytes file_len → size ≡ page_bytes bytes
+pub pages-size_mismatch : (bytes : List ℕ) (file_len pages size : ℕ) → pages ≡ counted_pages bytes file_len → size ≡ page_bytes bytes
     → IsSupported bytes → (HasPages pages size file_len → ⊥) → IsFirstFault bytes file_len (SizeMismatch pages file_len)
-no_pages bytes file_len pages size pages_is size_is ok lacks =
+pages-size_mismatch bytes file_len pages size pages_is size_is ok lacks =
     let product : pages * size ≡ counted_pages bytes file_len * page_bytes bytes = ap₂ (λ (a b : ℕ). a * b) pages_is size_is in
     let first : IsFirstFault bytes file_len (SizeMismatch (counted_pages bytes file_len) file_len) =
     first-size_mismatch bytes file_len ok (λ has. lacks (omega (arith, has.some), omega (arith, has.limit), omega (arith, has.long))) in

@@ -50,8 +50,8 @@ fn page_bytes(bytes: &[u8]) -> u32
     }
 }
 
-// Whether pages may have this size.
-fn is_page_size(size: u32) -> bool
+/// Whether pages may have this size.
+pub fn is_page_size(size: u32) -> bool
     ensures { IsTrue result ↔ IsPageSize size }
 {
     matches!(

@@ -16,6 +16,3 @@ mod view;
 pub use frame::Frame;
 pub use pool::{Pool, PoolSeat, lent_once};
 pub use view::View;
-
-#[cfg(test)]
-mod tests;

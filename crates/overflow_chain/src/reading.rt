@@ -1,23 +1,16 @@
 // Reads overflow chains (Database File Format, section 1.6).
-ghost use Rattle.std.specs.Prelude.{◌≡◌, ◌+◌, ◌<◌, ◌≤◌, ◌↔◌, ◌++◌, ◌∷◌, [], IsTrue, IfOk, OnOk, length};
+ghost use Rattle.std.specs.Prelude.{◌≡◌, ◌≤◌, [], IfOk, length};
 ghost use Rattle.common_spec.specs.Reading.{ReadsOrWants, OrFault};
-ghost use Rattle.page_spec.specs.Pages.{Pages, IsInRange, lock_byte_page as lock_page, next_page};
-ghost use Rattle.page_spec.specs.Chains.{IsChain, content_of, pages_for as pages_of};
+ghost use Rattle.page_spec.specs.Pages.{IsInRange, next_page};
+ghost use Rattle.page_spec.specs.Chains.{IsChain, pages_for as pages_of};
 ghost use Rattle.page_store.specs.Store.{HasSizes, Looks, Owes, OwesBy, Sees};
-ghost use Rattle.overflow_chain.specs.Chain.{BreaksAt, IsOther, fault_in, HoldsBytes};
+ghost use Rattle.overflow_chain.specs.Chain.{BreaksAt, IsOther, Walks, fault_in, HoldsBytes};
 
 use crate::fault::ChainFault;
+use crate::keeper::Keeper;
 use byte_fields::u32_at;
-use page_store::PageRead;
+use page_store::{PageRead, is_in_range, page_buffer};
 use std::alloc::{AllocError, Global};
-
-/// The page that holds byte 1073741824 of the file, which is never used.
-pub fn lock_byte_page(size: u32) -> u32
-    requires { 0 < size }
-    ensures { result ≡ lock_page size }
-{
-    1073741824 / size + 1
-}
 
 /// How many overflow pages so many bytes fill.
 pub fn pages_for(usable: u32, bytes: u64) -> u64
@@ -26,14 +19,6 @@ pub fn pages_for(usable: u32, bytes: u64) -> u64
 {
     let content = u64::from(usable) - 4;
     bytes / content + if bytes % content == 0 { 0 } else { 1 }
-}
-
-// Whether a link may name the page.
-fn is_in_range(size: u32, count: u32, number: u32) -> bool
-    requires { 0 < size }
-    ensures { IsTrue result ↔ IsInRange size count number }
-{
-    2 <= number && number <= count && number != lock_byte_page(size)
 }
 
 // Fills the buffer with a page, and answers the number that it names.
@@ -48,18 +33,42 @@ fn follow<S: PageRead>(store: &mut S, number: u32, page: &mut [u8]) -> Result<u3
     Ok(u32_at(page, 0))
 }
 
-// So many zeros.
-fn zeros(alloc: Global, n: usize) -> Result<Vec<u8>, AllocError>
-    ensures { IfOk result (λ bytes. length bytes.items ≡ n) }
+// Walks over the chain of so many bytes in one pass, and lets the keeper keep of each page what it wants.
+fn walk<S: PageRead, K: Keeper>(
+    alloc: Global,
+    store: &mut S,
+    first: u32,
+    length: u64,
+    keeper: &mut K,
+) -> Result<(), ChainFault<S::Fault>>
+    requires { HasSizes S.PageRead store.old }
+    ensures pages { Sees S.PageRead store.old store.new (Walks (S.size store.old) (S.usable store.old) (S.count store.old) first length
+        (K.part (S.usable store.old)) (K.kept keeper.old) (K.kept keeper.new) result) }
+    ensures owes { OwesBy S.PageRead fault_in store.old store.new result }
 {
-    vec![in alloc; 0; n]
-}
-
-// Appends a number.
-fn push(numbers: &mut Vec<u32>, number: u32) -> Result<(), AllocError>
-    ensures { OnOk result (numbers.new.items ≡ numbers.old.items ++ number ∷ []) }
-{
-    numbers.push(number)?;
+    let mut buffer = page_buffer(alloc, store.page_size())?;
+    let page = buffer.as_mut_slice();
+    let mut number = first;
+    let mut holder = first;
+    for _ in 0..pages_for(store.usable(), length) {
+        if !is_in_range(store.page_size(), store.count(), number) {
+            return Err(ChainFault::ChainBroken {
+                page: u64::from(holder),
+            });
+        }
+        let next = match follow(store, number, page) {
+            Ok(next) => next,
+            Err(fault) => return Err(ChainFault::Store(fault)),
+        };
+        keeper.keep(store.usable(), number, page)?;
+        holder = number;
+        number = next;
+    }
+    if number != 0 {
+        return Err(ChainFault::ChainBroken {
+            page: u64::from(holder),
+        });
+    }
     Ok(())
 }
 
@@ -76,40 +85,20 @@ pub fn chain_pages<S: PageRead>(
         (BreaksAt m (S.size store.old) (S.usable store.old) (S.count store.old) first length)) result) }
     ensures owes { OwesBy S.PageRead fault_in store.old store.new result }
 {
-    let mut buffer = zeros(alloc, store.page_size() as usize)?;
-    let page = buffer.as_mut_slice();
     let mut numbers = Vec::new(alloc);
-    let mut number = first;
-    let mut holder = first;
-    for _ in 0..pages_for(store.usable(), length) {
-        if !is_in_range(store.page_size(), store.count(), number) {
-            return Err(ChainFault::ChainBroken {
-                page: u64::from(holder),
-            });
-        }
-        let next = match follow(store, number, page) {
-            Ok(next) => next,
-            Err(fault) => return Err(ChainFault::Store(fault)),
-        };
-        push(&mut numbers, number)?;
-        holder = number;
-        number = next;
+    match walk(alloc, store, first, length, &mut numbers) {
+        Ok(()) => Ok(numbers),
+        Err(fault) => Err(fault),
     }
-    if number != 0 {
-        return Err(ChainFault::ChainBroken {
-            page: u64::from(holder),
-        });
-    }
-    Ok(numbers)
 }
 
-// Appends what a page holds behind its link.
-fn push_content(bytes: &mut Vec<u8>, page: &[u8], usable: u32) -> Result<(), AllocError>
-    requires least { 4 ≤ usable }
-    requires within { usable ≤ length page.now }
-    ensures { OnOk result (bytes.new.items ≡ bytes.old.items ++ content_of usable page.now) }
+// Room for what a chain of so many bytes holds, in a store of so many pages: a longer chain does not end.
+fn room_for(alloc: Global, usable: u32, count: u32, length: u64) -> Result<Vec<u8>, AllocError>
+    requires { 480 ≤ usable }
+    ensures { IfOk result (λ bytes. bytes.items ≡ []) }
 {
-    bytes.extend_from_slice(&page[4..usable as usize])
+    let pages = pages_for(usable, length).min(u64::from(count));
+    Vec::with_capacity(alloc, (pages * (u64::from(usable) - 4)) as usize)
 }
 
 /// The bytes of an overflow chain, so many of them, in one pass over its pages. Refuses [45] with the page in which the first wrong number stands.
@@ -125,30 +114,12 @@ pub fn read_chain<S: PageRead>(
         (BreaksAt m (S.size store.old) (S.usable store.old) (S.count store.old) first length)) result) }
     ensures owes { OwesBy S.PageRead fault_in store.old store.new result }
 {
-    let mut buffer = zeros(alloc, store.page_size() as usize)?;
-    let page = buffer.as_mut_slice();
-    let mut bytes = Vec::new(alloc);
-    let mut number = first;
-    let mut holder = first;
-    for _ in 0..pages_for(store.usable(), length) {
-        if !is_in_range(store.page_size(), store.count(), number) {
-            return Err(ChainFault::ChainBroken {
-                page: u64::from(holder),
-            });
+    let mut bytes = room_for(alloc, store.usable(), store.count(), length)?;
+    match walk(alloc, store, first, length, &mut bytes) {
+        Ok(()) => {
+            bytes.truncate(length as usize);
+            Ok(bytes)
         }
-        let next = match follow(store, number, page) {
-            Ok(next) => next,
-            Err(fault) => return Err(ChainFault::Store(fault)),
-        };
-        push_content(&mut bytes, page, store.usable())?;
-        holder = number;
-        number = next;
+        Err(fault) => Err(fault),
     }
-    if number != 0 {
-        return Err(ChainFault::ChainBroken {
-            page: u64::from(holder),
-        });
-    }
-    bytes.truncate(length as usize);
-    Ok(bytes)
 }

@@ -1,5 +1,5 @@
 -- A page is accepted with one list of views, or refused by one rule.
-use Rattle.std.proofs.Common.{◌≡◌, ℕ, pos, zero, suc, ◌+◌, ◌*◌, ◌<◌, ◌≤◌, ◌⊎◌, max, List, [], ◌∷◌, ◌++◌, length, slice_index, slice_index_or, get_or, refl, sym, ap, ◌∙◌, subst, inl, inr, arith}
+use Rattle.std.proofs.Common.{◌≡◌, ℕ, pos, zero, suc, ◌+◌, ◌<◌, ◌≤◌, max, List, [], ◌∷◌, ◌++◌, length, get_or, refl, sym, ap, ◌∙◌, subst, inl, inr, arith}
 use Rattle.std.proofs.Math.Path.{subst⁻¹}
 use Rattle.std.proofs.lemmas.List.{length_push, get_or_default}
 use Rattle.byte_fields.specs.Bytes.{part_of}
@@ -10,14 +10,15 @@ use Rattle.format_spec.specs.declared.PageKind.{PageKind}
 use Rattle.format_spec.specs.declared.PageKind.TheVariants.{IndexInterior, TableInterior, IndexLeaf, TableLeaf}
 use Rattle.format_spec.specs.declared.CellView.{CellView}
 use Rattle.format_spec.specs.Cell.{IsCell}
-use Rattle.format_spec.specs.Page.{IsPage, IsCellAt, AreApart, RightChild, header_place, array_place, cell_place, cell_room, cell_count, kind_byte}
+use Rattle.format_spec.specs.Page.{IsPage, IsCellAt, AreApart, RightChild, header_place, cell_place, cell_count}
 use Rattle.page_spec.specs.PlacesLaws.{length-part_of}
 use Rattle.refusal.specs.declared.Rule.{Rule}
 use Rattle.refusal.specs.declared.Rule.TheVariants as rule
 use Rattle.page_layout.specs.declared.reading.PageFault.{PageFault}
 use Rattle.page_layout.specs.declared.reading.PageFault.TheVariants.{BadPage, Memory}
 use Rattle.page_layout.specs.Views.{HasViews, HasKind, IsRefused, HasPageFault, IsViewAt, AreViews}
-use Rattle.page_layout.proofs.Viewing.{view-size, kind_byte-same, view_of, cell_of, same_views}
+use Rattle.page_layout.specs.ViewsLaws.{view-size, kind_byte-same}
+use Rattle.page_layout.proofs.Viewing.{view_of, cell_of, same_views}
 use Rattle.page_layout.proofs.Marking.{push_all}
 
 -- the cells that views are of

@@ -1,16 +1,14 @@
 -- A page without cells.
-use Rattle.std.proofs.Common.{◌≡◌, ℕ, ◌+◌, ◌-◌, ◌*◌, ◌%◌, ◌^◌, ◌<◌, ◌≤◌, ◌⊎◌, List, [], length, drop, slice_index, refl, sym, ap, ◌∙◌, inl, inr, arith, lit<}
+use Rattle.std.proofs.Common.{◌≡◌, ℕ, ◌+◌, ◌%◌, ◌^◌, ◌<◌, ◌≤◌, ◌⊎◌, List, length, drop, slice_index, sym, ap, ◌∙◌, inl, inr, arith, lit<}
 use Rattle.std.proofs.Math.Path.{subst⁻¹}
 use Rattle.std.proofs.lemmas.List.{get_or-drop}
 use Rattle.byte_fields.specs.Numbers.{number_at, with_number_at}
-use Rattle.byte_fields.specs.NumbersLaws.{length-with_number_at, number_at-written, number_at-apart, slice_index-apart_from_number}
+use Rattle.byte_fields.specs.NumbersLaws.{length-with_number_at, number_at-written, slice_index-apart_from_number}
 use Rattle.format_spec.specs.declared.PageKind.{PageKind}
 use Rattle.format_spec.specs.declared.PageKind.TheVariants.{IndexInterior, TableInterior, IndexLeaf, TableLeaf}
-use Rattle.format_spec.specs.Page.{RightChild, header_place, header_length, kind_byte}
+use Rattle.format_spec.specs.Page.{kind_byte}
 use Rattle.page_spec.specs.PlacesLaws.{number_at-same}
-use Rattle.page_spec.specs.Rooms.{KeepsRest, right_kept}
-use Rattle.page_layout.specs.declared.put.Layout.{Layout}
-use Rattle.page_layout.specs.Written.{HasEmptyHeader, IsLaid}
+use Rattle.page_layout.specs.Written.{PutsCounts, HasEmptyHeader}
 
 -- a number of one byte is that byte
 pub number_at-byte : (place : ℕ) (bytes : List ℕ) → number_at place 1 bytes ≡ slice_index bytes place
@@ -44,21 +42,35 @@ wrote at size x before after room fits e =
 before_it : {at size x : ℕ} {before after : List ℕ} → Writes at size x before after → (place n : ℕ) → place + n ≤ at → number_at place n after ≡ number_at place n before
 before_it {at} {size} {x} {before} {after} w place n front = number_at-same n after place before place (λ j small. w.other (place + j) (inl (omega arith)))
 
--- the five numbers of a header, one after the other
-pub empty_header : (old a b c d e : List ℕ) (header usable : ℕ) (kind : PageKind)
-    → Writes header 1 (kind_byte kind) old a → Writes (header + 1) 2 0 a b → Writes (header + 3) 2 0 b c → Writes (header + 5) 2 (usable % 65536) c d → Writes (header + 7) 1 0 d e
-    → HasEmptyHeader old e header usable kind
-empty_header old a b c d e header usable kind first second third fourth fifth = record {
-  kind_is =
-      fifth.other header (inl (omega arith)) ∙ fourth.other header (inl (omega arith)) ∙ third.other header (inl (omega arith)) ∙ second.other header (inl (omega arith))
-      ∙ sym (number_at-byte header a) ∙ first.here;
-  no_freeblock = before_it fifth (header + 1) 2 (omega arith) ∙ before_it fourth (header + 1) 2 (omega arith) ∙ before_it third (header + 1) 2 (omega arith) ∙ second.here;
-  counts = before_it fifth (header + 3) 2 (omega arith) ∙ before_it fourth (header + 3) 2 (omega arith) ∙ third.here;
-  content = before_it fifth (header + 5) 2 (omega arith) ∙ fourth.here;
-  no_fragment = fifth.here;
+-- the four numbers of a header behind its kind, one after the other
+pub puts_counts : (old a b c new : List ℕ) (header count bottom : ℕ)
+    → Writes (header + 1) 2 0 old a → Writes (header + 3) 2 count a b → Writes (header + 5) 2 (bottom % 65536) b c → Writes (header + 7) 1 0 c new
+    → PutsCounts old new header count bottom
+puts_counts old a b c new header count bottom first second third fourth = record {
+  long = fourth.long ∙ third.long ∙ second.long ∙ first.long;
+  no_freeblock = before_it fourth (header + 1) 2 (omega arith) ∙ before_it third (header + 1) 2 (omega arith) ∙ before_it second (header + 1) 2 (omega arith) ∙ first.here;
+  counts = before_it fourth (header + 3) 2 (omega arith) ∙ before_it third (header + 3) 2 (omega arith) ∙ second.here;
+  content = before_it fourth (header + 5) 2 (omega arith) ∙ third.here;
+  no_fragment = fourth.here;
   rest = λ k apart. rest k apart;
 }
   where
-    rest : (k : ℕ) → (k < header) ⊎ (header + 8 ≤ k) → slice_index e k ≡ slice_index old k
-    rest k (inl low) = fifth.other k (inl (omega arith)) ∙ fourth.other k (inl (omega arith)) ∙ third.other k (inl (omega arith)) ∙ second.other k (inl (omega arith)) ∙ first.other k (inl low)
-    rest k (inr high) = fifth.other k (inr (omega arith)) ∙ fourth.other k (inr (omega arith)) ∙ third.other k (inr (omega arith)) ∙ second.other k (inr (omega arith)) ∙ first.other k (inr (omega arith))
+    rest : (k : ℕ) → (k ≤ header) ⊎ (header + 8 ≤ k) → slice_index new k ≡ slice_index old k
+    rest k (inl low) = fourth.other k (inl (omega arith)) ∙ third.other k (inl (omega arith)) ∙ second.other k (inl (omega arith)) ∙ first.other k (inl (omega arith))
+    rest k (inr high) = fourth.other k (inr (omega arith)) ∙ third.other k (inr (omega arith)) ∙ second.other k (inr (omega arith)) ∙ first.other k (inr (omega arith))
+
+-- a header's kind, and the four numbers behind it
+pub empty_header : (old a new : List ℕ) (header usable : ℕ) (kind : PageKind) → Writes header 1 (kind_byte kind) old a → PutsCounts a new header 0 usable
+    → HasEmptyHeader old new header usable kind
+empty_header old a new header usable kind first puts = record {
+  kind_is = puts.rest header (inl (omega arith)) ∙ sym (number_at-byte header a) ∙ first.here;
+  no_freeblock = puts.no_freeblock;
+  counts = puts.counts;
+  content = puts.content;
+  no_fragment = puts.no_fragment;
+  rest = λ k apart. rest k apart;
+}
+  where
+    rest : (k : ℕ) → (k < header) ⊎ (header + 8 ≤ k) → slice_index new k ≡ slice_index old k
+    rest k (inl low) = puts.rest k (inl (omega arith)) ∙ first.other k (inl low)
+    rest k (inr high) = puts.rest k (inr high) ∙ first.other k (inr (omega arith))

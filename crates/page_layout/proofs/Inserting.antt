@@ -1,23 +1,21 @@
--- A written page into which a cell was put is a written page with one cell more.
-use Rattle.std.proofs.Common.{◌≡◌, ℕ, ◌+◌, ◌-◌, ◌*◌, ◌%◌, ◌<◌, ◌≤◌, ◌⊎◌, List, [], ◌++◌, length, length-append, max, slice_index, slice_index_or, get_or, refl, sym, ap, ap₂, ◌∙◌, subst, inl, inr, arith}
+-- A page without a hole into which a cell was put is a written page with one cell more.
+use Rattle.std.proofs.Common.{◌≡◌, ℕ, ◌+◌, ◌-◌, ◌*◌, ◌%◌, ◌<◌, ◌≤◌, ◌⊎◌, List, [], ◌++◌, length, length-append, slice_index, slice_index_or, refl, sym, ap, ◌∙◌, subst, inl, inr, arith}
 use Rattle.std.proofs.Math.Path.{subst⁻¹}
-use Rattle.std.proofs.Math.Nat.{mod-eq_of_lt}
 use Rattle.std.specs.List.{insert}
 use Rattle.std.proofs.lemmas.Bool.{cases_lt}
 use Rattle.std.proofs.lemmas.List.Edits.{length-insert, get_or-insert_below, get_or-insert_at, get_or-insert_above}
 use Rattle.std.proofs.lemmas.List.Sums.{sum_by-insert}
 use Rattle.byte_fields.specs.Bytes.{part_of}
-use Rattle.byte_fields.specs.Numbers.{number_at}
 use Rattle.format_spec.specs.declared.PageKind.{PageKind}
 use Rattle.format_spec.specs.declared.PageKind.TheVariants.{IndexInterior, TableInterior, IndexLeaf, TableLeaf}
 use Rattle.format_spec.specs.declared.CellView.{CellView}
 use Rattle.format_spec.specs.Cell.{IsCell}
 use Rattle.format_spec.specs.Page.{IsPage, IsCellAt, AreApart, RightChild, header_place, header_length, array_place, cell_place, cell_room}
-use Rattle.page_spec.specs.PlacesLaws.{SameBytes, number_at-same, part_of-same}
+use Rattle.page_spec.specs.PlacesLaws.{number_at-same, part_of-same}
 use Rattle.cell_codec.specs.VarintLaws.{spelling-one_to_nine}
-use Rattle.page_spec.specs.Rooms.{array_end, rooms, IsOneCell, IsWritten, KeepsRest}
+use Rattle.page_spec.specs.Rooms.{array_end, rooms, HasNoHole, IsOneCell, IsWritten, KeepsRest}
 use Rattle.page_layout.specs.declared.put.Layout.{Layout}
-use Rattle.page_layout.specs.Written.{PutsCell, IsLaid, laid_more}
+use Rattle.page_layout.specs.Written.{PutsCell, IsPacked, IsLaid, KeepsPlaces, laid_more}
 
 pub header_length-least : (kind : PageKind) → 8 ≤ header_length kind
 header_length-least TableLeaf = omega arith
@@ -26,7 +24,7 @@ header_length-least IndexLeaf = omega arith
 header_length-least IndexInterior = omega arith
 
 -- the right child stays where the bytes of the header behind the counts stay
-pub right_child-same : (kind : PageKind) (old new : List ℕ) (header right : ℕ) → ((k : ℕ) → header + 7 ≤ k → k < header + header_length kind → slice_index new k ≡ slice_index old k)
+pub right_child-same : (kind : PageKind) (old new : List ℕ) (header right : ℕ) → ((k : ℕ) → header + 8 ≤ k → k < header + header_length kind → slice_index new k ≡ slice_index old k)
     → RightChild kind old header right → RightChild kind new header right
 right_child-same TableLeaf old new header right same is = is
 right_child-same TableInterior old new header right same is = is ∙ sym (number_at-same 4 new (header + 8) old (header + 8) (λ j small. same (header + 8 + j) (omega arith) (omega arith)))
@@ -40,7 +38,7 @@ record IsKept (old new : List ℕ) (number : ℕ) (kind : PageKind) (cells other
   cell : slice_index_or others k [] ≡ slice_index_or cells i []
 
 module _ (old new : List ℕ) (number usable : ℕ) (kind : PageKind) (cells : List (List ℕ)) (right at : ℕ) (cell : List ℕ) (view : CellView)
-    (within : usable ≤ length old) (long : length old ≤ 65536) (was : IsWritten old number usable kind cells right) (inside : at ≤ length cells)
+    (within : usable ≤ length old) (long : length old ≤ 65536) (was : IsPage old number usable kind cells right) (no_hole : HasNoHole old number usable kind cells) (inside : at ≤ length cells)
     (is_cell : IsCell kind usable cell view) (room : array_end number kind (length cells + 1) + (rooms cells + cell_room cell) ≤ usable)
     (puts : PutsCell old new (header_place number) (array_place number kind) (length cells) at (usable - (rooms cells + cell_room cell)) cell) where
   place : ℕ
@@ -84,8 +82,8 @@ module _ (old new : List ℕ) (number usable : ℕ) (kind : PageKind) (cells : L
   -- a cell that stood there
   stands_kept : (k i : ℕ) → IsKept old new number kind cells others k i → IsCellAt new number usable kind (length cells + 1) k (slice_index_or others k [])
   stands_kept k i kept =
-      let was_at = was.is_page.each i kept.low in
-      let low_end = was.no_hole i kept.low in
+      let was_at = was.each i kept.low in
+      let low_end = no_hole i kept.low in
       let its_place = cell_place old number kind i in
       let its_cell = slice_index_or cells i [] in
       let P : List ℕ → Type 0 = λ c. IsCellAt new number usable kind (length cells + 1) k c in
@@ -137,7 +135,7 @@ module _ (old new : List ℕ) (number usable : ℕ) (kind : PageKind) (cells : L
   unfolding place
   apart_here k i kept =
       let P : List ℕ → Type 0 = λ c. AreApart (cell_place new number kind at) (cell_room c) (cell_place new number kind k) (cell_room (slice_index_or others k [])) in
-      let low_end = was.no_hole i kept.low in
+      let low_end = no_hole i kept.low in
       subst⁻¹ P here_cell (inl (omega (arith, here_place, kept.place)))
 
   apart_turned : (p m q n : ℕ) → AreApart p m q n → AreApart q n p m
@@ -152,7 +150,7 @@ module _ (old new : List ℕ) (number usable : ℕ) (kind : PageKind) (cells : L
       subst⁻¹ (λ (p : ℕ). P p (cell_place new number kind k)) one.place
       (subst⁻¹ (λ (q : ℕ). P (cell_place old number kind a) q) other.place
       (subst⁻¹ (λ (c : List ℕ). Q c (slice_index_or others k [])) one.cell
-      (subst⁻¹ (λ (d : List ℕ). Q (slice_index_or cells a []) d) other.cell (was.is_page.apart a b order other.low))))
+      (subst⁻¹ (λ (d : List ℕ). Q (slice_index_or cells a []) d) other.cell (was.apart a b order other.low))))
 
   -- which cell of the old page stands at an index of the new one
   source : (k : ℕ) → k < length cells + 1 → (k ≡ at) ⊎ ((i : ℕ) × (IsKept old new number kind cells others k i × (((k < at) × (i ≡ k)) ⊎ ((at < k) × (i + 1 ≡ k)))))
@@ -196,11 +194,11 @@ module _ (old new : List ℕ) (number usable : ℕ) (kind : PageKind) (cells : L
       let Q : ℕ → Type 0 = λ n. (j k : ℕ) → j < k → k < n
       → AreApart (cell_place new number kind j) (cell_room (slice_index_or others j [])) (cell_place new number kind k) (cell_room (slice_index_or others k [])) in
       record {
-        kind_is = puts.front (header_place number) (omega arith) ∙ was.is_page.kind_is;
+        kind_is = puts.front (header_place number) (omega arith) ∙ was.kind_is;
         count = puts.counts ∙ sym many;
         each = subst⁻¹ P many stands;
         apart = subst⁻¹ Q many apart;
-        right_child = right_child-same kind old new (header_place number) right puts.rest was.is_page.right_child;
+        right_child = right_child-same kind old new (header_place number) right puts.rest was.right_child;
       }
 
   -- no cell stands below the new one
@@ -209,7 +207,7 @@ module _ (old new : List ℕ) (number usable : ℕ) (kind : PageKind) (cells : L
   lowest k low =
       elim (source k (omega (arith, many))) [
         | inl here ↦ let P : ℕ → Type 0 = λ n. usable - (rooms cells + cell_room cell) ≤ cell_place new number kind n in subst⁻¹ P here (omega (arith, here_place))
-        | inr kept ↦ let low_end = was.no_hole kept.0 kept.1.0.low in omega (arith, kept.1.0.place)
+        | inr kept ↦ let low_end = no_hole kept.0 kept.1.0.low in omega (arith, kept.1.0.place)
       ]
 
   begins : usable - rooms (insert cells at cell) ≡ place
@@ -221,16 +219,10 @@ module _ (old new : List ℕ) (number usable : ℕ) (kind : PageKind) (cells : L
   inserted = record {
     is_page = is_page;
     no_hole = λ k low. let from = lowest k low in omega (arith, begins);
-    no_freeblock = number_at-same 2 new (header_place number + 1) old (header_place number + 1) (λ j small. puts.front (header_place number + 1 + j) (omega arith)) ∙ was.no_freeblock;
-    content = puts.content ∙ begins_at;
-    no_fragment = number_at-same 1 new (header_place number + 7) old (header_place number + 7) (λ j small. puts.rest (header_place number + 7 + j) (omega arith) (omega (arith, header_length-least kind))) ∙ was.no_fragment;
+    no_freeblock = puts.no_freeblock;
+    content = puts.content ∙ ap (λ (n : ℕ). (usable - n) % 65536) (sym (sum_by-insert cell_room cells at cell));
+    no_fragment = puts.no_fragment;
   }
-    where
-      small : usable - (rooms cells + cell_room cell) < 65536
-      small = omega arith
-
-      begins_at : usable - (rooms cells + cell_room cell) ≡ (usable - rooms (insert cells at cell)) % 65536
-      begins_at = sym (mod-eq_of_lt small) ∙ ap (λ (n : ℕ). (usable - n) % 65536) (sym (sum_by-insert cell_room cells at cell))
 
 -- a cell has a byte
 pub cell-some : (kind : PageKind) (usable : ℕ) (cell : List ℕ) (view : CellView) → IsCell kind usable cell view → 0 < length cell
@@ -245,7 +237,7 @@ cell-some IndexInterior usable cell view is =
 -- a cell put where the layout says
 pub laid_with : (old new : List ℕ) (layout : Layout) (cells : List (List ℕ)) (right at : ℕ) (cell : List ℕ) (header length_of place : ℕ)
     → layout.usable ≤ length old → length old ≤ 65536 → at ≤ layout.count → IsOneCell layout.kind layout.usable cell
-    → array_end layout.number layout.kind (layout.count + 1) + cell_room cell ≤ layout.bottom → IsLaid old layout cells right
+    → array_end layout.number layout.kind (layout.count + 1) + cell_room cell ≤ layout.bottom → IsPacked old layout cells right
     → header ≡ header_place layout.number → length_of ≡ header_length layout.kind → place ≡ layout.bottom - cell_room cell
     → PutsCell old new header (header + length_of) layout.count at place cell → IsLaid new (laid_more layout (cell_room cell)) (insert cells at cell) right
 laid_with old new layout cells right at cell header length_of place whole long inside one room laid h l p puts =
@@ -255,7 +247,7 @@ laid_with old new layout cells right at cell header length_of place whole long i
     let at_count = subst (λ (x : ℕ). PutsCell old new (header_place layout.number) (array_place layout.number layout.kind) x at place cell) laid.count at_array in
     let at_place = subst (λ (x : ℕ). PutsCell old new (header_place layout.number) (array_place layout.number layout.kind) (length cells) at x cell) begins at_count in
     record {
-      written = inserted old new layout.number layout.usable layout.kind cells right at cell one.0 whole long laid.written (omega (arith, laid.count)) one.1 (omega (arith, laid.count, laid.bottom)) at_place;
+      written = inserted old new layout.number layout.usable layout.kind cells right at cell one.0 whole long laid.is_page laid.no_hole (omega (arith, laid.count)) one.1 (omega (arith, laid.count, laid.bottom)) at_place;
       count = omega (arith, laid.count, length-insert cells at cell (omega (arith, laid.count)));
       bottom = omega (arith, laid.bottom, sum_by-insert cell_room cells at cell);
     }
@@ -264,3 +256,18 @@ pub keeps_rest : (old new : List ℕ) (number usable header array count at place
     → PutsCell old new header array count at place cell → KeepsRest number usable old new
 keeps_rest old new number usable header array count at place cell h within puts k (inl front) = puts.front k (omega (arith, h))
 keeps_rest old new number usable header array count at place cell h within puts k (inr behind) = puts.behind k (omega arith)
+
+-- the other cells keep their places
+pub keeps_places : (old new : List ℕ) (number : ℕ) (kind : PageKind) (header length_of count at place : ℕ) (cell : List ℕ) → header ≡ header_place number → length_of ≡ header_length kind
+    → PutsCell old new header (header + length_of) count at place cell → KeepsPlaces old new number kind count at
+keeps_places old new number kind header length_of count at place cell h l puts =
+    let at_header = subst (λ (x : ℕ). PutsCell old new x (x + length_of) count at place cell) h puts in
+    let at_array = subst (λ (x : ℕ). PutsCell old new (header_place number) (header_place number + x) count at place cell) l at_header in
+    record {
+      in_front = λ k low. number_at-same 2 new (array_place number kind + 2 * k) old (array_place number kind + 2 * k) (at_array.stays k low);
+      behind = λ k low high. number_at-same 2 new (array_place number kind + 2 * (k + 1)) old (array_place number kind + 2 * k) (at_array.moved k low high);
+    }
+
+-- a written page has no hole
+pub packed-laid : {page : List ℕ} {layout : Layout} {cells : List (List ℕ)} {right : ℕ} → IsLaid page layout cells right → IsPacked page layout cells right
+packed-laid laid = record { is_page = laid.written.is_page; no_hole = laid.written.no_hole; count = laid.count; bottom = laid.bottom }

@@ -2,5 +2,10 @@ pub mod Putting
 pub mod Inserting
 pub mod Clearing
 pub mod Viewing
+pub mod Bitwise
 pub mod Marking
 pub mod Accepting
+pub mod Spans
+pub mod Packing
+pub mod Taking
+pub mod Changing

@@ -1,57 +1,13 @@
 -- The marks of the bytes that the cells of a page take.
-use Rattle.std.proofs.Common.{◌≡◌, ℕ, ◌+◌, ◌-◌, ◌<◌, ◌≤◌, ◌⊎◌, max, true, false, Bool, List, [], ◌∷◌, ◌++◌, length, take, drop, get_or, replicate, refl, sym, ◌∙◌, ap, subst, inl, inr, length-take, length-drop, arith}
-use Rattle.std.proofs.lemmas.Bool.{both_ways, cases_lt}
-use Rattle.std.proofs.lemmas.List.{get_or-take, get_or-drop, get_or-append_right, get_or_append_left, get_or-replicate, length-take-le, length-replicate, get_or_push, length_push, get_or_default}
-use Rattle.std.specs.List.{AllWithin}
+use Rattle.std.proofs.Common.{◌≡◌, ℕ, ◌+◌, ◌<◌, ◌≤◌, ◌⊎◌, max, List, [], ◌∷◌, ◌++◌, length, get_or, refl, sym, ◌∙◌, ap, subst, inl, inr, arith}
+use Rattle.std.proofs.lemmas.Bool.{cases_lt}
+use Rattle.std.proofs.lemmas.List.{get_or_append_left, get_or_push, length_push, get_or_default}
 use Rattle.format_spec.specs.declared.PageKind.{PageKind}
 use Rattle.format_spec.specs.declared.CellView.{CellView}
 use Rattle.format_spec.specs.Page.{AreApart, cell_place}
 use Rattle.page_layout.specs.Views.{IsViewAt, AreViews}
 use Rattle.page_layout.proofs.Viewing.{same_view_at}
-use mathlib.Core.Bool.{beq}
-
-same_true : (y : Bool) → beq y true ≡ true → y ≡ true
-same_true true h = refl
-same_true false h = h
-
-same_false : (y : Bool) → beq y true ≡ false → y ≡ false
-same_false true h = h
-same_false false h = refl
-
--- the marks of so many bytes from a place on
-unfoldable pub part : List Bool → ℕ → ℕ → List Bool
-part marks place size = take (place + size - place) (drop place marks)
-
-module _ (marks : List Bool) (place size : ℕ) (fits : place + size ≤ length marks) where
-  part_length : length (part marks place size) ≡ size
-  unfolding part
-  part_length = omega (arith, length-take (place + size - place) (drop place marks), length-drop place marks)
-
-  part_at : (k : ℕ) → k < size → get_or (part marks place size) k false ≡ get_or marks (place + k) false
-  unfolding part
-  part_at k h = get_or-take (place + size - place) (drop place marks) k false (omega arith) ∙ get_or-drop place marks k false
-
-  pub one_set : (k : ℕ) × (k < length (part marks place size)) × ((d : Bool) → beq (get_or (part marks place size) k d) true ≡ true)
-      → (b : ℕ) × (place ≤ b) × (b < place + size) × (get_or marks b false ≡ true)
-  one_set w =
-      let below : w.0 < size = omega (arith, part_length, w.1) in
-      (place + w.0, omega arith, omega arith, sym (part_at w.0 below) ∙ same_true _ (w.2 false))
-
-  pub none_set : AllWithin (λ y. beq y true ≡ false) (part marks place size) 0 (length (part marks place size))
-      → (b : ℕ) → place ≤ b → b < place + size → get_or marks b false ≡ false
-  none_set w b l h =
-      let k = b - place in
-      let back : place + k ≡ b = omega arith in
-      ap (λ n. get_or marks n false) (sym back) ∙ sym (part_at k (omega arith)) ∙ same_false _ (w k false (omega arith) (omega (arith, part_length)))
-
-  pub filled : (ys rest : List Bool) (b : ℕ) → ys ≡ replicate (length (part marks place size)) true → place ≤ b → b < place + size → get_or (take place marks ++ (ys ++ rest)) b false ≡ true
-  filled ys rest b e l h =
-      let long : length ys ≡ size = ap length e ∙ length-replicate (length (part marks place size)) true ∙ part_length in
-      let front : length (take place marks) ≡ place = length-take-le place marks (omega arith) in
-      get_or-append_right (take place marks) (ys ++ rest) place b false front l
-      ∙ get_or_append_left ys rest false (b - place) (omega arith)
-      ∙ ap (λ s. get_or s (b - place) false) e
-      ∙ get_or-replicate (length (part marks place size)) (b - place) true false (omega (arith, part_length))
+use Rattle.page_layout.specs.Bits.{mark_at}
 
 -- spans that share no byte are apart
 apart_from_free : (a m b n : ℕ) → 0 < m → 0 < n → ((k : ℕ) → a ≤ k → k < a + m → b ≤ k → k < b + n → ⊥) → AreApart a m b n
@@ -106,23 +62,23 @@ module _ (page : List ℕ) (number : ℕ) (kind : PageKind) where
   Takes k view b = (cell_place page number kind k ≤ b) × (b < cell_place page number kind k + view_room view)
 
   -- a byte is marked exactly where one of the cells takes it
-  pub record AreMarked (views : List CellView) (marks : List Bool) : Type 0 where
-    pub set : (b k : ℕ) (d : CellView) → k < length views → Takes k (get_or views k d) b → get_or marks b false ≡ true
-    pub only : (b : ℕ) → get_or marks b false ≡ true → (k : ℕ) × (k < length views) × ((d : CellView) → Takes k (get_or views k d) b)
+  pub record AreMarked (views : List CellView) (marks : List ℕ) : Type 0 where
+    pub set : (b k : ℕ) (d : CellView) → k < length views → Takes k (get_or views k d) b → mark_at marks b ≡ 1
+    pub only : (b : ℕ) → mark_at marks b ≡ 1 → (k : ℕ) × (k < length views) × ((d : CellView) → Takes k (get_or views k d) b)
 
-  pub nothing_marked : (marks : List Bool) → ((b : ℕ) → get_or marks b false ≡ false) → AreMarked [] marks
+  pub nothing_marked : (marks : List ℕ) → ((b : ℕ) → mark_at marks b ≡ 0) → AreMarked [] marks
   nothing_marked marks unset = record {
     set = λ b k d h. absurd (omega arith);
-    only = λ b e. absurd (both_ways (get_or marks b false) (unset b) e);
+    only = λ b e. absurd (omega (arith, unset b, e));
   }
 
-  module _ (views : List CellView) (view : CellView) (marks : List Bool) (marked : AreMarked views marks) where
-    pub one_more_marked : (now : List Bool)
-        → ((b : ℕ) → cell_place page number kind (length views) ≤ b → b < cell_place page number kind (length views) + view_room view → get_or now b false ≡ true)
-        → ((b : ℕ) → (b < cell_place page number kind (length views)) ⊎ (cell_place page number kind (length views) + view_room view ≤ b) → get_or now b false ≡ get_or marks b false)
+  module _ (views : List CellView) (view : CellView) (marks : List ℕ) (marked : AreMarked views marks) where
+    pub one_more_marked : (now : List ℕ)
+        → ((b : ℕ) → cell_place page number kind (length views) ≤ b → b < cell_place page number kind (length views) + view_room view → mark_at now b ≡ 1)
+        → ((b : ℕ) → (b < cell_place page number kind (length views)) ⊎ (cell_place page number kind (length views) + view_room view ≤ b) → mark_at now b ≡ mark_at marks b)
         → AreMarked (views ++ view ∷ []) now
     one_more_marked now set kept = record {
-      set = λ b. push_all (λ k v. Takes k v b → get_or now b false ≡ true) views view
+      set = λ b. push_all (λ k v. Takes k v b → mark_at now b ≡ 1) views view
           (λ j e i takes. elim (in_or_out (cell_place page number kind (length views)) (view_room view) b) [ inl among ↦ set b among.0 among.1 | inr out ↦ kept b out ∙ marked.set b j e i takes ])
           (λ takes. set b takes.0 takes.1);
       only = λ b e. elim (in_or_out (cell_place page number kind (length views)) (view_room view) b) [
@@ -138,7 +94,7 @@ module _ (page : List ℕ) (number : ℕ) (kind : PageKind) where
     }
 
     pub one_more_view : (usable count : ℕ) → AreViews page number usable kind count views → IsViewAt page number usable kind count (length views) view
-        → ((b : ℕ) → cell_place page number kind (length views) ≤ b → b < cell_place page number kind (length views) + view_room view → get_or marks b false ≡ false)
+        → ((b : ℕ) → cell_place page number kind (length views) ≤ b → b < cell_place page number kind (length views) + view_room view → mark_at marks b ≡ 0)
         → AreViews page number usable kind count (views ++ view ∷ [])
     one_more_view usable count first placed free = record {
       each = push_all (IsViewAt page number usable kind count) views view first.each placed;
@@ -147,13 +103,13 @@ module _ (page : List ℕ) (number : ℕ) (kind : PageKind) where
           (subst (λ v. AreApart (cell_place page number kind j) (view_room (get_or views j d)) (cell_place page number kind n) (view_room v)) (get_or_default views n d e i) (first.apart j n d m i)))
           (λ m. subst (λ v. AreApart (cell_place page number kind j) (view_room v) (cell_place page number kind (length views)) (view_room view)) (sym (get_or_append_left views (view ∷ []) d j m))
           (apart_from_free (cell_place page number kind j) (view_room (get_or views j d)) (cell_place page number kind (length views)) (view_room view) (omega arith) (omega arith)
-          (λ b p q r s. both_ways (get_or marks b false) (free b r s) (marked.set b j d m (p, q)))))
+          (λ b p q r s. omega (arith, free b r s, marked.set b j d m (p, q)))))
           k d low order;
     }
 
     -- no page has a further cell that takes a byte of one of these
     pub overlaps : (usable count : ℕ) → usable ≤ length page → AreViews page number usable kind count views → (n : ℕ) → length views ≡ n → (one : CellView) → IsViewAt page number usable kind count n one
-        → (b : ℕ) × (cell_place page number kind n ≤ b) × (b < cell_place page number kind n + view_room one) × (get_or marks b false ≡ true)
+        → (b : ℕ) × (cell_place page number kind n ≤ b) × (b < cell_place page number kind n + view_room one) × (mark_at marks b ≡ 1)
         → (others : List CellView) → n < length others → AreViews page number usable kind count others → ⊥
     overlaps usable count whole first n many one at w others less are =
         let j = marked.only w.0 w.3 in

@@ -1,43 +1,17 @@
 -- The views of a page's cells, and the cells that they are views of.
-use Rattle.std.proofs.Common.{◌≡◌, ℕ, zero, suc, pos, ◌+◌, ◌-◌, ◌*◌, ◌<◌, ◌≤◌, ◌⊎◌, max, List, [], ◌∷◌, length, take, drop, slice_index, slice_index_or, get_or, refl, sym, ap, ◌∙◌, subst, inl, inr, arith, length-drop}
+use Rattle.std.proofs.Common.{◌≡◌, ℕ, ◌+◌, ◌-◌, ◌*◌, ◌≤◌, max, List, length, take, drop, get_or, sym, ap, ◌∙◌, subst, arith, length-drop}
 use Rattle.std.proofs.Math.Path.{subst⁻¹}
-use Rattle.std.proofs.lemmas.List.{take-take, length-take, same_lists, get_or_default}
+use Rattle.std.proofs.lemmas.List.{take-take, length-take, same_lists}
 use Rattle.byte_fields.specs.Bytes.{part_of}
 use Rattle.format_spec.specs.declared.PageKind.{PageKind}
-use Rattle.format_spec.specs.declared.PageKind.TheVariants.{IndexInterior, TableInterior, IndexLeaf, TableLeaf}
 use Rattle.format_spec.specs.declared.CellView.{CellView}
 use Rattle.format_spec.specs.Cell.{IsCell}
-use Rattle.format_spec.specs.Page.{IsPage, IsCellAt, AreApart, RightChild, header_place, array_place, cell_place, cell_room, cell_count, kind_byte}
+use Rattle.format_spec.specs.Page.{IsCellAt, array_place, cell_place}
 use Rattle.cell_codec.specs.Cells.{BeginsWithCell}
 use Rattle.cell_codec.specs.CellLaws.{cell-same_first}
 use Rattle.page_spec.specs.PlacesLaws.{length-part_of}
-use Rattle.page_layout.specs.Views.{HasViews, HasKind, IsViewAt, AreViews}
-
--- a view says how many bytes its cell has
-pub view-size : (kind : PageKind) (usable : ℕ) (cell : List ℕ) (view : CellView) → IsCell kind usable cell view → view.size ≡ length cell
-view-size TableLeaf usable cell view is = is.size
-view-size TableInterior usable cell view is = is.size
-view-size IndexLeaf usable cell view is = is.size
-view-size IndexInterior usable cell view is = is.size
-
--- a page has one kind
-pub kind_byte-same : (a b : PageKind) → kind_byte a ≡ kind_byte b → a ≡ b
-kind_byte-same TableLeaf TableLeaf e = refl
-kind_byte-same TableLeaf TableInterior e = absurd (omega (arith, e))
-kind_byte-same TableLeaf IndexLeaf e = absurd (omega (arith, e))
-kind_byte-same TableLeaf IndexInterior e = absurd (omega (arith, e))
-kind_byte-same TableInterior TableLeaf e = absurd (omega (arith, e))
-kind_byte-same TableInterior TableInterior e = refl
-kind_byte-same TableInterior IndexLeaf e = absurd (omega (arith, e))
-kind_byte-same TableInterior IndexInterior e = absurd (omega (arith, e))
-kind_byte-same IndexLeaf TableLeaf e = absurd (omega (arith, e))
-kind_byte-same IndexLeaf TableInterior e = absurd (omega (arith, e))
-kind_byte-same IndexLeaf IndexLeaf e = refl
-kind_byte-same IndexLeaf IndexInterior e = absurd (omega (arith, e))
-kind_byte-same IndexInterior TableLeaf e = absurd (omega (arith, e))
-kind_byte-same IndexInterior TableInterior e = absurd (omega (arith, e))
-kind_byte-same IndexInterior IndexLeaf e = absurd (omega (arith, e))
-kind_byte-same IndexInterior IndexInterior e = refl
+use Rattle.page_layout.specs.ViewsLaws.{view-size}
+use Rattle.page_layout.specs.Views.{IsViewAt, AreViews}
 
 module _ (page : List ℕ) (number usable : ℕ) (kind : PageKind) (whole : usable ≤ length page) where
   -- a cell of a page has a view

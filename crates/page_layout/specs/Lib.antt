@@ -1,3 +1,9 @@
+pub mod Accepted
+pub mod Bits
+pub mod Changed
+pub mod Measuring
 pub mod NoRoom
+pub mod Taken
 pub mod Views
+pub mod ViewsLaws
 pub mod Written

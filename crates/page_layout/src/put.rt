@@ -4,9 +4,9 @@ ghost use Rattle.std.specs.List.{insert};
 ghost use Rattle.format_spec.specs.Page.{header_place as place_of_header, header_length as length_of_header, kind_byte, cell_room};
 ghost use Rattle.format_spec.specs.Sizes.{IsUsable};
 ghost use Rattle.page_spec.specs.Rooms.{array_end, IsOneCell, KeepsRest, right_kept};
-ghost use Rattle.page_layout.specs.Written.{PutsPlace, PutsCell, IsLaid, laid_more};
+ghost use Rattle.page_layout.specs.Written.{PutsCounts, PutsPlace, PutsCell, IsPacked, IsLaid, KeepsPlaces, laid_more};
 
-use byte_fields::{put_u8, put_u16, put_u32};
+use byte_fields::{put_u8, put_u16};
 use cell_codec::PageKind;
 
 /// A page that is being written.
@@ -17,7 +17,7 @@ pub struct Layout {
     pub kind: PageKind,
     /// How many cells it has.
     pub count: usize,
-    /// Where they begin.
+    /// Where they begin, without a hole up to the end of the usable bytes.
     pub bottom: usize,
 }
 
@@ -46,6 +46,18 @@ pub fn room(size: usize) -> usize
     ensures { result ≡ max 4 size }
 {
     4.max(size)
+}
+
+/// Writes into a page's header how many cells it has and where they begin, without a freeblock and without a fragment.
+pub fn put_counts(page: &mut [u8], header: usize, count: usize, bottom: usize)
+    requires room { header + 8 ≤ length page.old }
+    requires count { count < 65536 }
+    ensures { PutsCounts page.old page.new header count bottom }
+{
+    put_u16(page, header + 1, 0);
+    put_u16(page, header + 3, count as u16);
+    put_u16(page, header + 5, (bottom % 65536) as u16);
+    put_u8(page, header + 7, 0);
 }
 
 // Puts a place into an array of so many, at an index.
@@ -79,8 +91,7 @@ fn put_at(
     ensures { PutsCell page.old page.new header array count at place cell.now }
 {
     put_place(page, array, count, at, place as u16);
-    put_u16(page, header + 3, (count + 1) as u16);
-    put_u16(page, header + 5, place as u16);
+    put_counts(page, header, count + 1, place);
     page[place..place + cell.len()].copy_from_slice(cell);
 }
 
@@ -92,8 +103,9 @@ pub fn put_cell(page: &mut [u8], layout: &mut Layout, at: usize, cell: &[u8])
     requires within { layout.old.bottom ≤ layout.old.usable }
     requires whole { layout.old.usable ≤ length page.old }
     requires long { length page.old ≤ 65536 }
-    ensures cells { (cells : List (List ℕ)) (right : ℕ) → IsLaid page.old layout.old cells right → IsLaid page.new layout.new (insert cells at cell.now) right }
+    ensures cells { (cells : List (List ℕ)) (right : ℕ) → IsPacked page.old layout.old cells right → IsLaid page.new layout.new (insert cells at cell.now) right }
     ensures layout { layout.new ≡ laid_more layout.old (cell_room cell.now) }
+    ensures still { KeepsPlaces page.old page.new layout.old.number layout.old.kind layout.old.count at }
     ensures rest { KeepsRest layout.old.number layout.old.usable page.old page.new }
 {
     let header = header_place(layout.number);

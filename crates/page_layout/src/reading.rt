@@ -1,5 +1,5 @@
 // Reads the cells of a page.
-ghost use Rattle.std.specs.Prelude.{◌≡◌, ◌+◌, ◌*◌, ◌<◌, ◌≤◌, ◌⊎◌, ℕ, List, Bool, true, false, IfOk, IfSome, IfNone, IsTrue, length, slice_index_or};
+ghost use Rattle.std.specs.Prelude.{◌≡◌, ◌+◌, ◌*◌, ◌<◌, ◌≤◌, ℕ, List, IfOk, IfSome, IfNone, length};
 ghost use Rattle.common_spec.specs.Reading.{ReadsOrWants, OrFault};
 ghost use Rattle.format_spec.specs.declared.CellView.{CellView};
 ghost use Rattle.format_spec.specs.declared.PageKind.{PageKind};
@@ -9,8 +9,9 @@ ghost use Rattle.page_spec.specs.Rooms.{array_end};
 ghost use Rattle.page_layout.specs.declared.reading.PageFault.TheVariants.{Memory};
 ghost use Rattle.page_layout.specs.Views.{HasViews, HasKind, HasPageFault, IsMemory, IsViewAt, AreViews};
 
+use crate::marks::{mark, no_marks};
+use crate::places::{count_of, place_of};
 use crate::put::{header_length, header_place, room};
-use byte_fields::u16_at;
 use cell_codec::{CellView, PageKind, read_cell};
 use refusal::Rule;
 use std::alloc::{AllocError, Global};
@@ -72,7 +73,7 @@ fn read_view(
     ensures none { IfNone result ((view : CellView) → ¬ IsViewAt page.now number usable kind count index view) }
 {
     let array = header_place(number) + header_length(kind);
-    let place = usize::from(u16_at(page, array + 2 * index));
+    let place = place_of(page, number, kind, index as u32);
     if place < array + 2 * count || place > usable as usize {
         return None;
     }
@@ -83,30 +84,6 @@ fn read_view(
         return None;
     }
     Some(PlacedView { place, view })
-}
-
-// So many marks, none of them set.
-fn no_marks(alloc: Global, size: usize) -> Result<Vec<bool>, AllocError>
-    ensures long { IfOk result (λ marks. length marks.items ≡ size) }
-    ensures unset { IfOk result (λ marks. (b : ℕ) → slice_index_or marks.items b false ≡ false) }
-{
-    vec![in alloc; false; size]
-}
-
-// Sets the marks of so many bytes from a place on, unless one of them is set already.
-fn mark(marks: &mut [bool], place: usize, size: usize) -> bool
-    requires { place + size ≤ length marks.old }
-    ensures free { IsTrue result → (b : ℕ) → place ≤ b → b < place + size → slice_index_or marks.old b false ≡ false }
-    ensures taken { result ≡ false → (b : ℕ) × (place ≤ b) × (b < place + size) × (slice_index_or marks.old b false ≡ true) }
-    ensures set { IsTrue result → (b : ℕ) → place ≤ b → b < place + size → slice_index_or marks.new b false ≡ true }
-    ensures kept { IsTrue result → (b : ℕ) → (b < place) ⊎ (place + size ≤ b) → slice_index_or marks.new b false ≡ slice_index_or marks.old b false }
-{
-    let bytes = &mut marks[place..place + size];
-    if bytes.contains(&true) {
-        return false;
-    }
-    bytes.fill(true);
-    true
 }
 
 // The views of the cells of a page that counts so many. `None` where one does not decode, leaves its bounds, or overlaps another.
@@ -155,7 +132,7 @@ pub fn cells(
         return Err(PageFault::BadPage { rule: Rule::Kind });
     };
     let header = header_place(number);
-    let count = usize::from(u16_at(page, header + 3));
+    let count = count_of(page, number);
     if header + header_length(kind) + 2 * count > usable as usize {
         return Err(PageFault::BadPage { rule: Rule::Cells });
     }

@@ -7,13 +7,15 @@ ghost use Rattle.page_spec.specs.Rooms.{IsOneCell, IsWritten, KeepsRest, array_e
 ghost use Rattle.page_layout.specs.Written.{HasEmptyHeader, IsLaid, LaidOn};
 ghost use Rattle.page_layout.specs.NoRoom.{Fits};
 
-use crate::put::{Layout, header_length, header_place, put_cell, room};
-use byte_fields::{put_u8, put_u16, put_u32};
+use crate::put::{Layout, header_length, header_place, put_cell, put_counts, room};
+use byte_fields::{put_u8, put_u32};
 use cell_codec::PageKind;
 use rbu_value::Bytes;
+use thiserror::Error;
 
 /// Cells have no room in a page. Both numbers are bytes.
-#[derive(Clone, Copy, Debug, PartialEq, Eq)]
+#[derive(Clone, Copy, Debug, PartialEq, Eq, Error)]
+#[error("{needs} bytes are needed, and {free} are free")]
 pub struct NoRoom {
     /// The room of the cells, and two bytes for the place of each; at most 2^64 - 1.
     pub needs: u64,
@@ -51,10 +53,7 @@ fn put_header(page: &mut [u8], header: usize, usable: u32, kind: PageKind)
     ensures { HasEmptyHeader page.old page.new header usable kind }
 {
     put_u8(page, header, kind_byte(kind));
-    put_u16(page, header + 1, 0);
-    put_u16(page, header + 3, 0);
-    put_u16(page, header + 5, (usable % 65536) as u16);
-    put_u8(page, header + 7, 0);
+    put_counts(page, header, 0, usable as usize);
 }
 
 /// Writes a page without cells.

@@ -5,3 +5,11 @@ pub mod Freelists
 pub mod Rooms
 pub mod PlacesLaws
 pub mod RoomsLaws
+pub mod PagesLaws
+pub mod Counts
+pub mod CountsLaws
+pub mod FreePages
+pub mod FreePagesLaws
+pub mod WrittenChains
+pub mod WrittenChainsLaws
+pub mod FreelistsLaws

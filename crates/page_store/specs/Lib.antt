@@ -1,3 +1,4 @@
 pub mod Calls
 pub mod Store
 pub mod Plain
+pub mod StoreLaws

@@ -1,8 +1,9 @@
 // Pages in memory.
-ghost use Rattle.std.specs.Prelude.{◌≡◌, ◌≤◌, ◌<◌, ◌^◌, [], Some, IfOk, OnOk, map, take, vec_len};
+ghost use Rattle.std.specs.Prelude.{◌≡◌, ◌≤◌, ◌<◌, ◌^◌, [], Some, OnOk, map, take, vec_len};
 ghost use Rattle.std.specs.List.{All};
 ghost use Rattle.page_store.specs.Plain.{numbered};
 
+use crate::numbers::page_buffer;
 use crate::store::{PageRead, PageWrite};
 use std::alloc::{AllocError, Global};
 
@@ -15,13 +16,6 @@ pub struct PlainStore {
     pages: Vec<Vec<u8>>,
     ghost whole: { All (λ page. vec_len page ≡ page_size) pages.items },
     ghost few: { vec_len pages < 2 ^ 32 },
-}
-
-// So many zeros.
-fn zeros(alloc: Global, n: usize) -> Result<Vec<u8>, AllocError>
-    ensures { IfOk result (λ bytes. vec_len bytes ≡ n) }
-{
-    vec![in alloc; 0; n]
 }
 
 // Adds pages of zeros up to the count, as long as there is memory.
@@ -39,7 +33,7 @@ fn grow(
     ensures kept { take (vec_len pages.old) pages.new.items ≡ pages.old.items }
 {
     for _ in pages.len()..count as usize {
-        pages.push(zeros(alloc, page_size as usize)?)?;
+        pages.push(page_buffer(alloc, page_size)?)?;
     }
     Ok(())
 }

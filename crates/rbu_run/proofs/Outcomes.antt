@@ -7,7 +7,7 @@ use Rattle.std.proofs.lemmas.List.Elements.{at_from_Contains}
 use Rattle.file_spec.specs.declared.FileName.TheVariants.{Target, Rbu}
 use Rattle.file_spec.specs.Files.{Files, content}
 use Rattle.refusal.specs.declared.Part.TheVariants as part
-use Rattle.refusal.specs.declared.Refusal.TheVariants.{NotYet}
+use Rattle.refusal.specs.declared.Refusal.TheVariants.{NotYet, BadPage, ChainBroken, TrunkDamaged, TargetFull}
 use Rattle.update_spec.specs.declared.Outcome.{Outcome}
 use Rattle.update_spec.specs.declared.Outcome.TheVariants.{Done, KeyPresent, Refused}
 use Rattle.small_spec.specs.declared.TargetRow.{TargetRow}
@@ -29,6 +29,10 @@ only_files f other (Refused (NotYet part.Target)) h = absurd (h.0 other)
 only_files f other (Refused (NotYet part.Rbu)) h = absurd (h.0 other)
 only_files f other (Refused (NotYet part.Rows)) (old, prepared, small, shares) = absurd (small.alone other)
 only_files f other (Refused (NotYet part.Room)) (old, prepared, small, keys, room) = absurd (small.alone other)
+only_files f other (Refused (BadPage rule)) h = absurd h
+only_files f other (Refused (ChainBroken page)) h = absurd h
+only_files f other (Refused (TrunkDamaged page)) h = absurd h
+only_files f other (Refused (TargetFull pages limit)) h = absurd h
 
 pub only_target : (f : Files) → (¬ HasOtherFile f) → ((old : List TargetRow) → ¬ IsSmallTarget (content f Target) old) → HasOnly f (Refused (NotYet part.Target))
 only_target f alone none Done (old, prepared, can, absent) = absurd (none old can.small.target)
@@ -39,6 +43,10 @@ only_target f alone none (Refused (NotYet part.Target)) h = refl
 only_target f alone none (Refused (NotYet part.Rbu)) h = absurd (none h.1.0 h.1.1)
 only_target f alone none (Refused (NotYet part.Rows)) (old, prepared, small, shares) = absurd (none old small.target)
 only_target f alone none (Refused (NotYet part.Room)) (old, prepared, small, keys, room) = absurd (none old small.target)
+only_target f alone none (Refused (BadPage rule)) h = absurd h
+only_target f alone none (Refused (ChainBroken page)) h = absurd h
+only_target f alone none (Refused (TrunkDamaged page)) h = absurd h
+only_target f alone none (Refused (TargetFull pages limit)) h = absurd h
 
 pub only_rbu : (f : Files) → (¬ HasOtherFile f) → (old : List TargetRow) → IsSmallTarget (content f Target) old →
     ((prepared : List PreparedRow) → ¬ IsSmallRbu (content f Rbu) prepared) → HasOnly f (Refused (NotYet part.Rbu))
@@ -50,6 +58,10 @@ only_rbu f alone rows small none (Refused (NotYet part.Target)) h = absurd (h.1 
 only_rbu f alone rows small none (Refused (NotYet part.Rbu)) h = refl
 only_rbu f alone rows small none (Refused (NotYet part.Rows)) (old, prepared, both, shares) = absurd (none prepared both.rbu)
 only_rbu f alone rows small none (Refused (NotYet part.Room)) (old, prepared, both, keys, room) = absurd (none prepared both.rbu)
+only_rbu f alone rows small none (Refused (BadPage rule)) h = absurd h
+only_rbu f alone rows small none (Refused (ChainBroken page)) h = absurd h
+only_rbu f alone rows small none (Refused (TrunkDamaged page)) h = absurd h
+only_rbu f alone rows small none (Refused (TargetFull pages limit)) h = absurd h
 
 -- two places with one key are one place
 one_place : (prepared : List PreparedRow) → HasDistinctKeys prepared → (r s : PreparedRow) → Contains prepared r → Contains prepared s → r.key ≡ s.key → r.data_rowid ≡ s.data_rowid
@@ -133,3 +145,7 @@ only_decided f target old prepared known d decides (Refused (NotYet part.Rows)) 
     rows_only old prepared d decides (carried (λ _ q. ¬ HasDistinctKeys q) (known.only o p both) shares)
 only_decided f target old prepared known d decides (Refused (NotYet part.Room)) (o, p, both, keys, room) =
     room_only old prepared d decides (carried (λ _ q. HasDistinctKeys q) (known.only o p both) keys) (carried (λ r q. 4096 < page_room (all_rows r q)) (known.only o p both) room)
+only_decided f target old prepared known d decides (Refused (BadPage rule)) h = absurd h
+only_decided f target old prepared known d decides (Refused (ChainBroken page)) h = absurd h
+only_decided f target old prepared known d decides (Refused (TrunkDamaged page)) h = absurd h
+only_decided f target old prepared known d decides (Refused (TargetFull pages limit)) h = absurd h

@@ -4,7 +4,7 @@ use Rattle.file_spec.specs.declared.FileName.{FileName}
 use Rattle.file_spec.specs.declared.FileName.TheVariants.{Target, Oal, Wal}
 use Rattle.file_spec.specs.Files.{Files, content, is_name, with_file, OnlyChanges}
 use Rattle.format_spec.specs.Log.{Frame, log_header, log_sums, frames_bytes}
-use Rattle.wal_codec.specs.LogLaws.{two_pages}
+use Rattle.wal_codec.specs.Frames.{two_pages}
 use Rattle.small_spec.specs.SmallUpdate.{AreNewBytes}
 
 -- the frames of both pages, of which the second commits

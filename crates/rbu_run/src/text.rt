@@ -1,6 +1,8 @@
 // The line and the status of an answer.
-ghost use Rattle.std.specs.Prelude.{◌≡◌, ◌≤◌, ◌⊎◌, ◌++◌, ◌∷◌, [], List, ℕ, ℤ, length, string_bytes, IfOk, OnErr};
-ghost use Rattle.std.specs.Fmt.{signed_decimal};
+ghost use Rattle.std.specs.Prelude.{◌≡◌, ◌≤◌, ◌+◌, ◌⊎◌, ◌++◌, ◌∷◌, [], List, ℕ, ℤ, length, string_bytes, IfOk, OnErr};
+ghost use Rattle.std.specs.Fmt.{decimal, signed_decimal};
+ghost use Rattle.arrayvec.specs.ArrayString.{array_string_len};
+ghost use Rattle.refusal.specs.declared.Refusal.TheVariants.{TargetFull};
 ghost use Rattle.refusal.specs.Refusal.{refusal_text};
 ghost use Rattle.update_spec.specs.Text.{answer_line, answer_status};
 ghost use Rattle.update_spec.specs.declared.Outcome.TheVariants.{KeyPresent, Refused};
@@ -9,8 +11,9 @@ ghost use Rattle.rbu_run.specs.Line.{line_bytes};
 ghost use Rattle.rbu_run.specs.Told.{IsTold};
 
 use arrayvec::ArrayString;
+use itoa::Buffer;
 use rbu_disk::{DiskCall, FileName, Sink, SinkFault};
-use refusal::{Part, Refusal};
+use refusal::Refusal;
 use std::alloc::{AllocError, Global};
 use update_spec::{Answer, Outcome};
 
@@ -63,15 +66,64 @@ fn fault_line(file: FileName, call: DiskCall) -> ArrayString<64>
     line
 }
 
+// A line of words that are known and one more.
+fn word_line(words: &'static str, word: &'static str) -> ArrayString<64>
+    requires words { length words.now ≤ 30 }
+    requires word { length word.now ≤ 6 }
+    ensures { result.bytes ≡ words.now ++ (word.now ++ 10 ∷ []) }
+{
+    let mut line = ArrayString::new();
+    line.push_str(words);
+    line.push_str(word);
+    line.push_str("\n");
+    line
+}
+
+// Appends a number in decimal digits.
+fn push_number(line: &mut ArrayString<64>, number: u64)
+    requires { array_string_len line.old + 20 ≤ 64 }
+    ensures bytes { line.new.bytes ≡ line.old.bytes ++ decimal number }
+    ensures len { array_string_len line.new ≤ array_string_len line.old + 20 }
+{
+    let mut digits = Buffer::new();
+    line.push_str(digits.format(number));
+}
+
+// A line of words that are known and a number.
+fn number_line(words: &'static str, number: u64) -> ArrayString<64>
+    requires { length words.now ≤ 30 }
+    ensures { result.bytes ≡ words.now ++ (decimal number ++ 10 ∷ []) }
+{
+    let mut line = ArrayString::new();
+    line.push_str(words);
+    push_number(&mut line, number);
+    line.push_str("\n");
+    line
+}
+
+// The line of a target that is full.
+fn full_line(pages: u64, limit: u64) -> ArrayString<64>
+    ensures { result.bytes ≡ answer_line (Ended (Refused (TargetFull pages limit))) }
+{
+    let mut line = ArrayString::new();
+    line.push_str("refused 51 TargetFull ");
+    push_number(&mut line, pages);
+    line.push_str(" ");
+    push_number(&mut line, limit);
+    line.push_str("\n");
+    line
+}
+
 fn refused_line(refusal: Refusal) -> ArrayString<64>
     ensures { result.bytes ≡ answer_line (Ended (Refused refusal)) }
 {
-    let Refusal::NotYet { part } = refusal;
-    let mut line = ArrayString::new();
-    line.push_str("refused 1 NotYet ");
-    line.push_str(part.word());
-    line.push_str("\n");
-    line
+    match refusal {
+        Refusal::NotYet { part } => word_line("refused 1 NotYet ", part.word()),
+        Refusal::BadPage { rule } => word_line("refused 40 BadPage ", rule.word()),
+        Refusal::ChainBroken { page } => number_line("refused 45 ChainBroken ", page),
+        Refusal::TrunkDamaged { page } => number_line("refused 50 TrunkDamaged ", page),
+        Refusal::TargetFull { pages, limit } => full_line(pages, limit),
+    }
 }
 
 fn digits_of(alloc: Global, rowid: i64) -> Result<String, AllocError>

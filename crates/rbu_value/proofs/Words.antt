@@ -11,23 +11,23 @@ abbrev lower : List ℕ → List ℕ
 lower = map to_ascii_lowercase
 
 -- a text whose front is the word begins with it
-pub begins_from_front : (text word : List ℕ) (n : ℕ) → lower (take n text) ≡ lower word → BeginsWith text word
-begins_from_front text word n e =
+pub BeginsWith-from_front : (text word : List ℕ) (n : ℕ) → lower (take n text) ≡ lower word → BeginsWith text word
+BeginsWith-from_front text word n e =
     (lower (drop n text), ap lower (sym (take-append-drop n text)) ∙ map-append to_ascii_lowercase (take n text) (drop n text) ∙ ap (λ front. front ++ lower (drop n text)) e)
 
 -- the front of a text that begins with the word is the word
-pub front_from_begins : (text word : List ℕ) → BeginsWith text word → lower (take (length word) text) ≡ lower word
-front_from_begins text word (rest, e) =
+pub BeginsWith-front : (text word : List ℕ) → BeginsWith text word → lower (take (length word) text) ≡ lower word
+BeginsWith-front text word (rest, e) =
     sym (take-map to_ascii_lowercase (length word) text) ∙ ap (take (length word)) e ∙ take_at (lower word) rest (length word) (length-map word to_ascii_lowercase)
 
 -- a text that begins with the word at some place mentions it
-pub mentions_from_place : (text word : List ℕ) (at : ℕ) → BeginsWith (drop at text) word → Mentions text word
-mentions_from_place text word at (rest, e) =
+pub Mentions-from_place : (text word : List ℕ) (at : ℕ) → BeginsWith (drop at text) word → Mentions text word
+Mentions-from_place text word at (rest, e) =
     (lower (take at text), rest, ap lower (sym (take-append-drop at text)) ∙ map-append to_ascii_lowercase (take at text) (drop at text) ∙ ap (λ back. lower (take at text) ++ back) e)
 
 -- a text that mentions the word begins with it at some place
-pub place_from_mentions : (text word : List ℕ) → 0 < length word → Mentions text word → (at : ℕ) × (at < length text) × BeginsWith (drop at text) word
-place_from_mentions text word some (front, rest, e) =
+pub Mentions-place : (text word : List ℕ) → 0 < length word → Mentions text word → (at : ℕ) × (at < length text) × BeginsWith (drop at text) word
+Mentions-place text word some (front, rest, e) =
     let whole : length text ≡ length front + (length word + length rest) =
     sym (length-map text to_ascii_lowercase) ∙ ap length e ∙ length-append front (lower word ++ rest) ∙ ap (λ n. length front + n) (length-append (lower word) rest ∙ ap (λ n. n + length rest) (length-map word to_ascii_lowercase))
     in

@@ -16,6 +16,3 @@ pub use affinity::{Affinity, affinity_of, keeps_class};
 pub use bytes::Bytes;
 pub use order::{Collation, compare, values_are_ordered};
 pub use value::Value;
-
-#[cfg(test)]
-mod tests;

@@ -14,6 +14,3 @@ mod turns;
 pub use gate::{Gate, OpenGate, Point};
 pub use reader::run_reader;
 pub use turns::{Begun, ReadTurns, Stepped};
-
-#[cfg(test)]
-mod tests;

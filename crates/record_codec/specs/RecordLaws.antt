@@ -1,20 +1,17 @@
 -- What follows from the definition of records alone: crates above cite these facts in their proofs.
-use Rattle.std.proofs.Common.{◌≡◌, ℕ, ◌+◌, ◌*◌, ◌^◌, ◌<◌, ◌≤◌, ◌&&◌, ℤ, pos, negsuc, cond, ltb, eqb, List, [], ◌∷◌, ◌++◌, length, inl, inr, refl, sym, ◌∙◌, ap, subst, append_assoc, length-append, arith, FitsSigned}
+use Rattle.std.proofs.Common.{◌≡◌, ℕ, ◌+◌, ◌*◌, ◌^◌, ◌<◌, ◌≤◌, ◌&&◌, ℤ, pos, negsuc, cond, ltb, eqb, List, [], ◌∷◌, ◌++◌, length, inl, inr, refl, sym, ◌∙◌, ap, subst, append_assoc, length-append, arith}
 use Rattle.std.proofs.lemmas.Bool.{cond_both, and_parts, ltb-true, ltb-false}
 use Rattle.std.proofs.lemmas.Bool.Decides.{nat_tests}
 use Rattle.std.proofs.lemmas.List.{append_cancel_left}
 use Rattle.std.specs.List.{AllByRecursion, flat_map}
-use Rattle.std.specs.Int.{w64}
-use Rattle.byteorder.specs.Endian.{big_bytes, big_number, low_bytes, twos_complement}
-use Rattle.byteorder.specs.Numbers.{length-bytes_high_first}
 use Rattle.rbu_value.specs.declared.value.Value.{Value}
 use Rattle.rbu_value.specs.declared.value.Value.TheVariants.{Null, Int, Text, Blob}
 use Rattle.format_spec.specs.Varint.{IsVarint, varint, varint_front}
 use Rattle.format_spec.specs.Record.{int_type, int_size, int_body, serial_type, body, header_size_bytes, serial_types, record_header, canonical_record, IsField, AreFields, IsRecord}
-use Rattle.cell_codec.specs.VarintLaws.{varint-same, spelling-one_to_nine, varint_size, varint_spells, varint-one_to_nine}
+use Rattle.cell_codec.specs.VarintLaws.{varint-same, spelling-one_to_nine, varint_size, varint_spells}
 use Rattle.byte_fields.specs.BytesLaws.{append-same}
 use Rattle.record_codec.specs.Faults.{body_size}
-pub use Rattle.record_codec.specs.Records.{IsStored, HaveRecord}
+use Rattle.record_codec.specs.Records.{IsStored, HaveRecord}
 use Rattle.record_codec.specs.IntegersLaws.{field-shortest, int_body-none}
 
 -- how many bytes a field has

@@ -12,6 +12,3 @@ mod write;
 pub use laws::{canonical_record_is_read, canonical_records_are_apart, record_has_one_reading};
 pub use read::{RecordFault, read_record};
 pub use write::write_record;
-
-#[cfg(test)]
-mod tests;

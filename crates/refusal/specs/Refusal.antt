@@ -1,11 +1,12 @@
 -- How a refusal is printed: its number, its name and its fields, with a space between.
 use Rattle.std.specs.Prelude.{ℕ, List, ◌++◌, codes}
+use Rattle.std.specs.Fmt.{decimal}
 use Rattle.refusal.specs.declared.Part.{Part}
 use Rattle.refusal.specs.declared.Part.TheVariants as part
 use Rattle.refusal.specs.declared.Rule.{Rule}
 use Rattle.refusal.specs.declared.Rule.TheVariants as rule
 use Rattle.refusal.specs.declared.Refusal.{Refusal}
-use Rattle.refusal.specs.declared.Refusal.TheVariants.{NotYet}
+use Rattle.refusal.specs.declared.Refusal.TheVariants.{NotYet, BadPage, ChainBroken, TrunkDamaged, TargetFull}
 
 -- the word of a part that is not built
 abbrev pub part_word : Part → List ℕ
@@ -31,3 +32,7 @@ rule_word rule.Record = codes "record"
 -- what is printed of a refusal
 abbrev pub refusal_text : Refusal → List ℕ
 refusal_text (NotYet part) = codes "1 NotYet " ++ part_word part
+refusal_text (BadPage rule) = codes "40 BadPage " ++ rule_word rule
+refusal_text (ChainBroken page) = codes "45 ChainBroken " ++ decimal page
+refusal_text (TrunkDamaged page) = codes "50 TrunkDamaged " ++ decimal page
+refusal_text (TargetFull pages limit) = codes "51 TargetFull " ++ (decimal pages ++ (codes " " ++ decimal limit))

@@ -92,4 +92,12 @@ impl Rule {
 pub enum Refusal {
     /// 1: the input is of a part that is not built yet.
     NotYet { part: Part },
+    /// 40: a page is not accepted.
+    BadPage { rule: Rule },
+    /// 45: an overflow chain ends too early or too late, or leaves its range. The wrong number stands in this page, or is the page itself where that is the first.
+    ChainBroken { page: u64 },
+    /// 50: the number of a trunk or a leaf page of the freelist is out of range, or a trunk counts too many. The wrong number stands in this page.
+    TrunkDamaged { page: u64 },
+    /// 51: no page is free, and the next page past the end would pass the limit. Both are numbers of pages.
+    TargetFull { pages: u64, limit: u64 },
 }

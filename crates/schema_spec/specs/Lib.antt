@@ -1,3 +1,13 @@
 pub mod Tokens
 pub mod Parts
 pub mod TokensLaws
+pub mod Words
+pub mod Fronts
+pub mod Brackets
+pub mod ColumnGrammar
+pub mod TableGrammar
+pub mod Names
+pub mod Causes
+pub mod Texts
+pub mod Stops
+pub mod TextsLaws

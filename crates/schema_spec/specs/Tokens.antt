@@ -1,5 +1,5 @@
 -- The tokens of an SQL text (SQL Comment Syntax; SQLite Keywords; Literal Values).
-use Rattle.std.specs.Prelude.{◌≡◌, ◌≢◌, ℕ, ◌-◌, ◌==◌, nat_le, ◌&&◌, ◌||◌, not, Bool, true, false, if◌then◌else◌, List, [], ◌∷◌, length, filter, get_or, Option, Some, None}
+use Rattle.std.specs.Prelude.{◌≡◌, ◌≢◌, ℕ, zero, suc, ◌-◌, ◌==◌, nat_le, ◌&&◌, ◌||◌, not, Bool, true, false, if◌then◌else◌, List, [], ◌∷◌, length, filter, get_or, Option, Some, None}
 use Rattle.std.specs.Char.{is_ascii_digit, is_ascii_alphanumeric}
 use Rattle.schema_spec.specs.declared.token.TokenKind.{TokenKind}
 use Rattle.schema_spec.specs.declared.token.TokenKind.TheVariants.{Space, LineComment, BlockComment, Word, Number, Quoted, Bracketed, Unclosed, Sign}
@@ -92,3 +92,15 @@ is_token _ = true
 -- the tokens of a text: its parts without those that separate
 abbrev pub AreTokens : List ℕ → List Token → Type 0
 AreTokens text tokens = (parts : List Token) × AreParts (length text) text parts × (tokens ≡ filter (λ part. is_token part.kind) parts)
+
+-- the parts of what is left of a text of so many bytes, at most so many: no text has more parts than bytes
+abbrev pub parts_of : ℕ → ℕ → List ℕ → List Token
+parts_of zero size left = []
+parts_of (suc n) size [] = []
+parts_of (suc n) size (b ∷ text) =
+    let first = first_part (b ∷ text) in
+    record { kind = first.0; start = size - length (b ∷ text); end = size - length first.1 } ∷ parts_of n size first.1
+
+-- the tokens of a text, computed
+abbrev pub tokens_of : List ℕ → List Token
+tokens_of text = filter (λ part. is_token part.kind) (parts_of (length text) (length text) text)

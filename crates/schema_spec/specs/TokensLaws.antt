@@ -1,9 +1,11 @@
--- A text has one list of tokens, and what their parts are.
-use Rattle.std.specs.Prelude.{◌≡◌, ℕ, ◌==◌, Bool, true, false, if◌then◌else◌, ◌⊎◌, List, [], ◌∷◌, ◌++◌, length, filter, Some, None, refl}
-use Rattle.std.proofs.Common.{sym, ap, ◌∙◌, inl, inr, eqb-true, eq-eqb}
+-- A text has a list of tokens and one alone, and what their parts are.
+use Rattle.std.specs.Prelude.{◌≡◌, ℕ, zero, suc, ◌≤◌, ◌==◌, Bool, true, false, if◌then◌else◌, ◌⊎◌, List, [], ◌∷◌, ◌++◌, length, filter, get_or, Option, Some, None, refl}
+use Rattle.std.proofs.Common.{sym, ap, ◌∙◌, inl, inr, eqb-true, eq-eqb, arith}
+use Rattle.schema_spec.specs.declared.token.TokenKind.{TokenKind}
+use Rattle.schema_spec.specs.declared.token.TokenKind.TheVariants.{Space, LineComment, BlockComment, Word, Number, Quoted, Bracketed, Unclosed, Sign}
 use Rattle.schema_spec.specs.declared.token.Token.{Token}
 use Rattle.schema_spec.specs.Parts.{IsRun, doubled, NotFirst, IsClosedOrNot}
-use Rattle.schema_spec.specs.Tokens.{first_part, AreParts, AreTokens, is_token, past, past_quoted}
+use Rattle.schema_spec.specs.Tokens.{first_part, part_of, opening, goes_on, closed, behind_first, behind_close, parts_of, tokens_of, AreParts, AreTokens, is_token, past, past_quoted}
 
 -- a text has one list of parts
 parts-one : (size : ℕ) (left : List ℕ) (a b : List Token) → AreParts size left a → AreParts size left b → a ≡ b
@@ -102,3 +104,69 @@ quoted-closed_or_not quote (b ∷ c ∷ text) =
       ]
       | inr e ↦ add_other quote b (c ∷ text) e (quoted-closed_or_not quote (c ∷ text))
     ]
+
+-- what is left behind a part is no longer than what stands behind its first byte
+past-shorter : (p : ℕ → ℕ → Bool) (before : ℕ) (text : List ℕ) → length (past p before text) ≤ length text
+past-shorter p before [] = omega arith
+past-shorter p before (b ∷ text) = shorter (p before b) (past-shorter p b text)
+  where
+    shorter : (test : Bool) → length (past p b text) ≤ length text → length (if test then past p b text else (b ∷ text)) ≤ length (b ∷ text)
+    shorter true h = omega (arith, h)
+    shorter false h = omega arith
+
+-- what is left where something closes a text, and nothing otherwise
+abbrev left_of : Option (List ℕ) → List ℕ
+left_of None = []
+left_of (Some rest) = rest
+
+past_quoted-shorter : (quote : ℕ) (text : List ℕ) → length (left_of (past_quoted quote text)) ≤ length text
+past_quoted-shorter quote [] = omega arith
+past_quoted-shorter quote (b ∷ []) = last (b == quote)
+  where
+    last : (test : Bool) → length (left_of (if test then Some [] else None)) ≤ length (b ∷ [])
+    last true = omega arith
+    last false = omega arith
+past_quoted-shorter quote (b ∷ c ∷ text) = both (b == quote) (c == quote) (past_quoted-shorter quote text) (past_quoted-shorter quote (c ∷ text))
+  where
+    both : (first second : Bool) → length (left_of (past_quoted quote text)) ≤ length text → length (left_of (past_quoted quote (c ∷ text))) ≤ length (c ∷ text)
+        → length (left_of (if first then (if second then past_quoted quote text else Some (c ∷ text)) else past_quoted quote (c ∷ text))) ≤ length (b ∷ c ∷ text)
+    both true true h k = omega (arith, h)
+    both true false h k = omega arith
+    both false second h k = omega (arith, k)
+
+closed-left : (kind : TokenKind) (rest : Option (List ℕ)) → (closed kind rest).1 ≡ left_of rest
+closed-left kind None = refl
+closed-left kind (Some rest) = refl
+
+behind_first-shorter : (text : List ℕ) → length (behind_first text) ≤ length text
+behind_first-shorter [] = omega arith
+behind_first-shorter (b ∷ text) = omega arith
+
+behind_close-shorter : (text : List ℕ) → length (left_of (behind_close text)) ≤ length text
+behind_close-shorter [] = omega arith
+behind_close-shorter (b ∷ text) = omega arith
+
+part_of-shorter : (kind : TokenKind) (b : ℕ) (text : List ℕ) → length (part_of kind b text).1 ≤ length text
+part_of-shorter Space b text = past-shorter (goes_on Space) b text
+part_of-shorter LineComment b text = past-shorter (goes_on LineComment) b text
+part_of-shorter BlockComment b text =
+    let inside = behind_first text in
+    omega (arith, behind_first-shorter (past (goes_on BlockComment) 0 inside), past-shorter (goes_on BlockComment) 0 inside, behind_first-shorter text)
+part_of-shorter Word b text = past-shorter (goes_on Word) b text
+part_of-shorter Number b text = past-shorter (goes_on Number) b text
+part_of-shorter Quoted b text = rw (closed-left Quoted (past_quoted b text)) (past_quoted-shorter b text)
+part_of-shorter Bracketed b text =
+    rw (closed-left Bracketed (behind_close (past (goes_on Bracketed) b text))) (omega (arith, behind_close-shorter (past (goes_on Bracketed) b text), past-shorter (goes_on Bracketed) b text))
+part_of-shorter Unclosed b text = past-shorter (goes_on Unclosed) b text
+part_of-shorter Sign b text = past-shorter (goes_on Sign) b text
+
+parts-are : (n size : ℕ) (left : List ℕ) → length left ≤ n → AreParts size left (parts_of n size left)
+parts-are zero size [] h = refl
+parts-are zero size (b ∷ left) h = absurd (omega (arith, h))
+parts-are (suc n) size [] h = refl
+parts-are (suc n) size (b ∷ text) h =
+    (λ e. absurd (cc), refl, refl, refl, parts-are n size (first_part (b ∷ text)).1 (let s = part_of-shorter (opening b (get_or text 0 0)) b text in omega (arith, h, s)))
+
+-- a text has the tokens that are computed
+pub tokens-are : (text : List ℕ) → AreTokens text (tokens_of text)
+tokens-are text = (parts_of (length text) (length text) text, parts-are (length text) (length text) text (omega arith), refl)

@@ -4,9 +4,16 @@
 #![tactic(auto)]
 
 mod laws;
+mod schema;
+mod syntax;
 mod token;
 mod worked;
 
-pub use laws::token_parts;
+pub use laws::{text_answers, token_parts};
+pub use schema::{Clause, Column, Index, SqlFault, Table};
+pub use syntax::{
+    ColumnConstraint, ColumnRule, ColumnText, IndexText, IndexedPart, ListedColumn,
+    TableConstraint, TableOption, TableRule, TableStatement, TableText,
+};
 pub use token::{Token, TokenKind};
-pub use worked::worked_tokens;
+pub use worked::{worked_stops, worked_texts, worked_tokens};

@@ -1,6 +1,4 @@
 pub mod CellRows
-pub mod Marks
-pub mod PageCells
 pub mod Pages
 pub mod Readings
 pub mod Records

@@ -6,7 +6,7 @@ use Rattle.small_spec.specs.SmallFile.{Table, IsSmall, IsSmallFile, IsRisingBy, 
 use Rattle.small_file.specs.declared.page.PlacedCell.{PlacedCell}
 use Rattle.small_file.specs.Pages.{cell_of}
 use Rattle.small_file.specs.Files.{HoldsTable}
-use Rattle.small_file.proofs.Rows.{small_has_table}
+use Rattle.small_file.proofs.Rows.{small_file-table}
 
 -- where nothing has P
 pub Reads-none : {A : Type 0} (P : A → Type 0) → ((found : A) → ¬ P found) → Reads (OrNone P) None
@@ -59,34 +59,34 @@ AllZip-only R (x ∷ xs) (y ∷ ys) (z ∷ others) all also = ap₂ (λ a b. a �
 
 -- what the rows of a file's cells say of the file
 module _ {Row : Type 0} (table : Table Row) (bytes schema page : List ℕ) (cells found : List PlacedCell) (is : schema ≡ schema_record table.name table.text) (page_is : page ≡ drop 4096 bytes) (cells_are : cells ≡ found) (holds : HoldsTable bytes schema found) where
-  all_cells : map (cell_of page) cells ≡ map (cell_of (drop 4096 bytes)) found
-  all_cells = ap (λ p. map (cell_of p) cells) page_is ∙ ap (map (cell_of (drop 4096 bytes))) cells_are
+  cells-all : map (cell_of page) cells ≡ map (cell_of (drop 4096 bytes)) found
+  cells-all = ap (λ p. map (cell_of p) cells) page_is ∙ ap (map (cell_of (drop 4096 bytes))) cells_are
 
-  rows_of_small : (rows : List Row) → IsSmall table bytes rows → AllZip table.IsRow (map (cell_of page) cells) rows
-  rows_of_small rows small =
+  small-rows : (rows : List Row) → IsSmall table bytes rows → AllZip table.IsRow (map (cell_of page) cells) rows
+  small-rows rows small =
       let file : IsSmallFile bytes schema small.cells = subst (λ s. IsSmallFile bytes s small.cells) (sym is) small.file in
-      subst (λ all. AllZip table.IsRow all rows) (holds.second.only small.cells 0 (small_has_table bytes schema small.cells file) ∙ sym all_cells) small.each
+      subst (λ all. AllZip table.IsRow all rows) (holds.second.only small.cells 0 (small_file-table bytes schema small.cells file) ∙ sym cells-all) small.each
 
-  small_of_rows : (rows : List Row) → AllZip table.IsRow (map (cell_of page) cells) rows → IsRisingBy table.rowid rows → IsSmall table bytes rows
-  small_of_rows rows each rising = record {
+  rows-small : (rows : List Row) → AllZip table.IsRow (map (cell_of page) cells) rows → IsRisingBy table.rowid rows → IsSmall table bytes rows
+  rows-small rows each rising = record {
     cells = map (cell_of (drop 4096 bytes)) found;
     file = subst (λ s. IsSmallFile bytes s (map (cell_of (drop 4096 bytes)) found)) is holds.file;
-    each = subst (λ all. AllZip table.IsRow all rows) all_cells each;
+    each = subst (λ all. AllZip table.IsRow all rows) cells-all each;
     rising = rising;
   }
 
   -- a cell is no row
-  pub no_small : Reads (OrNone (AllZip table.IsRow (map (cell_of page) cells))) None → Reads (OrNone (IsSmall table bytes)) None
-  no_small reads = Reads-none (IsSmall table bytes) (λ rows small. reads.holds rows (rows_of_small rows small))
+  pub rows-none_small : Reads (OrNone (AllZip table.IsRow (map (cell_of page) cells))) None → Reads (OrNone (IsSmall table bytes)) None
+  rows-none_small reads = Reads-none (IsSmall table bytes) (λ rows small. reads.holds rows (small-rows rows small))
 
   module _ (rows : List Row) (reads : Reads (OrNone (AllZip table.IsRow (map (cell_of page) cells))) (Some rows)) where
-    only_rows : Reads (AllZip table.IsRow (map (cell_of page) cells)) rows
-    only_rows = some-of_reads (AllZip table.IsRow (map (cell_of page) cells)) rows reads
+    rows-only : Reads (AllZip table.IsRow (map (cell_of page) cells)) rows
+    rows-only = some-of_reads (AllZip table.IsRow (map (cell_of page) cells)) rows reads
 
     -- the rows are out of order
-    pub not_small : ¬ IsRisingBy table.rowid rows → Reads (OrNone (IsSmall table bytes)) None
-    not_small falls = Reads-none (IsSmall table bytes) (λ others small. falls (subst (λ r. IsRisingBy table.rowid r) (sym (only_rows.only others (rows_of_small others small))) small.rising))
+    pub rows-not_rising : ¬ IsRisingBy table.rowid rows → Reads (OrNone (IsSmall table bytes)) None
+    rows-not_rising falls = Reads-none (IsSmall table bytes) (λ others small. falls (subst (λ r. IsRisingBy table.rowid r) (sym (rows-only.only others (small-rows others small))) small.rising))
 
-    pub one_small : IsRisingBy table.rowid rows → Reads (OrNone (IsSmall table bytes)) (Some rows)
-    one_small rising =
-        Reads-some (IsSmall table bytes) rows (small_of_rows rows only_rows.holds rising) (λ others small. only_rows.only others (rows_of_small others small))
+    pub rows-one_small : IsRisingBy table.rowid rows → Reads (OrNone (IsSmall table bytes)) (Some rows)
+    rows-one_small rising =
+        Reads-some (IsSmall table bytes) rows (rows-small rows rows-only.holds rising) (λ others small. rows-only.only others (small-rows others small))

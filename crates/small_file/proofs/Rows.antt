@@ -13,18 +13,12 @@ use Rattle.small_spec.specs.SmallFile.{IsWholeCell, IsSmallFile, IsSmallHeader}
 use Rattle.small_file.specs.declared.page.PlacedCell.{PlacedCell}
 use Rattle.small_file.specs.Pages.{cell_of, IsPlaced, HoldsCells}
 use Rattle.small_file.specs.Files.{payload_of, HasSchema, HoldsTable}
-use Rattle.small_file.proofs.Pages.{cell_length}
-
--- the bytes of a placed cell have one view
-pub view-one : (page : List ℕ) (cell : PlacedCell) (view : CellView) → length page ≡ 4096 → IsPlaced page cell → IsCell TableLeaf 4096 (cell_of page cell) view → view ≡ cell.view
-view-one page cell view long h w =
-    let size : view.size ≡ cell.view.size = w.size ∙ cell_length page cell h in
-    h.only view (omega (arith, size, h.inside, length-drop cell.place page, long)) (subst (λ n. IsCell TableLeaf 4096 (part_of page cell.place n) view) (sym size) w)
+use Rattle.small_file.proofs.Pages.{view-one}
 
 -- what makes a placed cell a whole cell
-pub whole_from : (page : List ℕ) (cell : PlacedCell) (payload : List ℕ) → IsPlaced page cell → cell.view.local ≡ cell.view.payload → payload_of page cell ≡ payload
+pub whole_cell-from_view : (page : List ℕ) (cell : PlacedCell) (payload : List ℕ) → IsPlaced page cell → cell.view.local ≡ cell.view.payload → payload_of page cell ≡ payload
     → IsWholeCell (cell_of page cell) cell.view.rowid payload
-whole_from page cell payload h whole e = record { view = cell.view; is_cell = h.is_cell; rowid_is = refl; whole = whole; payload_is = e }
+whole_cell-from_view page cell payload h whole e = record { view = cell.view; is_cell = h.is_cell; rowid_is = refl; whole = whole; payload_is = e }
 
 -- and what a whole cell says of it
 pub record WholeParts (page : List ℕ) (cell : PlacedCell) (rowid : ℤ) (payload : List ℕ) : Type 0 where
@@ -32,10 +26,10 @@ pub record WholeParts (page : List ℕ) (cell : PlacedCell) (rowid : ℤ) (paylo
   pub whole : cell.view.local ≡ cell.view.payload
   pub payload_is : payload_of page cell ≡ payload
 
-pub whole_parts : (page : List ℕ) (cell : PlacedCell) (rowid : ℤ) (payload : List ℕ) → length page ≡ 4096 → IsPlaced page cell → IsWholeCell (cell_of page cell) rowid payload
+pub whole_cell-parts : (page : List ℕ) (cell : PlacedCell) (rowid : ℤ) (payload : List ℕ) → IsPlaced page cell → IsWholeCell (cell_of page cell) rowid payload
     → WholeParts page cell rowid payload
-whole_parts page cell rowid payload long h w =
-    let same = view-one page cell w.view long h w.is_cell in
+whole_cell-parts page cell rowid payload h w =
+    let same = view-one page cell w.view h w.is_cell in
     record {
       rowid_is = ap (λ v. v.rowid) (sym same) ∙ w.rowid_is;
       whole = subst (λ v. v.local ≡ v.payload) same w.whole;
@@ -43,8 +37,8 @@ whole_parts page cell rowid payload long h w =
     }
 
 -- the local payload lies in the cell
-pub local_inside : (bytes : List ℕ) (view : CellView) → IsCell TableLeaf 4096 bytes view → view.local_at + view.local ≤ view.size
-local_inside bytes view h =
+pub local-inside : (bytes : List ℕ) (view : CellView) → IsCell TableLeaf 4096 bytes view → view.local_at + view.local ≤ view.size
+local-inside bytes view h =
     omega (
       arith,
       h.size,
@@ -57,53 +51,53 @@ local_inside bytes view h =
     )
 
 -- the pages of a file of two
-pub first_page : (bytes : List ℕ) → length bytes ≡ 8192 → page_at 4096 1 bytes ≡ take 4096 bytes
-first_page bytes h = resized-short bytes 4096 (omega arith)
+pub page-first : (bytes : List ℕ) → length bytes ≡ 8192 → page_at 4096 1 bytes ≡ take 4096 bytes
+page-first bytes h = resized-short bytes 4096 (omega arith)
 
-pub second_page : (bytes : List ℕ) → length bytes ≡ 8192 → page_at 4096 2 bytes ≡ drop 4096 bytes
-second_page bytes h =
+pub page-second : (bytes : List ℕ) → length bytes ≡ 8192 → page_at 4096 2 bytes ≡ drop 4096 bytes
+page-second bytes h =
     let long : length (drop 4096 bytes) ≡ 4096 = omega (arith, length-drop 4096 bytes) in
     resized-short (drop 4096 bytes) 4096 (omega arith) ∙ take_all 4096 (drop 4096 bytes) (omega arith)
 
-pub one_element : {X : Type 0} (xs : List X) (d : X) → length xs ≡ 1 → xs ≡ get_or xs 0 d ∷ []
-one_element [] d e = absurd (omega arith)
-one_element (x ∷ []) d e = refl
-one_element (x ∷ y ∷ xs) d e = absurd (omega arith)
+pub list-one_element : {X : Type 0} (xs : List X) (d : X) → length xs ≡ 1 → xs ≡ get_or xs 0 d ∷ []
+list-one_element [] d e = absurd (omega arith)
+list-one_element (x ∷ []) d e = refl
+list-one_element (x ∷ y ∷ xs) d e = absurd (omega arith)
 
 -- the schema's page, read
-pub schema_from : (page schema : List ℕ) (cells : List PlacedCell) (cell : PlacedCell) → HoldsCells page 1 cells → cells ≡ cell ∷ [] → IsWholeCell (cell_of page cell) (pos 1) schema → HasSchema page schema
-schema_from page schema cells cell h e w = (cell_of page cell, subst (λ s. IsPage page 1 4096 TableLeaf (map (cell_of page) s) 0) e h.is_page, w)
+pub schema-from_cell : (page schema : List ℕ) (cells : List PlacedCell) (cell : PlacedCell) → HoldsCells page 1 cells → cells ≡ cell ∷ [] → IsWholeCell (cell_of page cell) (pos 1) schema → HasSchema page schema
+schema-from_cell page schema cells cell h e w = (cell_of page cell, subst (λ s. IsPage page 1 4096 TableLeaf (map (cell_of page) s) 0) e h.is_page, w)
 
-pub schema_of : (page schema : List ℕ) (cells : List PlacedCell) (cell : PlacedCell) → HoldsCells page 1 cells → cells ≡ cell ∷ [] → HasSchema page schema → IsWholeCell (cell_of page cell) (pos 1) schema
-schema_of page schema cells cell h e w =
+pub schema-cell : (page schema : List ℕ) (cells : List PlacedCell) (cell : PlacedCell) → HoldsCells page 1 cells → cells ≡ cell ∷ [] → HasSchema page schema → IsWholeCell (cell_of page cell) (pos 1) schema
+schema-cell page schema cells cell h e w =
     let all : w.0 ∷ [] ≡ cell_of page cell ∷ [] = h.only (w.0 ∷ []) 0 w.1 ∙ ap (map (cell_of page)) e in
     subst (λ s. IsWholeCell s (pos 1) schema) (ap (λ s. get_or s 0 []) all) w.2
 
-pub schema_one : (page schema : List ℕ) (cells : List PlacedCell) → HoldsCells page 1 cells → HasSchema page schema → length cells ≡ 1
-schema_one page schema cells h w = sym (length-map cells (cell_of page)) ∙ sym (ap length (h.only (w.0 ∷ []) 0 w.1))
+pub schema-one_cell : (page schema : List ℕ) (cells : List PlacedCell) → HoldsCells page 1 cells → HasSchema page schema → length cells ≡ 1
+schema-one_cell page schema cells h w = sym (length-map cells (cell_of page)) ∙ sym (ap length (h.only (w.0 ∷ []) 0 w.1))
 
 -- the whole file, from its pages
 module _ (bytes schema : List ℕ) where
-  pub small_has_schema : (cells : List (List ℕ)) → IsSmallFile bytes schema cells → HasSchema (take 4096 bytes) schema
-  small_has_schema cells s = (s.schema_cell, subst (λ p. IsPage p 1 4096 TableLeaf (s.schema_cell ∷ []) 0) (first_page bytes s.long) s.schema_page, s.schema_row)
+  pub small_file-schema : (cells : List (List ℕ)) → IsSmallFile bytes schema cells → HasSchema (take 4096 bytes) schema
+  small_file-schema cells s = (s.schema_cell, subst (λ p. IsPage p 1 4096 TableLeaf (s.schema_cell ∷ []) 0) (page-first bytes s.long) s.schema_page, s.schema_row)
 
-  pub small_has_table : (cells : List (List ℕ)) → IsSmallFile bytes schema cells → IsPage (drop 4096 bytes) 2 4096 TableLeaf cells 0
-  small_has_table cells s = subst (λ p. IsPage p 2 4096 TableLeaf cells 0) (second_page bytes s.long) s.table_page
+  pub small_file-table : (cells : List (List ℕ)) → IsSmallFile bytes schema cells → IsPage (drop 4096 bytes) 2 4096 TableLeaf cells 0
+  small_file-table cells s = subst (λ p. IsPage p 2 4096 TableLeaf cells 0) (page-second bytes s.long) s.table_page
 
-  pub holds_table : (cells : List PlacedCell) → length bytes ≡ 8192 → IsSmallHeader bytes → HasSchema (take 4096 bytes) schema → HoldsCells (drop 4096 bytes) 2 cells → HoldsTable bytes schema cells
-  holds_table cells long header has_schema h = record {
+  pub HoldsTable-from_cells : (cells : List PlacedCell) → length bytes ≡ 8192 → IsSmallHeader bytes → HasSchema (take 4096 bytes) schema → HoldsCells (drop 4096 bytes) 2 cells → HoldsTable bytes schema cells
+  HoldsTable-from_cells cells long header has_schema h = record {
     second = h;
     file = record {
       long = long;
       header = header;
       schema_cell = has_schema.0;
-      schema_page = subst (λ p. IsPage p 1 4096 TableLeaf (has_schema.0 ∷ []) 0) (sym (first_page bytes long)) has_schema.1;
+      schema_page = subst (λ p. IsPage p 1 4096 TableLeaf (has_schema.0 ∷ []) 0) (sym (page-first bytes long)) has_schema.1;
       schema_row = has_schema.2;
-      table_page = subst (λ p. IsPage p 2 4096 TableLeaf (map (cell_of (drop 4096 bytes)) cells) 0) (sym (second_page bytes long)) h.is_page;
+      table_page = subst (λ p. IsPage p 2 4096 TableLeaf (map (cell_of (drop 4096 bytes)) cells) 0) (sym (page-second bytes long)) h.is_page;
     };
   }
 
 -- what follows where nothing was found
-pub IfNone_then : {X : Type 0} (o : Option X) {P Q : Type 0} → IfNone o P → (P → Q) → IfNone o Q
-IfNone_then None h f = f h
-IfNone_then (Some x) h f = tt
+pub IfNone-then : {X : Type 0} (o : Option X) {P Q : Type 0} → IfNone o P → (P → Q) → IfNone o Q
+IfNone-then None h f = f h
+IfNone-then (Some x) h f = tt

@@ -33,6 +33,3 @@ pub fn read_rbu(alloc: Global, bytes: &[u8]) -> Result<Option<Vec<PreparedRow>>,
 {
     read_rows::<PreparedRow>(alloc, bytes)
 }
-
-#[cfg(test)]
-mod tests;

@@ -3,7 +3,7 @@ ghost use Rattle.std.specs.Prelude.{◌≡◌, ℤ, ◌≤◌, ◌↔◌, List, 
 ghost use Rattle.std.specs.Int.{w64};
 ghost use Rattle.rbu_value.specs.declared.value.Value.{Value};
 ghost use Rattle.format_spec.specs.Record.{canonical_record};
-ghost use Rattle.record_codec.specs.RecordLaws.{HaveRecord};
+ghost use Rattle.record_codec.specs.Records.{HaveRecord};
 ghost use Rattle.small_spec.specs.SmallFile.{IsNullOrText};
 ghost use Rattle.small_file.specs.Records.{prepared_values, AreTargetValues, IsTargetRecord};
 

@@ -62,45 +62,45 @@ Shares-swap {X} key xs a b p q h =
 pub Shares-permutation : {X : Type 0} (key : X → ℤ) (xs ys : List X) → IsPermutation xs ys → Shares key xs → Shares key ys
 Shares-permutation key xs ys moves h = IsPermutation-keeps xs (Shares key) h (λ l i j p q s. Shares-swap key l i j p q s) ys moves
 
-le_from_not_less : (x y : ℤ) → is_lt (int_cmp x y) ≡ false → y ≤ℤ x
-le_from_not_less x y h = by_lt_z x y (λ less. absurd (grind (arith, ints))) (λ more. more)
+not_less-le : (x y : ℤ) → is_lt (int_cmp x y) ≡ false → y ≤ℤ x
+not_less-le x y h = by_lt_z x y (λ less. absurd (grind (arith, ints))) (λ more. more)
 
-pub not_less_above : (x y : ℤ) → x <ℤ y → is_lt (int_cmp y x) ≡ false
-not_less_above x y h = grind (arith, ints)
+pub above-not_less : (x y : ℤ) → x <ℤ y → is_lt (int_cmp y x) ≡ false
+above-not_less x y h = grind (arith, ints)
 
-same_from_equal : (x y : ℤ) → int_cmp x y ≡ Equal → x ≡ y
-same_from_equal x y e = exact_signed x y e
+equal-same : (x y : ℤ) → int_cmp x y ≡ Equal → x ≡ y
+equal-same x y e = exact_signed x y e
 
-not_less_same : (x y : ℤ) → x ≡ y → int_cmp x y ≡ Less → ⊥
-not_less_same x y e h = grind (arith, ints)
+same-not_less : (x y : ℤ) → x ≡ y → int_cmp x y ≡ Less → ⊥
+same-not_less x y e h = grind (arith, ints)
 
-not_more_same : (x y : ℤ) → x ≡ y → int_cmp x y ≡ Greater → ⊥
-not_more_same x y e h = grind (arith, ints)
+same-not_more : (x y : ℤ) → x ≡ y → int_cmp x y ≡ Greater → ⊥
+same-not_more x y e h = grind (arith, ints)
 
-pub le_from_sorted : {X : Type 0} (key : X → ℤ) (xs : List X) → IsSortedByKey key int_cmp xs → (j k : ℕ) (d : X) → j ≤ k → k < length xs → key (get_or xs j d) ≤ℤ key (get_or xs k d)
-le_from_sorted {X} key xs up j k d l m =
-    le_from_not_less _ _ (sorted_far (λ (a b : X). is_lt (int_cmp (key a) (key b))) (ranks_by int_cmp_total key) xs up j k d l m)
+pub sorted-le : {X : Type 0} (key : X → ℤ) (xs : List X) → IsSortedByKey key int_cmp xs → (j k : ℕ) (d : X) → j ≤ k → k < length xs → key (get_or xs j d) ≤ℤ key (get_or xs k d)
+sorted-le {X} key xs up j k d l m =
+    not_less-le _ _ (sorted_far (λ (a b : X). is_lt (int_cmp (key a) (key b))) (ranks_by int_cmp_total key) xs up j k d l m)
 
 -- in order, two rows with one key make neighbours with one key
-pub not_shared : {X : Type 0} (key : X → ℤ) (xs : List X) → IsSortedByKey key int_cmp xs → AllAdjacentBelow (λ x y. key x ≢ key y) xs (length xs) → ¬ Shares key xs
-not_shared key [] up apart h = absurd (omega (arith, h.3))
-not_shared key (x ∷ xs) up apart h =
-    let first : key (get_or (x ∷ xs) h.0 x) ≤ℤ key (get_or (x ∷ xs) (h.0 + 1) x) = le_from_sorted key (x ∷ xs) up h.0 (h.0 + 1) x (omega arith) (omega (arith, h.2, h.3)) in
-    let second : key (get_or (x ∷ xs) (h.0 + 1) x) ≤ℤ key (get_or (x ∷ xs) h.1 x) = le_from_sorted key (x ∷ xs) up (h.0 + 1) h.1 x (omega (arith, h.2)) h.3 in
+pub sorted-not_shared : {X : Type 0} (key : X → ℤ) (xs : List X) → IsSortedByKey key int_cmp xs → AllAdjacentBelow (λ x y. key x ≢ key y) xs (length xs) → ¬ Shares key xs
+sorted-not_shared key [] up apart h = absurd (omega (arith, h.3))
+sorted-not_shared key (x ∷ xs) up apart h =
+    let first : key (get_or (x ∷ xs) h.0 x) ≤ℤ key (get_or (x ∷ xs) (h.0 + 1) x) = sorted-le key (x ∷ xs) up h.0 (h.0 + 1) x (omega arith) (omega (arith, h.2, h.3)) in
+    let second : key (get_or (x ∷ xs) (h.0 + 1) x) ≤ℤ key (get_or (x ∷ xs) h.1 x) = sorted-le key (x ∷ xs) up (h.0 + 1) h.1 x (omega (arith, h.2)) h.3 in
     let same = h.4 x in
     apart h.0 x (omega (arith, h.2, h.3)) (omega (arith, ints))
 
 -- in order and without a shared key, each key is below those after it
-pub rising_from_sorted : {X : Type 0} (key : X → ℤ) (xs : List X) → IsSortedByKey key int_cmp xs → ¬ Shares key xs → IsRisingBy key xs
-rising_from_sorted key xs up apart j k d less below =
-    let le = le_from_sorted key xs up j k d (omega arith) below in
+pub sorted-rising : {X : Type 0} (key : X → ℤ) (xs : List X) → IsSortedByKey key int_cmp xs → ¬ Shares key xs → IsRisingBy key xs
+sorted-rising key xs up apart j k d less below =
+    let le = sorted-le key xs up j k d (omega arith) below in
     by_lt_z _ _ (λ l. l) (λ ge.
     let same : key (get_or xs j d) ≡ key (get_or xs k d) = omega (arith, ints) in
     absurd (apart (j, k, less, below, λ e. ap key (get_or_default xs j e d (omega arith)) ∙ (same ∙ ap key (get_or_default xs k d e below)))))
 
 -- rising keys are in order
-pub sorted_from_rising : {X : Type 0} (key : X → ℤ) (xs : List X) → IsRisingBy key xs → IsSortedByKey key int_cmp xs
-sorted_from_rising key xs up k d low high = not_less_above _ _ (up k (k + 1) d (omega arith) high)
+pub rising-sorted : {X : Type 0} (key : X → ℤ) (xs : List X) → IsRisingBy key xs → IsSortedByKey key int_cmp xs
+rising-sorted key xs up k d low high = above-not_less _ _ (up k (k + 1) d (omega arith) high)
 
 -- keys that differ are shared by none, and the other way round
 pub unshared-from_distinct : {X : Type 0} (key : X → ℤ) (xs : List X) → AllPairs (λ a b. key a ≢ key b) xs → ¬ Shares key xs
@@ -117,31 +117,31 @@ distinct-permutation key xs ys moves differ =
     distinct-from_unshared key ys (λ h. unshared-from_distinct key xs differ (Shares-permutation key ys xs (IsPermutation-sym xs ys moves) h))
 
 -- rising keys are shared by none
-pub apart_from_rising : {X : Type 0} (key : X → ℤ) (xs : List X) → IsRisingBy key xs → ¬ Shares key xs
-apart_from_rising key xs up = unshared-from_distinct key xs (λ j k d less below same. let rises = up j k d less below in absurd (omega (arith, ints)))
+pub rising-not_shared : {X : Type 0} (key : X → ℤ) (xs : List X) → IsRisingBy key xs → ¬ Shares key xs
+rising-not_shared key xs up = unshared-from_distinct key xs (λ j k d less below same. let rises = up j k d less below in absurd (omega (arith, ints)))
 
 -- what a binary search says of a key
-pub found_from_search : {X : Type 0} (key : X → ℤ) (xs : List X) (x : ℤ) (r : Result ℕ ℕ) → IsRisingBy key xs → IsSearchInRange r (length xs)
+pub search-found : {X : Type 0} (key : X → ℤ) (xs : List X) (x : ℤ) (r : Result ℕ ℕ) → IsRisingBy key xs → IsSearchInRange r (length xs)
     → IsBinarySearchResult (λ y. int_cmp (key y) x) xs r → IsTrue (is_ok r) ↔ Contains (map key xs) x
-found_from_search key [] x (Ok i) up bound at = absurd (omega arith)
-found_from_search key (y ∷ ys) x (Ok i) up bound at =
-    let same : key (get_or (y ∷ ys) i y) ≡ x = same_from_equal _ _ (at y) in
+search-found key [] x (Ok i) up bound at = absurd (omega arith)
+search-found key (y ∷ ys) x (Ok i) up bound at =
+    let same : key (get_or (y ∷ ys) i y) ≡ x = equal-same _ _ (at y) in
     let n : i < length (map key (y ∷ ys)) = omega (arith, length-map (y ∷ ys) key) in
     let found : get_or (map key (y ∷ ys)) i x ≡ x = get_or-map key (y ∷ ys) i y x bound ∙ same in
     (λ _. (i, n, found), λ _. search rules)
-found_from_search key [] x (Err i) up bound at = (λ e. absurd (false≢true e), λ h. absurd (omega (arith, h.1)))
-found_from_search {X} key (y ∷ ys) x (Err i) up bound at =
-    let point = at (searchable_from_sorted int_cmp_total key (y ∷ ys) x (sorted_from_rising key (y ∷ ys) up)) in
+search-found key [] x (Err i) up bound at = (λ e. absurd (false≢true e), λ h. absurd (omega (arith, h.1)))
+search-found {X} key (y ∷ ys) x (Err i) up bound at =
+    let point = at (searchable_from_sorted int_cmp_total key (y ∷ ys) x (rising-sorted key (y ∷ ys) up)) in
     let absent : Contains (map key (y ∷ ys)) x → ⊥ = λ h.
     let n : h.0 < length (y ∷ ys) = omega (arith, h.1, length-map (y ∷ ys) key) in
     let same : key (get_or (y ∷ ys) h.0 y) ≡ x = sym (get_or-map key (y ∷ ys) h.0 y x n) ∙ h.2 in
     elim (cases_lt h.0 i) [
-      | inl below ↦ not_less_same _ _ same (point.0 h.0 y (omega arith) below)
-      | inr above ↦ not_more_same _ _ same (point.1 h.0 y above n)
+      | inl below ↦ same-not_less _ _ same (point.0 h.0 y (omega arith) below)
+      | inr above ↦ same-not_more _ _ same (point.1 h.0 y above n)
     ] in
     (λ e. absurd (false≢true e), λ h. absurd (absent h))
 
 -- what `sort_by_key` ensures, where each call gives the key of the element
-pub sorted_by_calls : {F X T E : Type 0} {g : Mut F (Bor X × Unit {0}) ℤ} (f : F) (r : Result T E) (key : X → ℤ) (xs : List X) → OnOk r (IsSortedByKeyClosure g int_cmp f xs)
+pub sorted-by_calls : {F X T E : Type 0} {g : Mut F (Bor X × Unit {0}) ℤ} (f : F) (r : Result T E) (key : X → ℤ) (xs : List X) → OnOk r (IsSortedByKeyClosure g int_cmp f xs)
     → ((h : F) (a : Bor X × Unit {0}) (z : ℤ) (h' : F) → Called g h a z h' → z ≡ key a.0.now) → OnOk r (IsSortedByKey key int_cmp xs)
-sorted_by_calls {g = g} f r key xs sorted calls = on_ok_weaker {P = IsSortedByKeyClosure g int_cmp f xs} r (λ by. by key (answers_always g (λ a z. z ≡ key a.0.now) f calls)) sorted
+sorted-by_calls {g = g} f r key xs sorted calls = on_ok_weaker {P = IsSortedByKeyClosure g int_cmp f xs} r (λ by. by key (answers_always g (λ a z. z ≡ key a.0.now) f calls)) sorted

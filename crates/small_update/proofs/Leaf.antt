@@ -39,26 +39,26 @@ pub record IsPacking (page : List ℕ) (size place : ℕ) (cells : List (List �
   pub whole : page ≡ header ++ (flat_map (big_bytes 2) (places_below size cells) ++ (replicate (place - (8 + 2 * length cells)) 0 ++ stacked cells))
 
 -- a write over the part between a front and a back
-pub put_mid_at : (front old back new : List ℕ) (at k : ℕ) → length front ≡ at → length old ≡ k → put_mid at k (front ++ (old ++ back)) new ≡ front ++ (new ++ back)
-put_mid_at front old back new at k e l =
+pub put_mid-at : (front old back new : List ℕ) (at k : ℕ) → length front ≡ at → length old ≡ k → put_mid at k (front ++ (old ++ back)) new ≡ front ++ (new ++ back)
+put_mid-at front old back new at k e l =
     let before = take_at front (old ++ back) at e in
     let after = ap (drop k) (drop_at front (old ++ back) at e) ∙ drop_at old back k l in
     let first : take at (front ++ (old ++ back)) ++ (new ++ drop k (drop at (front ++ (old ++ back)))) ≡ front ++ (new ++ drop k (drop at (front ++ (old ++ back)))) = ap (λ (x : List ℕ). x ++ (new ++ drop k (drop at (front ++ (old ++ back))))) before in
     first ∙ ap (λ (x : List ℕ). front ++ (new ++ x)) after
 
 -- two writes, the second behind the first
-pub put_mid_twice : (front two mid old back number cell : List ℕ) (entry place k : ℕ) → length front ≡ entry → length two ≡ 2 → length number ≡ 2 → entry + 2 + length mid ≡ place → length old ≡ k
+pub put_mid-twice : (front two mid old back number cell : List ℕ) (entry place k : ℕ) → length front ≡ entry → length two ≡ 2 → length number ≡ 2 → entry + 2 + length mid ≡ place → length old ≡ k
     → put_mid place k (put_mid entry 2 (front ++ (two ++ (mid ++ (old ++ back)))) number) cell ≡ front ++ (number ++ (mid ++ (cell ++ back)))
-put_mid_twice front two mid old back number cell entry place k e t n m l =
+put_mid-twice front two mid old back number cell entry place k e t n m l =
     let regroup = λ (x : List ℕ). append_assoc front (number ++ mid) x ∙ ap (λ (y : List ℕ). front ++ y) (append_assoc number mid x) in
     let at : length (front ++ (number ++ mid)) ≡ place = omega (arith, length-append front (number ++ mid), length-append number mid) in
-    ap (λ (x : List ℕ). put_mid place k x cell) (put_mid_at front two (mid ++ (old ++ back)) number entry 2 e t ∙ sym (regroup (old ++ back)))
-    ∙ (put_mid_at (front ++ (number ++ mid)) old back cell place k at l ∙ regroup (cell ++ back))
+    ap (λ (x : List ℕ). put_mid place k x cell) (put_mid-at front two (mid ++ (old ++ back)) number entry 2 e t ∙ sym (regroup (old ++ back)))
+    ∙ (put_mid-at (front ++ (number ++ mid)) old back cell place k at l ∙ regroup (cell ++ back))
 
 -- a page in five parts: before an entry, the entry, up to a place, what stands there, and the rest
-pub in_parts : (page : List ℕ) (entry place k : ℕ) → entry + 2 ≤ place → place + k ≤ length page
+pub page-in_parts : (page : List ℕ) (entry place k : ℕ) → entry + 2 ≤ place → place + k ≤ length page
     → page ≡ take entry page ++ (take 2 (drop entry page) ++ (between (entry + 2) place page ++ (take k (drop place page) ++ drop (place + k) page)))
-in_parts page entry place k h l =
+page-in_parts page entry place k h l =
     let upto = place - (entry + 2) in
     let join : entry + 2 + upto ≡ place = omega arith in
     let first = sym (take-append-drop entry page) in
@@ -79,8 +79,8 @@ cell-written page number cell buf copy entry place n k h l two e f written copie
     let middle : entry + 2 + length (between (entry + 2) place page) ≡ place = omega (arith, length-take (place - (entry + 2)) (drop (entry + 2) page), length-drop (entry + 2) page) in
     let old : length (take size (drop place page)) ≡ size = length-take-le size (drop place page) (omega (arith, length-drop place page)) in
     let pair : length (take 2 (drop entry page)) ≡ 2 = length-take-le 2 (drop entry page) (omega (arith, length-drop entry page)) in
-    let twice = put_mid_twice (take entry page) (take 2 (drop entry page)) (between (entry + 2) place page) (take size (drop place page)) (drop (place + size) page) number cell entry place size before pair two middle old in
-    rw (e, f, same, copied) (ap (λ (x : List ℕ). put_mid place size (put_mid entry 2 x number) cell) (in_parts page entry place size h l) ∙ twice)
+    let twice = put_mid-twice (take entry page) (take 2 (drop entry page)) (between (entry + 2) place page) (take size (drop place page)) (drop (place + size) page) number cell entry place size before pair two middle old in
+    rw (e, f, same, copied) (ap (λ (x : List ℕ). put_mid place size (put_mid entry 2 x number) cell) (page-in_parts page entry place size h l) ∙ twice)
 
 -- a cell that is written into the unused bytes between a front and a back
 pub with_cell-between : (front back cell number : List ℕ) (gap entry place : ℕ) → length number ≡ 2 → length front ≡ entry → 2 + length cell ≤ gap → place + length cell ≡ entry + gap
@@ -105,10 +105,10 @@ with_cell-between front back cell number gap entry place two at room ends =
     simp (before, middle, rest)
 
 -- how the room of rows falls to their places and their cells
-pub page_room_is : (rows : List TargetRow) → page_room rows ≡ 8 + 2 * length rows + content (map (λ row. row.cell) rows)
-page_room_is [] = refl
-page_room_is (row ∷ rows) =
-    let rest = page_room_is rows in
+pub page_room-is : (rows : List TargetRow) → page_room rows ≡ 8 + 2 * length rows + content (map (λ row. row.cell) rows)
+page_room-is [] = refl
+page_room-is (row ∷ rows) =
+    let rest = page_room-is rows in
     let first = sum_by-cons (λ (x : TargetRow). length x.cell + 2) row rows in
     let cells = sum_by-cons (λ (x : List ℕ). length x) row.cell (map (λ x. x.cell) rows) in
     omega arith
@@ -129,9 +129,9 @@ IsPacking-none page size h e = record {
 }
 
 -- a cell's place takes two bytes
-pub length_places : (size : ℕ) (cells : List (List ℕ)) → length (flat_map (big_bytes 2) (places_below size cells)) ≡ 2 * length cells
-length_places size [] = refl
-length_places size (cell ∷ cells) = let rest = length_places (size - length cell) cells in omega arith
+pub length-places : (size : ℕ) (cells : List (List ℕ)) → length (flat_map (big_bytes 2) (places_below size cells)) ≡ 2 * length cells
+length-places size [] = refl
+length-places size (cell ∷ cells) = let rest = length-places (size - length cell) cells in omega arith
 
 -- one more cell
 pub IsPacking-more : (page : List ℕ) (size place place' : ℕ) (cells : List (List ℕ)) (cell : List ℕ) → IsPacking page size place cells → place' + length cell ≡ place → 8 + 2 * (length cells + 1) ≤ place'
@@ -148,7 +148,7 @@ IsPacking-more page size place place' cells cell p e h = record {
       let gap = place - entry in
       let back = stacked cells in
       let before : page ≡ (p.header ++ array) ++ (replicate gap 0 ++ back) = p.whole ∙ sym (append_assoc p.header array (replicate gap 0 ++ back)) in
-      let at : length (p.header ++ array) ≡ entry = omega (arith, p.long, length-append p.header array, length_places size cells) in
+      let at : length (p.header ++ array) ≡ entry = omega (arith, p.long, length-append p.header array, length-places size cells) in
       let written = with_cell-between (p.header ++ array) back cell number gap entry place' refl at (omega (arith, p.room)) (omega (arith, p.room)) in
       let with_entry : flat_map (big_bytes 2) (places_below size (cells ++ cell ∷ [])) ≡ array ++ number =
       let is : size - content cells - length cell ≡ place' = omega (arith, p.filled) in
@@ -168,10 +168,10 @@ IsPacking-more page size place place' cells cell p e h = record {
 }
 
 -- with its header the page is the packed leaf
-pub packed : (page : List ℕ) (size place : ℕ) (cells : List (List ℕ)) → IsPacking page size place cells
+pub IsPacking-packed_leaf : (page : List ℕ) (size place : ℕ) (cells : List (List ℕ)) → IsPacking page size place cells
     → (13 ∷ (big_bytes 2 0 ++ (big_bytes 2 (length cells) ++ (big_bytes 2 place ++ 0 ∷ [])))) ++ drop 8 page ≡ packed_leaf size cells
 unfolding packed_leaf
-packed page size place cells p =
+IsPacking-packed_leaf page size place cells p =
     let rest = flat_map (big_bytes 2) (places_below size cells) ++ (replicate (place - (8 + 2 * length cells)) 0 ++ stacked cells) in
     let behind : drop 8 page ≡ rest = ap (drop 8) p.whole ∙ drop_at p.header rest 8 p.long in
     let at : place ≡ size - content cells = omega (arith, p.filled) in
@@ -181,22 +181,22 @@ packed page size place cells p =
     ∙ ap (λ (n : ℕ). (13 ∷ (big_bytes 2 0 ++ (big_bytes 2 (length cells) ++ (big_bytes 2 (size - content cells) ++ 0 ∷ [])))) ++ (flat_map (big_bytes 2) (places_below size cells) ++ (replicate n 0 ++ stacked cells))) unused)
 
 -- the room that is left for the next row's cell, and for its place
-pub room_for_cell : (page : List ℕ) (size place k : ℕ) (rows : List TargetRow) (row : TargetRow) (cell : List ℕ) → IsPacking page size place (map (λ x. x.cell) (take k rows))
+pub page_room-for_cell : (page : List ℕ) (size place k : ℕ) (rows : List TargetRow) (row : TargetRow) (cell : List ℕ) → IsPacking page size place (map (λ x. x.cell) (take k rows))
     → k < length rows → row ≡ get_or rows k row → cell ≡ row.cell → page_room rows ≤ size → 8 + 2 * (k + 1) + length cell ≤ place
-room_for_cell page size place k rows row cell p below is same room =
+page_room-for_cell page size place k rows row cell p below is same room =
     let cells = map_more (λ (x : TargetRow). x.cell) rows k row below in
     let more = content-append (map (λ (x : TargetRow). x.cell) (take k rows)) (get_or rows k row).cell in
     let all : content (map (λ (x : TargetRow). x.cell) (take (k + 1) rows)) ≡ content (map (λ (x : TargetRow). x.cell) (take k rows)) + length (get_or rows k row).cell = ap content cells ∙ more in
     let long : length (get_or rows k row).cell ≡ length cell = ap (λ (x : TargetRow). length x.cell) (sym is) ∙ ap (λ (x : List ℕ). length x) (sym same) in
-    omega (arith, page_room-take rows (k + 1), page_room_is (take (k + 1) rows), length-take (k + 1) rows, p.filled)
+    omega (arith, page_room-take rows (k + 1), page_room-is (take (k + 1) rows), length-take (k + 1) rows, p.filled)
 
 -- the next row's cell is written
-pub packing_step : (page page' : List ℕ) (size place k : ℕ) (rows : List TargetRow) (row : TargetRow) (cell : List ℕ) → IsPacking page size place (map (λ x. x.cell) (take k rows))
+pub IsPacking-next_row : (page page' : List ℕ) (size place k : ℕ) (rows : List TargetRow) (row : TargetRow) (cell : List ℕ) → IsPacking page size place (map (λ x. x.cell) (take k rows))
     → k < length rows → row ≡ get_or rows k row → cell ≡ row.cell → page_room rows ≤ size
     → page' ≡ take (8 + 2 * k) page ++ (big_bytes 2 (place - length cell) ++ (between (8 + 2 * k + 2) (place - length cell) page ++ (cell ++ drop (place - length cell + length cell) page)))
     → IsPacking page' size (place - length cell) (map (λ x. x.cell) (take (k + 1) rows))
-packing_step page page' size place k rows row cell p below is same room written =
-    let left = room_for_cell page size place k rows row cell p below is same room in
+IsPacking-next_row page page' size place k rows row cell p below is same room written =
+    let left = page_room-for_cell page size place k rows row cell p below is same room in
     let cells = map (λ (x : TargetRow). x.cell) (take k rows) in
     let count : length cells ≡ k = omega (arith, length-map (take k rows) (λ (x : TargetRow). x.cell), length-take k rows) in
     let next : map (λ (x : TargetRow). x.cell) (take (k + 1) rows) ≡ cells ++ cell ∷ [] =

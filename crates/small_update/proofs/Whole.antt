@@ -4,15 +4,15 @@ use Rattle.std.proofs.lemmas.List.{append-nil, length-append, length-drop, lengt
 use borrow.Rule.Slice.PartMut.{put_mid}
 
 -- a page of a file that is longer
-pub first_page : (size : ℕ) (target : List ℕ) → length target ≡ size + size → take size target ++ replicate (size - length target) 0 ≡ take size target
-first_page size target long =
+pub page-first : (size : ℕ) (target : List ℕ) → length target ≡ size + size → take size target ++ replicate (size - length target) 0 ≡ take size target
+page-first size target long =
     let none : size - length target ≡ 0 = omega arith in
     ap (λ (n : ℕ). take size target ++ replicate n 0) none ∙ append-nil (take size target)
 
 -- the second page is written behind the first
-pub second_page : (size k : ℕ) (target first second : List ℕ) → length target ≡ size + size → length first ≡ size → k ≡ length (first ++ drop size target) - size
+pub page-second_written : (size k : ℕ) (target first second : List ℕ) → length target ≡ size + size → length first ≡ size → k ≡ length (first ++ drop size target) - size
     → put_mid size k (first ++ drop size target) second ≡ first ++ second
-second_page size k target first second long at e =
+page-second_written size k target first second long at e =
     let before = take_at first (drop size target) size at in
     let none : drop k (drop size (first ++ drop size target)) ≡ [] =
     drop_all k (drop size (first ++ drop size target)) (omega (arith, length-drop size (first ++ drop size target))) in
@@ -20,7 +20,7 @@ second_page size k target first second long at e =
     ∙ ap (λ (x : List ℕ). first ++ x) (ap (λ (x : List ℕ). second ++ x) none ∙ append-nil second)
 
 -- and it is as long
-pub second_length : (size k : ℕ) (target first : List ℕ) → length target ≡ size + size → length first ≡ size → k ≡ length (first ++ drop size target) - size
+pub page-second_length : (size k : ℕ) (target first : List ℕ) → length target ≡ size + size → length first ≡ size → k ≡ length (first ++ drop size target) - size
     → length (take k (drop size (first ++ drop size target))) ≡ size
-second_length size k target first long at e =
+page-second_length size k target first long at e =
     omega (arith, length-append first (drop size target), length-drop size target, length-drop size (first ++ drop size target), length-take-le k (drop size (first ++ drop size target)) (omega (arith, length-drop size (first ++ drop size target))))

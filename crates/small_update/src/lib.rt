@@ -66,6 +66,3 @@ pub fn decide(
     sort_by_rowid(&mut rows)?;
     Ok(Decision::Merged(rows))
 }
-
-#[cfg(test)]
-mod tests;

@@ -15,6 +15,3 @@ mod view;
 pub use lock::{Seat, TurnLock, one_holder};
 pub use story::Story;
 pub use view::{Past, Turn, View};
-
-#[cfg(test)]
-mod tests;

@@ -5,7 +5,8 @@ ghost use Rattle.file_spec.specs.declared.FileName.TheVariants.{Target, Oal, Wal
 ghost use Rattle.file_spec.specs.Files.{with_file};
 ghost use Rattle.file_spec.specs.declared.DiskCall.TheVariants.{Rename};
 ghost use Rattle.refusal.specs.declared.Part.TheVariants as part;
-ghost use Rattle.refusal.specs.declared.Refusal.TheVariants.{NotYet};
+ghost use Rattle.refusal.specs.declared.Rule.TheVariants as rule;
+ghost use Rattle.refusal.specs.declared.Refusal.TheVariants.{NotYet, BadPage, ChainBroken, TrunkDamaged, TargetFull};
 ghost use Rattle.update_spec.specs.declared.Answer.TheVariants.{Usage, Ended, Fault, NoMemory};
 ghost use Rattle.update_spec.specs.declared.Outcome.TheVariants.{Done, KeyPresent, Refused};
 ghost use Rattle.update_spec.specs.Text.{answer_line, answer_status};
@@ -19,6 +20,10 @@ use format_spec::worked_log;
 pub fn worked_lines()
     ensures done { answer_line (Ended Done) ≡ codes "done" ++ 10 ∷ [] }
     ensures refused { answer_line (Ended (Refused (NotYet part.Target))) ≡ codes "refused 1 NotYet target" ++ 10 ∷ [] }
+    ensures page { answer_line (Ended (Refused (BadPage rule.Cells))) ≡ codes "refused 40 BadPage cells" ++ 10 ∷ [] }
+    ensures chain { answer_line (Ended (Refused (ChainBroken 7))) ≡ codes "refused 45 ChainBroken 7" ++ 10 ∷ [] }
+    ensures trunk { answer_line (Ended (Refused (TrunkDamaged 1))) ≡ codes "refused 50 TrunkDamaged 1" ++ 10 ∷ [] }
+    ensures full { answer_line (Ended (Refused (TargetFull 3 4))) ≡ codes "refused 51 TargetFull 3 4" ++ 10 ∷ [] }
     ensures constraint { answer_line (Ended (KeyPresent (codes "t1") (negsuc 4))) ≡ codes "constraint key-present t1 -5" ++ 10 ∷ [] }
     ensures usage { answer_line Usage ≡ codes "usage" ++ 10 ∷ [] }
     ensures memory { answer_line NoMemory ≡ codes "no memory" ++ 10 ∷ [] }

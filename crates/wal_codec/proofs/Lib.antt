@@ -1,2 +1,4 @@
+mod FramesLemmas
 mod HeadersLemmas
+mod ReadingLemmas
 mod SumsLemmas

@@ -1,10 +1,11 @@
 -- Laws about the definitions of the write-ahead log.
 use Rattle.std.proofs.Common.{◌≡◌, ℕ, ◌%◌, ◌<◌, ◌≤◌, Bool, List, [], ◌∷◌, ◌++◌, length, unwrap_or, zero, suc, refl, sym, ap, ◌∙◌, arith}
-use Rattle.std.proofs.lemmas.List.{append-nil, length-append}
+use Rattle.std.proofs.lemmas.List.{append-nil}
 use Rattle.byte_fields.specs.NumbersLaws.{page_at-whole}
 use Rattle.byte_fields.specs.Numbers.{page_at}
-use Rattle.format_spec.specs.Log.{checksum, word, sums_after, Frame, last_frame_of, IsOverlay}
+use Rattle.format_spec.specs.Log.{checksum, word, sums_after, last_frame_of, IsOverlay}
 use Rattle.format_spec.specs.PageMap.{PageMap, pages_of}
+use Rattle.wal_codec.specs.Frames.{two_pages}
 
 -- the checksum of whole pairs of words goes on over what follows them
 pub checksum-append : (big : Bool) (sums : ℕ × ℕ) (a b : List ℕ) → length a % 8 ≡ 0
@@ -19,10 +20,6 @@ checksum-append big sums (a ∷ b ∷ c ∷ d ∷ e ∷ f ∷ []) rest whole = a
 checksum-append big sums (a ∷ b ∷ c ∷ d ∷ e ∷ f ∷ g ∷ []) rest whole = absurd (omega arith)
 checksum-append big sums (a ∷ b ∷ c ∷ d ∷ e ∷ f ∷ g ∷ h ∷ more) rest whole =
     checksum-append big (sums_after sums (word big (a ∷ b ∷ c ∷ d ∷ [])) (word big (e ∷ f ∷ g ∷ h ∷ []))) more rest (omega arith)
-
--- page 1 not in a commit, and page 2 with the commit of a file of two pages
-abbrev pub two_pages : List ℕ → List ℕ → List Frame
-two_pages page1 page2 = record { number = 1; commit = 0; page = page1 } ∷ record { number = 2; commit = 2; page = page2 } ∷ []
 
 -- both pages of bytes that are two pages
 page-of_two : (page1 page2 : List ℕ) (size : ℕ) → length page1 ≡ size → length page2 ≡ size → (page_at size 1 (page1 ++ page2) ≡ page1) × (page_at size 2 (page1 ++ page2) ≡ page2)

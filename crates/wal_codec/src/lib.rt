@@ -4,18 +4,18 @@
 //! the checksum that the next one takes. `checksum` is offered to readers of logs.
 //!
 //! The definitions stand in `format_spec`: `Log`, also `pair_of`, an array of two words as a pair.
-//! That a header with frames is a log, and bytes are one in one way, is said there too, by `LogLaws`, and promised of what is written by `written_log_is_a_log`. `specs/LogLaws` has laws
-//! about what is written: a checksum goes on over what follows, and a log of both pages of a file of two pages overlays any other
-//! file by it.
+//! That a header with frames is a log, and bytes are one in one way, is said there too, by `LogLaws`, and promised of what is written by `written_log_is_a_log`. `specs/Frames` has
+//! the frames of a whole file, and `specs/LogLaws` laws about what is written: a checksum goes on over what follows, and a log of
+//! both pages of a file of two pages overlays any other file by it.
 #![tactic(auto)]
 
+mod frames;
 mod headers;
 mod laws;
+mod log;
 mod sums;
 
 pub use headers::{frame_bytes, header_bytes};
 pub use laws::{checksum_goes_on, written_log_is_a_log};
+pub use log::{Log, LogFault, read_log};
 pub use sums::checksum;
-
-#[cfg(test)]
-mod tests;

@@ -4,17 +4,17 @@ use Rattle.std.specs.List.Sorted.{IsPermutation}
 use Rattle.small_spec.specs.declared.TargetRow.{TargetRow}
 use Rattle.small_spec.specs.Inserts.{all_rows, page_room, IsFirstPresent}
 use Rattle.small_spec.specs.Inserts.{NonePresent}
-use Rattle.small_update.proofs.Decisions.{unshared, shared, same_room, over_bound, merged, IsFirstPresent-permutation, NonePresent-permutation, page_room-permutation}
+use Rattle.small_update.proofs.Decisions.{keys-distinct, keys-shared, page_room-same, bound-not_met, rows-merged, IsFirstPresent-permutation, NonePresent-permutation, page_room-permutation}
 use Rattle.small_update.proofs.decide.Goals as goal
 
 pub returns-then-not-has_distinct_keys : goal.returns-then-not-has_distinct_keys
-returns-then-not-has_distinct_keys c = shared c.args.prepared.items c.sort_by_key.new.rows.items c.deref.result.now c.has_distinct_keys.result c.sort_by_key.ensures.same c.has_distinct_keys.ensures c.deref.ensures.value c.if-not-has_distinct_keys.true
+returns-then-not-has_distinct_keys c = keys-shared c.args.prepared.items c.sort_by_key.new.rows.items c.deref.result.now c.has_distinct_keys.result c.sort_by_key.ensures.same c.has_distinct_keys.ensures c.deref.ensures.value c.if-not-has_distinct_keys.true
 
 pub returns-then-not-fits_page : goal.returns-then-not-fits_page
 returns-then-not-fits_page c =
-    let none = unshared c.args.prepared.items c.sort_by_key.new.rows.items c.deref.result.now c.has_distinct_keys.result c.sort_by_key.ensures.same c.has_distinct_keys.ensures c.deref.ensures.value c.if-not-has_distinct_keys.false in
-    let same = same_room c.args.old.items c.args.prepared.items c.sort_by_key.new.rows.items c.sort_by_key.ensures.same in
-    let over = over_bound c.fits_page.result (page_room c.deref-4.result.now) 4096 c.fits_page.ensures c.if-not-fits_page.true in
+    let none = keys-distinct c.args.prepared.items c.sort_by_key.new.rows.items c.deref.result.now c.has_distinct_keys.result c.sort_by_key.ensures.same c.has_distinct_keys.ensures c.deref.ensures.value c.if-not-has_distinct_keys.false in
+    let same = page_room-same c.args.old.items c.args.prepared.items c.sort_by_key.new.rows.items c.sort_by_key.ensures.same in
+    let over = bound-not_met c.fits_page.result (page_room c.deref-4.result.now) 4096 c.fits_page.ensures c.if-not-fits_page.true in
     let rows = ap (λ (x : List TargetRow). page_room x) (c.deref-4.ensures.value ∙ c.in_ok-rows.ensures) in
     (none.1, omega (arith, same, over, rows))
 
@@ -22,8 +22,8 @@ pub returns-in-Some : goal.returns-in-Some
 returns-in-Some c =
     let old = c.args.old.items in
     let sorted = c.sort_by_key.new.rows.items in
-    let none = unshared c.args.prepared.items sorted c.deref.result.now c.has_distinct_keys.result c.sort_by_key.ensures.same c.has_distinct_keys.ensures c.deref.ensures.value c.if-not-has_distinct_keys.false in
-    let same = same_room old c.args.prepared.items sorted c.sort_by_key.ensures.same in
+    let none = keys-distinct c.args.prepared.items sorted c.deref.result.now c.has_distinct_keys.result c.sort_by_key.ensures.same c.has_distinct_keys.ensures c.deref.ensures.value c.if-not-has_distinct_keys.false in
+    let same = page_room-same old c.args.prepared.items sorted c.sort_by_key.ensures.same in
     let room = c.fits_page.ensures.0 c.if-not-fits_page.false in
     let rows = ap (λ (x : List TargetRow). page_room x) (c.deref-4.ensures.value ∙ c.in_ok-rows.ensures) in
     let found = c.in-Some.ensures.present in
@@ -39,8 +39,8 @@ returns c =
     let all = c.in_ok-rows.rows.items in
     let merged_rows = c.sort_by_rowid.new.rows.items in
     let moves = c.sort_by_key.ensures.same in
-    let none = unshared prepared sorted c.deref.result.now c.has_distinct_keys.result moves c.has_distinct_keys.ensures c.deref.ensures.value c.if-not-has_distinct_keys.false in
-    let same = same_room old prepared sorted moves in
+    let none = keys-distinct prepared sorted c.deref.result.now c.has_distinct_keys.result moves c.has_distinct_keys.ensures c.deref.ensures.value c.if-not-has_distinct_keys.false in
+    let same = page_room-same old prepared sorted moves in
     let room = c.fits_page.ensures.0 c.if-not-fits_page.false in
     let rows = ap (λ (x : List TargetRow). page_room x) (c.deref-4.ensures.value ∙ c.in_ok-rows.ensures) in
     let absent : NonePresent old sorted = rw (← c.deref-2.ensures.value, ← c.deref-3.ensures.value) c.in_default.ensures.none in
@@ -51,6 +51,6 @@ returns c =
       none.1,
       omega (arith, same, room, rows),
       NonePresent-permutation old prepared sorted moves absent,
-      merged old merged_rows prepared sorted c.requires.rising moves none.0 absent moved c.in_ok-sort_by_rowid.ensures.sorted,
+      rows-merged old merged_rows prepared sorted c.requires.rising moves none.0 absent moved c.in_ok-sort_by_rowid.ensures.sorted,
       omega (arith, last, at, room),
     )

@@ -6,7 +6,7 @@ use Rattle.byteorder.specs.Endian.{big_bytes}
 use Rattle.byteorder.specs.Numbers.{length-bytes_high_first}
 use Rattle.format_spec.specs.Varint.{varint}
 use Rattle.format_spec.specs.Cell.{cell_bytes}
-use Rattle.cell_codec.proofs.CellWriting.{IsWrittenTo, next_lent}
+use Rattle.cell_codec.proofs.CellWriting.{IsWrittenTo, IsWrittenTo-next}
 use Rattle.cell_codec.proofs.cell.write_table_interior_cell.Goals as goal
 
 pub returns-clause-written : goal.returns-clause-written
@@ -21,5 +21,5 @@ returns-clause-written c =
     let j = c.put_varint.result in
     let one = c.put_page_number.new.into in
     let first : IsWrittenTo old one child 4 = record { size = length-bytes_high_first 4 cell.child; written = c.put_page_number.ensures } in
-    let second = next_lent old one child rowid c.put_varint.new.into 4 j first (sym c.put_varint.ensures.length) c.put_varint.ensures.written in
+    let second = IsWrittenTo-next old one child rowid c.put_varint.new.into 4 j first (sym c.put_varint.ensures.length) c.put_varint.ensures.written in
     second.written ∙ ap (λ k. child ++ varint k ++ drop (4 + j) old) bits

@@ -9,22 +9,22 @@ logged =
     (record { number = 2; commit = 0; page = 9 ∷ 9 ∷ [] } ∷ record { number = 1; commit = 3; page = 7 ∷ 8 ∷ [] } ∷ record { number = 1; commit = 0; page = 5 ∷ 5 ∷ [] } ∷ [])
 
 -- the pages up to the commit, one by one
-logged_page : (n : ℕ) → 0 < n → n ≤ 3 → logged.page n ≡ (pages_of 2 3 (7 ∷ 8 ∷ 9 ∷ 9 ∷ 5 ∷ 0 ∷ 6 ∷ 6 ∷ [])).page n
-logged_page zero low high = absurd (omega arith)
-logged_page (suc zero) low high = refl
-logged_page (suc (suc zero)) low high = refl
-logged_page (suc (suc (suc zero))) low high = refl
-logged_page (suc (suc (suc (suc n)))) low high = absurd (omega arith)
+page-logged : (n : ℕ) → 0 < n → n ≤ 3 → logged.page n ≡ (pages_of 2 3 (7 ∷ 8 ∷ 9 ∷ 9 ∷ 5 ∷ 0 ∷ 6 ∷ 6 ∷ [])).page n
+page-logged zero low high = absurd (omega arith)
+page-logged (suc zero) low high = refl
+page-logged (suc (suc zero)) low high = refl
+page-logged (suc (suc (suc zero))) low high = refl
+page-logged (suc (suc (suc (suc n)))) low high = absurd (omega arith)
 
 -- without a commit those of the file
-plain_page : (n : ℕ) → 0 < n → n ≤ 2 → (pages_of 2 2 (1 ∷ 2 ∷ 3 ∷ 4 ∷ 5 ∷ [])).page n ≡ (pages_of 2 2 (1 ∷ 2 ∷ 3 ∷ 4 ∷ [])).page n
-plain_page zero low high = absurd (omega arith)
-plain_page (suc zero) low high = refl
-plain_page (suc (suc zero)) low high = refl
-plain_page (suc (suc (suc n))) low high = absurd (omega arith)
+page-plain : (n : ℕ) → 0 < n → n ≤ 2 → (pages_of 2 2 (1 ∷ 2 ∷ 3 ∷ 4 ∷ 5 ∷ [])).page n ≡ (pages_of 2 2 (1 ∷ 2 ∷ 3 ∷ 4 ∷ [])).page n
+page-plain zero low high = absurd (omega arith)
+page-plain (suc zero) low high = refl
+page-plain (suc (suc zero)) low high = refl
+page-plain (suc (suc (suc n))) low high = absurd (omega arith)
 
 pub returns-clause-logged : goal.returns-clause-logged
-returns-clause-logged c = record { size = refl; count = refl; each = logged_page }
+returns-clause-logged c = record { size = refl; count = refl; each = page-logged }
 
 pub returns-clause-uncommitted : goal.returns-clause-uncommitted
-returns-clause-uncommitted c = record { size = refl; count = refl; each = plain_page }
+returns-clause-uncommitted c = record { size = refl; count = refl; each = page-plain }

@@ -1,9 +1,8 @@
-use Rattle.std.proofs.Common.{◌≡◌, ◌-◌, ℕ, List, sym, ap, subst, arith}
-use Rattle.page_layout.specs.declared.put.Layout.{Layout}
+use Rattle.std.proofs.Common.{◌≡◌, ◌-◌, ℕ, sym, ap, subst, arith}
 use Rattle.format_spec.specs.Page.{cell_room}
 use Rattle.page_layout.specs.Written.{IsLaid, laid_more}
 use Rattle.std.specs.List.{insert}
-use Rattle.page_layout.proofs.Inserting.{cell-some, laid_with, keeps_rest}
+use Rattle.page_layout.proofs.Inserting.{cell-some, laid_with, keeps_places, keeps_rest}
 use Rattle.page_layout.proofs.put.put_cell.Goals as goal
 
 pub put_at-requires-clause-some : goal.put_at-requires-clause-some
@@ -24,3 +23,9 @@ returns-clause-rest c =
     let a = c.args in
     keeps_rest a.page.now c.put_at.new.page a.layout.now.number a.layout.now.usable c.header_place-header.result _ a.layout.now.count a.at _ a.cell.now
     c.header_place-header.ensures.value (omega (arith, c.requires.room, c.requires.within, c.room.ensures)) c.put_at.ensures
+
+pub returns-clause-still : goal.returns-clause-still
+returns-clause-still c =
+    let a = c.args in
+    keeps_places a.page.now c.put_at.new.page a.layout.now.number a.layout.now.kind c.header_place-header.result c.header_length.result a.layout.now.count a.at _ a.cell.now
+    c.header_place-header.ensures.value c.header_length.ensures.value c.put_at.ensures

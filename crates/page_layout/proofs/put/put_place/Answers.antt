@@ -1,4 +1,4 @@
-use Rattle.std.proofs.Common.{◌≡◌, List, ℕ, sym, subst, arith}
+use Rattle.std.proofs.Common.{List, ℕ, sym, subst, arith}
 use Rattle.page_layout.specs.Written.{PutsPlace}
 use Rattle.page_layout.proofs.Putting.{puts_place}
 use Rattle.page_layout.proofs.put.put_place.Goals as goal

@@ -1,24 +1,15 @@
-use Rattle.std.proofs.Common.{◌≡◌, ◌+◌, ◌-◌, ◌*◌, ◌<◌, ◌≤◌, ℕ, List, max, length, take, drop, Ok, sym, ap, ap₂, ◌∙◌, subst, arith}
+use Rattle.std.proofs.Common.{◌≡◌, ◌+◌, ◌-◌, ℕ, take, drop, Ok, ap₂, subst, arith}
 use Rattle.std.proofs.Math.Path.{subst⁻¹}
-use Rattle.byte_fields.specs.Numbers.{number_at}
-use Rattle.common_spec.specs.Reading.{Reads, OrFault}
-use Rattle.format_spec.specs.declared.CellView.{CellView}
-use Rattle.format_spec.specs.Page.{array_place, cell_place, header_length}
+use Rattle.format_spec.specs.Page.{array_place}
 use Rattle.cell_codec.specs.Cells.{BeginsWithCell}
 use Rattle.page_layout.proofs.Viewing.{begins, begun}
 use Rattle.page_layout.proofs.reading.read_view.Goals as goal
-
-pub returns-clause-place : goal.returns-clause-place
-returns-clause-place c =
-    let array : c.header_place.result + c.header_length.result ≡ array_place c.args.number c.args.kind = ap₂ (λ (a b : ℕ). a + b) c.header_place.ensures.value c.header_length.ensures.value in
-    c.from-place.ensures ∙ c.u16_at.ensures ∙ ap (λ (n : ℕ). number_at (n + 2 * c.args.index) 2 c.args.page.now) array
 
 pub returns-clause-found : goal.returns-clause-found
 returns-clause-found c =
     let a = c.args in
     let array : c.header_place.result + c.header_length.result ≡ array_place a.number a.kind = ap₂ (λ (x y : ℕ). x + y) c.header_place.ensures.value c.header_length.ensures.value in
-    let place : c.from-place.result ≡ cell_place a.page.now a.number a.kind a.index =
-    c.from-place.ensures ∙ c.u16_at.ensures ∙ ap (λ (n : ℕ). number_at (n + 2 * a.index) 2 a.page.now) array in
+    let place = c.place_of-place.ensures.value in
     let holds = rw c.in-Ok.is at c.read_cell.ensures.holds in
     begun a.page.now a.number a.usable a.kind c.requires.whole a.count a.index c.in-Ok.view
     (omega (arith, c.if-place-array.false, array, place)) (omega (arith, c.if-place-room.false, c.room.ensures, place))
@@ -27,8 +18,5 @@ returns-clause-found c =
 pub returns-in_default-clause-none : goal.returns-in_default-clause-none
 returns-in_default-clause-none c view at =
     let a = c.args in
-    let array : c.header_place.result + c.header_length.result ≡ array_place a.number a.kind = ap₂ (λ (x y : ℕ). x + y) c.header_place.ensures.value c.header_length.ensures.value in
-    let place : c.from-place.result ≡ cell_place a.page.now a.number a.kind a.index =
-    c.from-place.ensures ∙ c.u16_at.ensures ∙ ap (λ (n : ℕ). number_at (n + 2 * a.index) 2 a.page.now) array in
     let begin = begins a.page.now a.number a.usable a.kind c.requires.whole a.count a.index view at in
-    c.in_default.not-Ok view (c.read_cell.ensures.only (Ok view) (subst⁻¹ (λ (p : ℕ). BeginsWithCell a.kind a.usable (take (a.usable - p) (drop p a.page.now)) view) place begin))
+    c.in_default.not-Ok view (c.read_cell.ensures.only (Ok view) (subst⁻¹ (λ (p : ℕ). BeginsWithCell a.kind a.usable (take (a.usable - p) (drop p a.page.now)) view) c.place_of-place.ensures.value begin))

@@ -1,4 +1,4 @@
-use Rattle.std.proofs.Common.{◌≡◌, ◌+◌, ◌<◌, ◌≤◌, ℕ, pos, List, Bool, true, false, length, ◌++◌, ◌∷◌, [], sym, ap, ◌∙◌, subst, arith}
+use Rattle.std.proofs.Common.{◌≡◌, ◌+◌, ℕ, pos, List, length, ◌++◌, ◌∷◌, [], sym, ap, ◌∙◌, subst, arith}
 use Rattle.std.proofs.Math.Path.{subst⁻¹}
 use Rattle.std.proofs.lemmas.List.{length_push}
 use Rattle.format_spec.specs.declared.CellView.{CellView}
@@ -32,7 +32,7 @@ loop-index-preserved c =
     let found = subst (λ (n : ℕ). IsViewAt a.page.now a.number a.usable a.kind a.count n cell.view) (sym inv.many) c.in-Some.ensures.found in
     record {
       many = ap length items ∙ length_push views cell.view ∙ ap (λ (n : ℕ). n + 1) inv.many;
-      long = c.mark.auto.marks ∙ inv.long;
+      long = omega (arith, c.mark.auto.marks, inv.long);
       first = subst⁻¹ (AreViews a.page.now a.number a.usable a.kind a.count) items
           (one_more_view a.page.now a.number a.kind views cell.view c.loop-index.marks inv.marked a.usable a.count inv.first found
           (λ b low high. c.mark.ensures.free c.if-not-mark.false b (omega (arith, low, place)) (omega (arith, high, c.room.ensures, place))));

@@ -1,35 +1,15 @@
-use Rattle.std.proofs.Common.{◌≡◌, ◌+◌, ◌-◌, ◌<◌, ◌≤◌, ℕ, List, [], ◌∷◌, ◌++◌, length, take, slice_index, get_or, sym, ap, ◌∙◌, subst, inl, inr, append_assoc, arith, rules}
+use Rattle.std.proofs.Common.{◌≡◌, ◌+◌, ◌≤◌, ℕ, List, ◌++◌, take, get_or, ap, ◌∙◌, subst, arith}
 use Rattle.std.proofs.Math.Path.{subst⁻¹}
-use Rattle.std.specs.List.{insert}
-use Rattle.std.proofs.lemmas.List.{take_more, take_all, get_or_read, length-take-le}
-use Rattle.std.proofs.lemmas.List.Edits.{insert_end}
-use Rattle.std.proofs.lemmas.List.Sums.{sum_by_push, sum_by-take-le}
+use Rattle.std.proofs.lemmas.List.{take_all, get_or_read, length-take-le}
+use Rattle.std.proofs.lemmas.List.Sums.{sum_by-take-le}
 use Rattle.format_spec.specs.declared.PageKind.{PageKind}
 use Rattle.format_spec.specs.Page.{cell_room}
 use Rattle.page_spec.specs.Rooms.{IsOneCell, KeepsRest, rooms}
 use Rattle.page_layout.specs.declared.put.Layout.{Layout}
 use Rattle.page_layout.specs.Written.{IsLaid, laid_more}
+use Rattle.page_layout.proofs.Inserting.{packed-laid}
+use Rattle.page_layout.proofs.Packing.{as_known, put_more, rooms_more}
 use Rattle.page_layout.proofs.rebuilding.put_all.Goals as goal
-
--- the cells up to one more
-more : (cells : List (List ℕ)) (i : ℕ) (x : List ℕ) → i < length cells → x ≡ get_or cells i x → take (i + 1) cells ≡ take i cells ++ x ∷ []
-more cells i x inside is = take_more cells i x inside ∙ ap (λ (y : List ℕ). take i cells ++ y ∷ []) (sym is)
-
--- one cell more behind those that were put
-put_more : (page : List ℕ) (layout : Layout) (before cells : List (List ℕ)) (right i : ℕ) (x : List ℕ) (count : ℕ) → i < length cells → x ≡ get_or cells i x → count ≡ length (before ++ take i cells)
-    → IsLaid page layout (insert (before ++ take i cells) count x) right → IsLaid page layout (before ++ take (i + 1) cells) right
-put_more page layout before cells right i x count inside is counts laid =
-    let P : List (List ℕ) → Type 0 = λ all. IsLaid page layout all right in
-    let all = ap (λ (n : ℕ). insert (before ++ take i cells) n x) counts ∙ insert_end (before ++ take i cells) x ∙ append_assoc before (take i cells) (x ∷ [])
-    ∙ ap (λ (behind : List (List ℕ)). before ++ behind) (sym (more cells i x inside is)) in
-    subst P all laid
-
-rooms_more : (cells : List (List ℕ)) (i : ℕ) (x : List ℕ) → i < length cells → x ≡ get_or cells i x → rooms (take (i + 1) cells) ≡ rooms (take i cells) + cell_room x
-rooms_more cells i x inside is = ap rooms (more cells i x inside is) ∙ sum_by_push cell_room (take i cells) x
-
-kept : (old new : List ℕ) (layout first : Layout) → layout.number ≡ first.number → layout.usable ≡ first.usable → KeepsRest layout.number layout.usable old new → KeepsRest first.number first.usable old new
-kept old new layout first number usable keeps =
-    subst (λ (u : ℕ). KeepsRest first.number u old new) usable (subst (λ (n : ℕ). KeepsRest n layout.usable old new) number keeps)
 
 pub put_cell-requires-clause-cell : goal.put_cell-requires-clause-cell
 put_cell-requires-clause-cell c =
@@ -62,8 +42,11 @@ loop-cell-preserved c =
       laid = λ before right was.
           let mid = inv.laid before right was in
           put_more c.put_cell.new.page c.put_cell.new.layout before cells right i x c.loop-cell.layout.count c.loop-cell-test.true is mid.count
-          (c.put_cell.ensures.cells (before ++ take i cells) right mid);
-      rest = λ k apart. kept c.loop-cell.page c.put_cell.new.page c.loop-cell.layout c.args.layout.now inv.on.number inv.on.usable c.put_cell.ensures.rest k apart ∙ inv.rest k apart;
+          (c.put_cell.ensures.cells (before ++ take i cells) right (packed-laid mid));
+      rest = λ k apart.
+          as_known (λ (n u : ℕ) (kind : PageKind). KeepsRest n u c.loop-cell.page c.put_cell.new.page) c.loop-cell.layout c.args.layout.now.number c.args.layout.now.usable c.args.layout.now.kind
+          inv.on.number inv.on.usable inv.on.kind c.put_cell.ensures.rest k apart
+          ∙ inv.rest k apart;
     }
 
 pub returns-clause-cells : goal.returns-clause-cells

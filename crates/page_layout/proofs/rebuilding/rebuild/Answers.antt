@@ -1,10 +1,9 @@
-use Rattle.std.proofs.Common.{◌≡◌, ℕ, List, [], ap, ◌∙◌, subst}
+use Rattle.std.proofs.Common.{ℕ, [], ap, ◌∙◌, subst}
 use Rattle.format_spec.specs.declared.PageKind.{PageKind}
 use Rattle.std.proofs.Math.Path.{subst⁻¹}
 use Rattle.std.specs.List.{All}
 use Rattle.page_spec.specs.Rooms.{IsOneCell, IsWritten, right_kept}
 use Rattle.page_layout.specs.declared.put.Layout.{Layout}
-use Rattle.page_layout.specs.Written.{IsLaid}
 use Rattle.page_layout.proofs.rebuilding.rebuild.Goals as goal
 
 pub put_all-requires-clause-cells : goal.put_all-requires-clause-cells

@@ -1,8 +1,8 @@
-use Rattle.rbu_value.proofs.Words.{begins_from_front, front_from_begins}
+use Rattle.rbu_value.proofs.Words.{BeginsWith-from_front, BeginsWith-front}
 use Rattle.rbu_value.proofs.affinity.begins_with.Goals as goal
 
 pub returns-then-word-text : goal.returns-then-word-text
 returns-then-word-text c =
     let t = c.args.text.now in
     let w = c.args.word.now in
-    (λ e. begins_from_front t w _ (c.eq_ignore_ascii_case.ensures.test.0 e), λ b. c.eq_ignore_ascii_case.ensures.test.1 (front_from_begins t w b))
+    (λ e. BeginsWith-from_front t w _ (c.eq_ignore_ascii_case.ensures.test.0 e), λ b. c.eq_ignore_ascii_case.ensures.test.1 (BeginsWith-front t w b))

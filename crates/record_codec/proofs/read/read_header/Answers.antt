@@ -1,5 +1,5 @@
 use Rattle.std.proofs.Common.{refl, inl, inr}
-use Rattle.record_codec.proofs.Reading.{front_is, header_found, wrong_size}
+use Rattle.record_codec.proofs.Reading.{FrontIs-read, header-found, header-wrong_size}
 use Rattle.record_codec.proofs.read.read_header.Goals as goal
 use Rattle.record_codec.proofs.read.read_header.Goals.{then-end-start-via-then-end-start, then-end-start-via-else-end-start+then-bytes-end}
 
@@ -8,10 +8,10 @@ returns-then-end-start-clause-fault c =
     let bytes = c.args.bytes.now in
     let end = c.in_ok-header.header in
     let start = c.in_ok-header.start in
-    let front = front_is bytes c.read_varint.result end start c.in_ok-header.ensures.ok_part c.read_varint.ensures.answer in
+    let front = FrontIs-read bytes c.read_varint.result end start c.in_ok-header.ensures.ok_part c.read_varint.ensures.answer in
     elim c.then-end-start.branch [
-      | then-end-start-via-then-end-start w ↦ (refl, wrong_size bytes end start front (inl w.if-end-start.true))
-      | then-end-start-via-else-end-start+then-bytes-end w ↦ (refl, wrong_size bytes end start front (inr w.if-bytes-end.true))
+      | then-end-start-via-then-end-start w ↦ (refl, header-wrong_size bytes end start front (inl w.if-end-start.true))
+      | then-end-start-via-else-end-start+then-bytes-end w ↦ (refl, header-wrong_size bytes end start front (inr w.if-bytes-end.true))
     ]
 
 pub returns-clause-found : goal.returns-clause-found
@@ -19,4 +19,4 @@ returns-clause-found c =
     let bytes = c.args.bytes.now in
     let end = c.in_ok-header.header in
     let start = c.in_ok-header.start in
-    header_found bytes end start (front_is bytes c.read_varint.result end start c.in_ok-header.ensures.ok_part c.read_varint.ensures.answer) c.if-end-start.false c.if-bytes-end.false
+    header-found bytes end start (FrontIs-read bytes c.read_varint.result end start c.in_ok-header.ensures.ok_part c.read_varint.ensures.answer) c.if-end-start.false c.if-bytes-end.false

@@ -8,7 +8,7 @@ use Rattle.format_spec.specs.Page.{IsPage}
 use Rattle.small_spec.specs.SmallFile.{IsSmallFile, IsSmallHeader}
 use Rattle.small_file.specs.Pages.{HoldsCells}
 use Rattle.small_file.specs.Files.{HasSchema, HoldsTable}
-use Rattle.small_file.proofs.Rows.{small_has_schema, small_has_table, holds_table, IfNone_then}
+use Rattle.small_file.proofs.Rows.{small_file-schema, small_file-table, HoldsTable-from_cells, IfNone-then}
 use Rattle.small_file.proofs.file.read_table.Goals as goal
 use Rattle.small_file.proofs.file.read_table.Goals.{then-bytes-via-then-bytes, then-bytes-via-else-bytes+then-not-is_small_header}
 
@@ -21,7 +21,7 @@ returns-then-bytes-clause-none c = λ cells s.
 
 pub returns-then-not-branch-clause-none : goal.returns-then-not-branch-clause-none
 returns-then-not-branch-clause-none c = λ cells s.
-    let schema = subst (λ p. HasSchema p c.args.schema.now) (sym c.split_at.ensures.front) (small_has_schema c.args.bytes.now c.args.schema.now cells s) in
+    let schema = subst (λ p. HasSchema p c.args.schema.now) (sym c.split_at.ensures.front) (small_file-schema c.args.bytes.now c.args.schema.now cells s) in
     both_ways c.in_ok-has_schema.field-0 c.if-not-branch.true (c.in_ok-has_schema.ensures.1 schema)
 
 pub returns-clause-found : goal.returns-clause-found
@@ -31,10 +31,10 @@ returns-clause-found c =
     let schema : HasSchema (take 4096 bytes) c.args.schema.now = subst (λ p. HasSchema p c.args.schema.now) c.split_at.ensures.front (c.in_ok-has_schema.ensures.0 c.if-not-branch.false) in
     IfOk-weaker c.read_page.result _ (λ answer. IfSome answer (λ cells. HoldsTable bytes c.args.schema.now cells.items)) (λ answer h.
     IfSome_then answer {Q = λ cells. HoldsTable bytes c.args.schema.now cells.items} h (λ cells p.
-    holds_table bytes c.args.schema.now cells.items c.if-bytes.false header schema (subst (λ p. HoldsCells p 2 cells.items) c.split_at.ensures.back p))) c.read_page.ensures.found
+    HoldsTable-from_cells bytes c.args.schema.now cells.items c.if-bytes.false header schema (subst (λ p. HoldsCells p 2 cells.items) c.split_at.ensures.back p))) c.read_page.ensures.found
 
 pub returns-clause-none : goal.returns-clause-none
 returns-clause-none c =
     let bytes = c.args.bytes.now in
     IfOk-weaker c.read_page.result _ (λ answer. IfNone answer ((cells : List (List ℕ)) → IsSmallFile bytes c.args.schema.now cells → ⊥)) (λ answer h.
-    IfNone_then answer h (λ none cells s. none cells 0 (subst (λ p. IsPage p 2 4096 TableLeaf cells 0) (sym c.split_at.ensures.back) (small_has_table bytes c.args.schema.now cells s)))) c.read_page.ensures.none
+    IfNone-then answer h (λ none cells s. none cells 0 (subst (λ p. IsPage p 2 4096 TableLeaf cells 0) (sym c.split_at.ensures.back) (small_file-table bytes c.args.schema.now cells s)))) c.read_page.ensures.none

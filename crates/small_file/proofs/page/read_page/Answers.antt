@@ -1,23 +1,26 @@
-use Rattle.std.proofs.Common.{◌≡◌, ◌+◌, get_or, sym, ap, ◌∙◌, arith}
-use Rattle.std.proofs.lemmas.Result.{IfOk-weaker}
-use Rattle.std.proofs.lemmas.Option.{IfSome_then}
-use Rattle.std.specs.Option.{IfSome}
-use Rattle.byte_fields.specs.Numbers.{number_at}
-use Rattle.format_spec.specs.Page.{cell_count}
-use Rattle.small_file.specs.Pages.{HoldsCells}
-use Rattle.small_file.proofs.PageCells.{holds_cells, array_fits}
+use Rattle.std.proofs.Common.{length, ◌∙◌, ap, subst, inl, inr, arith}
+use Rattle.std.proofs.Math.Path.{subst⁻¹}
+use Rattle.format_spec.specs.declared.PageKind.TheVariants.{TableLeaf}
+use Rattle.page_layout.specs.Views.{HasKind, HasPageFault, IsMemory}
+use Rattle.small_file.specs.Pages.{placed, HoldsCells}
+use Rattle.small_file.proofs.Pages.{HasViews-cells, HasViews-array, IsRefused-no_leaf}
 use Rattle.small_file.proofs.page.read_page.Goals as goal
 
-pub returns-then-header-count-gt-PAGE_SIZE-clause-none : goal.returns-then-header-count-gt-PAGE_SIZE-clause-none
-returns-then-header-count-gt-PAGE_SIZE-clause-none c =
-    let page = c.args.page.now in
-    let count : c.from-count.result ≡ cell_count page c.args.number = c.from-count.ensures ∙ c.u16_at.ensures ∙ ap (λ n. number_at (n + 3) 2 page) c.header_place-header.ensures.value in
-    array_fits page c.args.number c.from-count.result (sym count) (omega (arith, c.header_place-header.ensures.value, c.header_place-header.ensures.most)) (omega (arith, c.if-header-count-gt-PAGE_SIZE.true, c.header_place-header.ensures.value))
+pub with_places-requires-clause-array : goal.with_places-requires-clause-array
+with_places-requires-clause-array c =
+    let leaf : HasKind c.args.page.now c.args.number TableLeaf = c.is_table_leaf.ensures.0 c.if-not-is_table_leaf.false in
+    omega (arith, ap length c.deref.ensures.value, HasViews-array c.args.page.now c.args.number c.in-Ok.views.items leaf c.in-Ok.ensures.holds)
 
-pub returns-clause-found : goal.returns-clause-found
-returns-clause-found c =
+pub returns-in_ok-with_places-in-Ok-clause-found : goal.returns-in_ok-with_places-in-Ok-clause-found
+returns-in_ok-with_places-in-Ok-clause-found c =
+    let leaf : HasKind c.args.page.now c.args.number TableLeaf = c.is_table_leaf.ensures.0 c.if-not-is_table_leaf.false in
+    subst⁻¹ (HoldsCells c.args.page.now c.args.number) (c.in_ok-with_places-in-Ok.ensures ∙ ap (placed c.args.page.now c.args.number) c.deref.ensures.value)
+    (HasViews-cells c.args.page.now c.args.number c.in-Ok.views.items leaf c.in-Ok.ensures.holds)
+
+pub returns-in-BadPage-clause-none : goal.returns-in-BadPage-clause-none
+returns-in-BadPage-clause-none c =
     let page = c.args.page.now in
-    let count : c.from-count.result ≡ cell_count page c.args.number = c.from-count.ensures ∙ c.u16_at.ensures ∙ ap (λ n. number_at (n + 3) 2 page) c.header_place-header.ensures.value in
-    let kind = c.if-page-header-ne-TABLE_LEAF.false in
-    IfOk-weaker c.read_cells.result _ (λ answer. IfSome answer (λ cells. HoldsCells page c.args.number cells.items)) (λ answer h.
-    IfSome_then answer {Q = λ cells. HoldsCells page c.args.number cells.items} h (λ cells p. holds_cells page c.args.number c.from-count.result cells.items c.requires (ap (λ n. get_or page n 0) (sym c.header_place-header.ensures.value) ∙ kind) (sym count) p)) c.read_cells.ensures.found
+    elim c.in-Err.ensures [
+      | inl memory ↦ absurd (subst IsMemory c.in-BadPage.is memory)
+      | inr reads ↦ IsRefused-no_leaf page c.args.number c.in-BadPage.rule (subst (HasPageFault page c.args.number 4096) c.in-BadPage.is reads.holds)
+    ]

@@ -2,7 +2,7 @@ use Rattle.std.proofs.Common.{◌≡◌, ◌+◌, ◌-◌, ◌<ℤ◌, get_or, s
 use Rattle.std.proofs.lemmas.Bool.{cases_lt}
 use Rattle.std.proofs.lemmas.List.{get_or_default}
 use Rattle.std.specs.Int.{w64}
-use Rattle.small_file.proofs.Rising.{rising_all, below_from, not_below_from}
+use Rattle.small_file.proofs.Rising.{rising-all, below-from_test, not_below-from_test}
 use Rattle.small_file.proofs.table.is_rising.Goals as goal
 
 pub returns-then-rowid : goal.returns-then-rowid
@@ -16,7 +16,7 @@ returns-then-rowid g c =
     let next : key (get_or rows i last) ≡ c.rowid.result = ap key (get_or_default rows i last c.index-rows-i.result c.loop-i-test.true ∙ sym c.index-rows-i.is) ∙ sym c.rowid.ensures in
     let before : key (get_or rows (i - 1) last) ≡ c.rowid-in-loop-i.result = ap key (sym c.index-rows-i-in-loop-i.is) ∙ sym c.rowid-in-loop-i.ensures in (
       λ t. absurd (cc),
-      λ rising. absurd (not_below_from c.rowid-in-loop-i.result c.rowid.result low high c.if-rowid.true
+      λ rising. absurd (not_below-from_test c.rowid-in-loop-i.result c.rowid.result low high c.if-rowid.true
           (subst (λ a. a <ℤ c.rowid.result) before (subst (λ b. key (get_or rows (i - 1) last) <ℤ b) next (rising (i - 1) i last (omega (arith, c.loop-i.auto.i)) c.loop-i-test.true)))),
     )
 
@@ -40,8 +40,8 @@ loop-i-preserved g c = λ k d l.
           let before : c.rowid-in-loop-i.result ≡ key (get_or rows k d) =
           c.rowid-in-loop-i.ensures ∙ ap key (c.index-rows-i-in-loop-i.is ∙ get_or_default rows (i - 1) c.index-rows-i-in-loop-i.result d (omega (arith, c.loop-i-test.true)) ∙ ap (λ n. get_or rows n d) (sym earlier)) in
           subst (λ a. a <ℤ key (get_or rows (k + 1) d)) before
-          (subst (λ b. c.rowid-in-loop-i.result <ℤ b) next (below_from c.rowid-in-loop-i.result c.rowid.result low high c.if-rowid.false))
+          (subst (λ b. c.rowid-in-loop-i.result <ℤ b) next (below-from_test c.rowid-in-loop-i.result c.rowid.result low high c.if-rowid.false))
     ]
 
 pub returns : goal.returns
-returns g c = (λ t. rising_all g.R.SmallRow.table.rowid c.args.rows.now (λ k d l. c.loop-i.invariant k d (omega (arith, l, c.loop-i-test.false))), λ h. refl)
+returns g c = (λ t. rising-all g.R.SmallRow.table.rowid c.args.rows.now (λ k d l. c.loop-i.invariant k d (omega (arith, l, c.loop-i-test.false))), λ h. refl)

@@ -3,7 +3,7 @@ use Rattle.std.proofs.lemmas.List.{length-map, get_or-map, map_more, take_all}
 use Rattle.std.specs.List.{AllZip}
 use Rattle.common_spec.specs.Reading.{Reads, OrNone}
 use Rattle.small_file.specs.Pages.{cell_of}
-use Rattle.small_file.proofs.PageCells.{no_cell}
+use Rattle.small_file.proofs.Pages.{no_cell}
 use Rattle.small_file.proofs.Readings.{Reads-none, Reads-some, some-of_reads, AllZip-more, AllZip-none, AllZip-holds, AllZip-only}
 use Rattle.small_file.proofs.table.rows_of.Goals as goal
 
@@ -28,8 +28,9 @@ loop-cell-preserved g c =
     let cell = cell_of page (get_or cells i no_cell) in
     let reads = some-of_reads (IsRow cell) c.in-Some.row (subst (Reads (OrNone (IsRow cell))) c.in-Some.is c.in_ok-row.ensures) in
     let more = AllZip-more (λ x y. Reads (IsRow x) y) (map (cell_of page) (take i cells)) c.loop-cell.rows.items cell c.in-Some.row c.loop-cell.invariant reads in
-    subst (λ rows. AllZip (λ x y. Reads (IsRow x) y) (map (cell_of page) (take (i + 1) cells)) rows) (sym c.in_ok-push.ensures.items)
-    (subst (λ all. AllZip (λ x y. Reads (IsRow x) y) all (c.loop-cell.rows.items ++ c.in-Some.row ∷ [])) (sym (map_more (cell_of page) cells i no_cell c.loop-cell-test.true)) more)
+    subst (λ rows. AllZip (λ x y. Reads (IsRow x) y) (map (cell_of page) (take (i + 1) cells)) rows) {x = c.loop-cell.rows.items ++ c.in-Some.row ∷ []} {y = c.push.new.self.items} (sym c.in_ok-push.ensures.items)
+    (subst (λ all. AllZip (λ x y. Reads (IsRow x) y) all (c.loop-cell.rows.items ++ c.in-Some.row ∷ [])) {x = map (cell_of page) (take i cells) ++ cell ∷ []} {y = map (cell_of page) (take (i + 1) cells)}
+    (sym (map_more (cell_of page) cells i no_cell c.loop-cell-test.true)) more)
 
 pub returns : goal.returns
 returns g c =

@@ -6,7 +6,7 @@ use Rattle.std.proofs.lemmas.Int.{ints, to_z-of_z}
 use Rattle.std.proofs.lemmas.List.{get_or_default}
 use Rattle.small_spec.specs.declared.PreparedRow.{PreparedRow}
 use Rattle.small_spec.specs.Inserts.{IsPresent}
-use Rattle.small_update.proofs.Keys.{le_from_sorted}
+use Rattle.small_update.proofs.Keys.{sorted-le}
 use Rattle.small_update.proofs.merge.first_present.Goals as goal
 
 pub returns-then-is_present-clause-present : goal.returns-then-is_present-clause-present
@@ -20,7 +20,7 @@ returns-then-is_present-clause-present c =
     λ other at present. elim (cases_lt at.0 i) [
       | inl below ↦ absurd (c.loop-row.invariant at.0 other below (subst (λ (x : PreparedRow). IsPresent c.args.old.now x) (sym at.2) present))
       | inr above ↦
-          let le = le_from_sorted (λ (x : PreparedRow). x.key) rows c.requires.sorted i at.0 row above at.1 in
+          let le = sorted-le (λ (x : PreparedRow). x.key) rows c.requires.sorted i at.0 row above at.1 in
           let first = ap (λ (x : PreparedRow). x.key) c.row-item.is in
           let second = ap (λ (x : PreparedRow). x.key) (get_or_default rows at.0 row other at.1 ∙ at.2) in
           omega (arith, ints)

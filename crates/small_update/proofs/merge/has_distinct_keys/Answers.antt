@@ -4,7 +4,7 @@ use Rattle.std.proofs.lemmas.Int.{ints}
 use Rattle.std.proofs.lemmas.List.{get_or_default}
 use Rattle.std.specs.List.{AllAdjacentBelow}
 use Rattle.small_spec.specs.declared.PreparedRow.{PreparedRow}
-use Rattle.small_update.proofs.Keys.{not_shared, distinct-from_unshared}
+use Rattle.small_update.proofs.Keys.{sorted-not_shared, distinct-from_unshared}
 use Rattle.small_update.proofs.merge.has_distinct_keys.Goals as goal
 
 pub returns-then-rows-i : goal.returns-then-rows-i
@@ -19,4 +19,4 @@ returns-then-rows-i c =
 pub returns : goal.returns
 returns c =
     let apart : AllAdjacentBelow (λ (x y : PreparedRow). x.key ≢ y.key) c.args.rows.now (length c.args.rows.now) = λ k d below. c.loop-i.invariant k d (omega arith) in
-    (λ e. distinct-from_unshared (λ (row : PreparedRow). row.key) c.args.rows.now (not_shared (λ (row : PreparedRow). row.key) c.args.rows.now c.requires apart), λ h. search rules)
+    (λ e. distinct-from_unshared (λ (row : PreparedRow). row.key) c.args.rows.now (sorted-not_shared (λ (row : PreparedRow). row.key) c.args.rows.now c.requires apart), λ h. search rules)

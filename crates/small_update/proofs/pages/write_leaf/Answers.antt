@@ -2,7 +2,7 @@ use Rattle.std.proofs.Common.{◌≡◌, ℕ, List, length, map, take, rules, ar
 use Rattle.byteorder.specs.Endian.{big_bytes}
 use Rattle.std.proofs.lemmas.List.{take_all, length-map}
 use Rattle.small_spec.specs.declared.TargetRow.{TargetRow}
-use Rattle.small_update.proofs.Leaf.{IsPacking, IsPacking-none, packed, room_for_cell, packing_step}
+use Rattle.small_update.proofs.Leaf.{IsPacking, IsPacking-none, IsPacking-packed_leaf, page_room-for_cell, IsPacking-next_row}
 use Rattle.small_update.proofs.pages.write_leaf.Goals as goal
 
 pub loop-k-init : goal.loop-k-init
@@ -12,17 +12,17 @@ loop-k-init c =
 
 pub overflow_sub-place : goal.overflow_sub-place
 overflow_sub-place c =
-    let left = room_for_cell c.loop-k.page (length c.args.page.now) c.loop-k.place c.loop-k.k c.args.rows.now c.index-rows-k.result c.as_slice-cell.result.now c.loop-k.invariant c.loop-k-test.true c.index-rows-k.is c.as_slice-cell.ensures c.requires.room in
+    let left = page_room-for_cell c.loop-k.page (length c.args.page.now) c.loop-k.place c.loop-k.k c.args.rows.now c.index-rows-k.result c.as_slice-cell.result.now c.loop-k.invariant c.loop-k-test.true c.index-rows-k.is c.as_slice-cell.ensures c.requires.room in
     omega arith
 
 pub write_cell-requires-clause-below : goal.write_cell-requires-clause-below
 write_cell-requires-clause-below c =
-    let left = room_for_cell c.loop-k.page (length c.args.page.now) c.loop-k.place c.loop-k.k c.args.rows.now c.index-rows-k.result c.as_slice-cell.result.now c.loop-k.invariant c.loop-k-test.true c.index-rows-k.is c.as_slice-cell.ensures c.requires.room in
+    let left = page_room-for_cell c.loop-k.page (length c.args.page.now) c.loop-k.place c.loop-k.k c.args.rows.now c.index-rows-k.result c.as_slice-cell.result.now c.loop-k.invariant c.loop-k-test.true c.index-rows-k.is c.as_slice-cell.ensures c.requires.room in
     omega arith
 
 pub loop-k-preserved : goal.loop-k-preserved
 loop-k-preserved c =
-    packing_step c.loop-k.page c.write_cell.new.page (length c.args.page.now) c.loop-k.place c.loop-k.k c.args.rows.now c.index-rows-k.result c.as_slice-cell.result.now c.loop-k.invariant c.loop-k-test.true c.index-rows-k.is c.as_slice-cell.ensures c.requires.room c.write_cell.ensures
+    IsPacking-next_row c.loop-k.page c.write_cell.new.page (length c.args.page.now) c.loop-k.place c.loop-k.k c.args.rows.now c.index-rows-k.result c.as_slice-cell.result.now c.loop-k.invariant c.loop-k-test.true c.index-rows-k.is c.as_slice-cell.ensures c.requires.room c.write_cell.ensures
 
 pub returns : goal.returns
 returns c =
@@ -35,4 +35,4 @@ returns c =
     let count = length-map rows (λ (row : TargetRow). row.cell) in
     c.write_header.ensures
     ∙ (ap (λ (n : ℕ). (13 ∷ (big_bytes 2 0 ++ (big_bytes 2 n ++ (big_bytes 2 c.loop-k.place ++ 0 ∷ [])))) ++ drop 8 c.loop-k.page) (sym count)
-    ∙ packed c.loop-k.page size c.loop-k.place cells packing)
+    ∙ IsPacking-packed_leaf c.loop-k.page size c.loop-k.place cells packing)

@@ -3,7 +3,7 @@ use Rattle.std.proofs.lemmas.List.{length-take-le}
 use Rattle.format_spec.specs.Page.{packed_leaf}
 use Rattle.small_spec.specs.Inserts.{new_first_page}
 use Rattle.small_spec.specs.declared.TargetRow.{TargetRow}
-use Rattle.small_update.proofs.Whole.{first_page, second_page, second_length}
+use Rattle.small_update.proofs.Whole.{page-first, page-second_written, page-second_length}
 use Rattle.small_update.proofs.pages.write_pages.Goals as goal
 
 pub slice_bounds-raise_counters-end-2 : goal.slice_bounds-raise_counters-end-2
@@ -19,6 +19,6 @@ returns c =
     let first = c.raise_counters.new.page in
     let long : length first ≡ 4096 = c.raise_counters.auto.page ∙ length-take-le 4096 target (omega arith) in
     let one : first ≡ new_first_page (take 4096 target) = c.raise_counters.ensures in
-    let two : c.write_leaf.new.page ≡ packed_leaf 4096 cells = c.write_leaf.ensures ∙ ap (λ (n : ℕ). packed_leaf n cells) (second_length 4096 _ target first c.requires.long long refl) in
-    let both = second_page 4096 _ target first c.write_leaf.new.page c.requires.long long refl in
-    both ∙ (ap (λ (x : List ℕ). first ++ x) two ∙ ap (λ (x : List ℕ). x ++ packed_leaf 4096 cells) (one ∙ ap new_first_page (sym (first_page 4096 target c.requires.long))))
+    let two : c.write_leaf.new.page ≡ packed_leaf 4096 cells = c.write_leaf.ensures ∙ ap (λ (n : ℕ). packed_leaf n cells) (page-second_length 4096 _ target first c.requires.long long refl) in
+    let both = page-second_written 4096 _ target first c.write_leaf.new.page c.requires.long long refl in
+    both ∙ (ap (λ (x : List ℕ). first ++ x) two ∙ ap (λ (x : List ℕ). x ++ packed_leaf 4096 cells) (one ∙ ap new_first_page (sym (page-first 4096 target c.requires.long))))

@@ -5,7 +5,7 @@ use Rattle.frame_pool.specs.declared.frame.Frame.{Frame}
 use Rattle.std.specs.List.{All}
 use Rattle.frame_pool.specs.Rule.{Filled, Kept, Slot}
 use Rattle.frame_pool.specs.Views.{starts}
-use Rattle.frame_pool.proofs.Steps.{begins, filled_more}
+use Rattle.frame_pool.proofs.Steps.{rule-begins, Filled-more}
 use Rattle.frame_pool.proofs.pool.Pool.new.Goals as goal
 
 pub new-requires : goal.new-requires
@@ -16,7 +16,7 @@ new-requires c =
     let count : ℕ = c.len.result / 64 + 1 in
     let n = c.len.ensures in
     let few : length c.loop-frame.slots.items ≤ count * 64 = omega (arith, i.1, n, div-add-mod' c.len.result 64, mod_below c.len.result 64 (omega arith)) in
-    subst (λ (ws : List ℕ). Kept c.len-size.result (opening ws c.loop-frame.slots.items (starts c.len-size.result))) (sym words) (begins c.len-size.result count c.loop-frame.slots.items few i.0)
+    subst (λ (ws : List ℕ). Kept c.len-size.result (opening ws c.loop-frame.slots.items (starts c.len-size.result))) (sym words) (rule-begins c.len-size.result count c.loop-frame.slots.items few i.0)
 
 pub loop-frame-preserved : goal.loop-frame-preserved
 loop-frame-preserved c =
@@ -25,7 +25,7 @@ loop-frame-preserved c =
     let all = subst (λ (l : List Frame). All (λ f. length f.bytes.items ≡ c.len-size.result) l) steps i.2 in
     let pushed = c.in_ok-push.ensures.items in
     let new : Frame = record { number = c.len-in-loop-frame.result; bytes = c.in-Some.frame.bytes } in (
-      subst (Filled c.len-size.result) (sym {A = List Slot} pushed) (filled_more c.len-size.result c.loop-frame.slots.items new i.0 (omega (arith, c.len-in-loop-frame.ensures, c.loop-frame.slots.ok)) (all 0 c.in-Some.frame (omega arith))),
+      subst (Filled c.len-size.result) (sym {A = List Slot} pushed) (Filled-more c.len-size.result c.loop-frame.slots.items new i.0 (omega (arith, c.len-in-loop-frame.ensures, c.loop-frame.slots.ok)) (all 0 c.in-Some.frame (omega arith))),
       omega (arith, i.1, ap length pushed, length-append c.loop-frame.slots.items (Some new ∷ []), ap length steps),
       (λ k d lt. all (suc k) d (omega (arith, lt))),
     )

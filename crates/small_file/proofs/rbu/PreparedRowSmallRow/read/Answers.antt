@@ -8,14 +8,14 @@ use Rattle.small_spec.specs.SmallFile.{IsNullOrText, IsPreparedRow}
 use Rattle.small_file.specs.Pages.{cell_of}
 use Rattle.small_file.specs.Records.{prepared_values}
 use Rattle.small_file.proofs.Readings.{Reads-none}
-use Rattle.small_file.proofs.CellRows.{prepared_whole, prepared_record, prepared_reads}
+use Rattle.small_file.proofs.CellRows.{prepared_row-whole, prepared_row-record, prepared_row-reads}
 use Rattle.small_file.proofs.rbu.PreparedRowSmallRow.read.Goals as goal
 
 pub returns-in_default : goal.returns-in_default
 returns-in_default c =
     let page = c.args.page.now in
     let cell = c.args.cell.now in
-    Reads-none (IsPreparedRow (cell_of page cell)) (λ row is. c.in_default.ensures.none (prepared_whole page cell c.requires.long c.requires.placed row is))
+    Reads-none (IsPreparedRow (cell_of page cell)) (λ row is. c.in_default.ensures.none (prepared_row-whole page cell c.requires.placed row is))
 
 pub returns-in_default-2 : goal.returns-in_default-2
 returns-in_default-2 c =
@@ -23,7 +23,7 @@ returns-in_default-2 c =
     let cell = c.args.cell.now in
     Reads-none (IsPreparedRow (cell_of page cell)) (λ row is.
     MatchOption-at_none _ _ c.in_default-2.is
-    (c.in_ok-key.ensures.only row.key row.value is.2 is.0 (c.in-Some.ensures.bytes ∙ prepared_record page cell c.requires.long c.requires.placed row is)))
+    (c.in_ok-key.ensures.only row.key row.value is.2 is.0 (c.in-Some.ensures.bytes ∙ prepared_row-record page cell c.requires.placed row is)))
 
 pub returns : goal.returns
 returns c =
@@ -38,6 +38,6 @@ returns c =
     MatchOption-at_some _ (λ row. IsNullOrText row.1 × (payload ≡ canonical_record 4 (prepared_values row.0 row.1))) (key, value) c.in-Some-2.is c.in_ok-key.ensures.found in
     subst (λ k. Reads (OrNone (IsPreparedRow (cell_of page cell))) (Some (record { data_rowid = cast_signed w64 (cast_unsigned w64 cell.view.rowid); key = k; value = value })))
     (sym (to_z-of_z w64 key key_fits))
-    (prepared_reads page cell c.requires.long c.requires.placed (cast_signed w64 (cast_unsigned w64 cell.view.rowid)) key value (to_z-of_z w64 cell.view.rowid rowid_fits)
+    (prepared_row-reads page cell c.requires.placed (cast_signed w64 (cast_unsigned w64 cell.view.rowid)) key value (to_z-of_z w64 cell.view.rowid rowid_fits)
     c.in-Some.ensures.whole key_fits found.0 (sym c.in-Some.ensures.bytes ∙ found.1)
     (λ k w f p e. MatchOption-at_some _ (λ row. (row.0 ≡ k) × (row.1 ≡ w)) (key, value) c.in-Some-2.is (c.in_ok-key.ensures.only k w f p (c.in-Some.ensures.bytes ∙ e))))

@@ -1,8 +1,0 @@
-use Rattle.std.proofs.Common.{refl, arith}
-use Rattle.db_header.proofs.tests.header_is_written_at_its_places_alone.Goals as goal
-
-pub write_header-requires-clause-size : goal.write_header-requires-clause-size
-write_header-requires-clause-size g c = record { power = (9, refl); least = omega arith; most = omega arith }
-
-pub write_header-requires-2-clause-size : goal.write_header-requires-2-clause-size
-write_header-requires-2-clause-size g c = record { power = (16, refl); least = omega arith; most = omega arith }

@@ -1,0 +1,11 @@
+//! Tests of page stores, overflow chains and the freelist, over pages in memory.
+//!
+//! They stand in a crate of their own, over the crates that they call, since a crate with tests is proved twice.
+#![tactic(auto)]
+
+#[cfg(test)]
+mod chains;
+#[cfg(test)]
+mod free_lists;
+#[cfg(test)]
+mod stores;

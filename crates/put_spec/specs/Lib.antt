@@ -1,0 +1,9 @@
+pub mod Children
+pub mod Puts
+pub mod Steps
+pub mod ChildrenLaws
+pub mod LeavesLaws
+pub mod PutsLaws
+pub mod StepsLaws
+pub mod WorldsLaws
+pub mod MembersLaws

@@ -1,0 +1,17 @@
+//! Reads the texts of a schema (The Schema Table, section 2.1; CREATE TABLE; CREATE INDEX).
+//!
+//! `tokens` gives the tokens of a text by their places. What these are is said by `Tokens` in the `specs/` of `schema_spec`.
+#![tactic(auto)]
+
+mod brackets;
+mod columns;
+mod fronts;
+mod tokenizer;
+mod words;
+
+pub use schema_spec::{Token, TokenKind};
+pub use tokenizer::tokens;
+pub use words::name_of;
+
+#[cfg(test)]
+mod tests;

@@ -1,0 +1,13 @@
+pub mod Trees
+pub mod TreesLaws
+pub mod Bounds
+pub mod BoundsLaws
+pub mod Standing
+pub mod PagesLaws
+pub mod StandingLaws
+pub mod OneTreeLaws
+pub mod Worlds
+pub mod WorldsLaws
+pub mod Changes
+pub mod ChangesLaws
+pub mod LittleWorld

@@ -1,8 +1,0 @@
-use Rattle.std.proofs.Common.{arith}
-use Rattle.wal_codec.proofs.HeadersLemmas.{log_header-written}
-use Rattle.wal_codec.proofs.headers.header_bytes.Goals as goal
-
-pub returns-clause-header : goal.returns-clause-header
-returns-clause-header c =
-    log_header-written c.args.page_size c.args.salt c.args.into.now c.write_u32_into.new.dst c.checksum-sums.result c.write_u32_into-2.new.dst
-    (omega arith) (omega arith) c.write_u32_into.ensures c.checksum-sums.ensures c.write_u32_into-2.ensures

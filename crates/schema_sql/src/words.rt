@@ -1,8 +1,7 @@
 // Words, names and numbers of a text, by its tokens.
-ghost use Rattle.std.specs.Prelude.{◌≡◌, ◌∷◌, ◌≤◌, ◌%◌, ◌==◌, ◌&&◌, Bool, false, IfOk, length, map, slice_index, slice_range};
-ghost use Rattle.schema_spec.specs.declared.token.TokenKind.TheVariants.{Quoted};
+ghost use Rattle.std.specs.Prelude.{◌≡◌, ◌∷◌, ◌≤◌, IfOk, length, map, slice_index, slice_range};
 ghost use Rattle.std.specs.Char.{is_ascii_digit};
-ghost use Rattle.schema_spec.specs.Words.{spelling, inner, same_name, is_one_of, is_word_of, is_keyword, is_sign, is_name, is_type_word, reserved_words, constraint_words, name_of, undoubled, behind_digits, are_digits, is_power, ends_number, is_fraction, is_number, is_number_token, is_hex, is_sql, is_literal, is_blob};
+ghost use Rattle.schema_spec.specs.Words.{spelling, inner, same_name, is_one_of, is_word_of, is_keyword, is_sign, is_name, is_type_word, reserved_words, constraint_words, name_of, undoubled, behind_digits, are_digits, is_power, ends_number, is_fraction, is_number, is_number_token, is_hex, is_sql, is_literal, is_blob, is_hex_content};
 ghost use Rattle.std.specs.Char.{is_ascii_hexdigit};
 ghost use Rattle.std.specs.List.{list_all};
 
@@ -373,7 +372,7 @@ pub(crate) fn is_blob(text: &[u8], x: Token, content: Token) -> bool
 
 // Between the token's quotes stands an even number of hexadecimal digits.
 fn is_hex_content(text: &[u8], content: Token) -> bool
-    ensures { result ≡ (elim content.kind as (λ _. Bool) [ Quoted ↦ list_all is_ascii_hexdigit (inner text.now content) && (length (inner text.now content) % 2 == 0) | _ ↦ false ]) }
+    ensures { result ≡ is_hex_content text.now content }
 {
     match content.kind {
         TokenKind::Quoted => {

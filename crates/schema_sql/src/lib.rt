@@ -4,9 +4,11 @@
 #![tactic(auto)]
 
 mod brackets;
+mod clauses;
 mod columns;
 mod fronts;
 mod tokenizer;
+mod types;
 mod words;
 
 pub use schema_spec::{Token, TokenKind};

@@ -1,7 +1,7 @@
 // Words, names and numbers of a text, by its tokens.
 ghost use Rattle.std.specs.Prelude.{◌≡◌, ◌∷◌, ◌≤◌, IfOk, length, map, slice_index, slice_range};
 ghost use Rattle.std.specs.Char.{is_ascii_digit};
-ghost use Rattle.schema_spec.specs.Words.{spelling, inner, same_name, is_one_of, is_word_of, is_keyword, is_sign, is_name, reserved_words, name_of, undoubled, behind_digits, are_digits, is_power, ends_number, is_fraction, is_number, is_number_token, is_hex, is_sql};
+ghost use Rattle.schema_spec.specs.Words.{spelling, inner, same_name, is_one_of, is_word_of, is_keyword, is_sign, is_name, is_type_word, reserved_words, constraint_words, name_of, undoubled, behind_digits, are_digits, is_power, ends_number, is_fraction, is_number, is_number_token, is_hex, is_sql, is_literal, is_blob, is_hex_content};
 ghost use Rattle.std.specs.Char.{is_ascii_hexdigit};
 ghost use Rattle.std.specs.List.{list_all};
 
@@ -140,6 +140,38 @@ pub(crate) fn is_keyword(word: &[u8], text: &[u8], token: Token) -> bool
     ensures { result ≡ is_keyword word.now text.now token }
 {
     is_word_of(&[word], text, token)
+}
+
+// Words with which a constraint of a column begins, in the profile or outside of it.
+const CONSTRAINT_WORDS: [&[u8]; 11] = [
+    b"CONSTRAINT",
+    b"PRIMARY",
+    b"NOT",
+    b"NULL",
+    b"UNIQUE",
+    b"COLLATE",
+    b"DEFAULT",
+    b"CHECK",
+    b"REFERENCES",
+    b"GENERATED",
+    b"AS",
+];
+
+// A constraint of a column begins with the word.
+fn begins_constraint(text: &[u8]) -> bool
+    ensures { result ≡ is_one_of constraint_words text.now }
+{
+    is_one_of(&CONSTRAINT_WORDS, text)
+}
+
+// The token is a word of a type.
+pub(crate) fn is_type_word(text: &[u8], token: Token) -> bool
+    ensures { result ≡ is_type_word text.now token }
+{
+    match token.kind {
+        TokenKind::Word => !begins_constraint(spelling(text, token)),
+        _ => false,
+    }
 }
 
 // The text is a word that is no name.
@@ -318,5 +350,35 @@ pub(crate) fn is_sql(text: &[u8], token: Token) -> bool
         TokenKind::Unclosed => false,
         TokenKind::Number => is_number(spelling(text, token)),
         _ => true,
+    }
+}
+
+// The token is a literal or a word, as DEFAULT takes it.
+pub(crate) fn is_literal(text: &[u8], token: Token) -> bool
+    ensures { result ≡ is_literal text.now token }
+{
+    is_number_token(text, token) || is_keyword(b"NULL", text, token) || is_name(text, token)
+}
+
+// The token is X, and behind it stands an even number of hexadecimal digits in single quotes.
+pub(crate) fn is_blob(text: &[u8], x: Token, content: Token) -> bool
+    ensures { result ≡ is_blob text.now x content }
+{
+    is_keyword(b"X", text, x)
+        && content.start == x.end
+        && byte_at(text, content.start) == b'\''
+        && is_hex_content(text, content)
+}
+
+// Between the token's quotes stands an even number of hexadecimal digits.
+fn is_hex_content(text: &[u8], content: Token) -> bool
+    ensures { result ≡ is_hex_content text.now content }
+{
+    match content.kind {
+        TokenKind::Quoted => {
+            let digits = inner(text, content);
+            are_hex_digits(digits) && digits.len() % 2 == 0
+        }
+        _ => false,
     }
 }

@@ -3,7 +3,7 @@ use Rattle.std.proofs.lemmas.Bool.{cases_lt}
 use Rattle.std.proofs.lemmas.List.{take_all, get_or_default}
 use Rattle.format_spec.specs.Cell.{IsCell}
 use Rattle.page_spec.specs.Rooms.{IsOneCell}
-use Rattle.page_layout.proofs.tests.are_cells.Goals as goal
+use Rattle.page_tests.proofs.layouts.are_cells.Goals as goal
 
 pub loop-cell-preserved : goal.loop-cell-preserved
 loop-cell-preserved c k d low =

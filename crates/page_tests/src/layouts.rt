@@ -4,10 +4,10 @@ ghost use Rattle.std.specs.List.{All};
 ghost use Rattle.page_spec.specs.Rooms.{IsOneCell};
 ghost use Rattle.format_spec.specs.Sizes.{IsUsable};
 
-use super::{
+use cell_codec::{PageKind, push_varint, read_cell};
+use page_layout::{
     NoRoom, PageFault, cells, insert_cell, page_kind, place_of, rebuild, remove_cell, right_child,
 };
-use cell_codec::{PageKind, push_varint, read_cell};
 use rbu_value::Bytes;
 use refusal::Rule;
 use std::alloc::{AllocError, Global};

@@ -7,7 +7,7 @@ use Rattle.std.proofs.lemmas.Bool.{cases_Bool}
 use Rattle.std.proofs.lemmas.List.{map-append}
 use Rattle.file_spec.specs.declared.FileName.{FileName}
 use Rattle.file_spec.specs.Files.{Files, after_rename, is_name, moved, with_file}
-use Rattle.disk_memory.specs.Disk.{Entry, files_at, first_entries}
+use Rattle.disk_memory.specs.Volume.{Entry, files_at, first_entries}
 
 -- the first of two values that is there
 abbrev pub first_of : Option (List ℕ) → Option (List ℕ) → Option (List ℕ)

@@ -1,3 +1,9 @@
 pub mod Calls
+pub mod Volume
+pub mod VolumeLaws
 pub mod Disk
+pub mod Crash
+pub mod CrashLaws
+pub mod Fused
+pub mod Replay
 pub mod Sink

@@ -1,5 +1,5 @@
 // The bytes of one file, and the work on them.
-ghost use Rattle.std.specs.Prelude.{◌≡◌, ◌+◌, ◌-◌, ◌≤◌, ◌<◌, ◌^◌, ◌++◌, [], length, take, drop, replicate, IsErr, OnOk, OnErr, Some, unwrap_or};
+ghost use Rattle.std.specs.Prelude.{◌≡◌, ◌+◌, ◌-◌, ◌≤◌, ◌^◌, ◌++◌, [], length, take, drop, replicate, IfOk, OnOk, OnErr};
 ghost use Rattle.byte_fields.specs.Bytes.{overwritten, part_of, resized};
 
 use std::alloc::{AllocError, Global};
@@ -36,6 +36,15 @@ impl File {
         File { bytes }
     }
 
+    /// A file with a copy of the bytes.
+    pub fn copied(alloc: Global, bytes: &[u8]) -> Result<File, AllocError>
+        ensures { IfOk result (λ file. file ≡ bytes.now) }
+    {
+        Ok(File {
+            bytes: Vec::from_slice(alloc, bytes)?,
+        })
+    }
+
     /// The bytes, lent.
     pub fn as_slice(&self) -> &[u8]
         ensures { result.now ≡ self.now }
@@ -43,11 +52,10 @@ impl File {
         self.bytes.as_slice()
     }
 
-    /// Sets the length; new bytes are zeros. Takes memory only for these.
+    /// Sets the length; new bytes are zeros.
     pub fn resize(&mut self, n: usize) -> Result<(), AllocError>
         ensures done { OnOk result (self.new ≡ resized self.old n) }
         ensures failed { OnErr result (self.new ≡ self.old) }
-        ensures grows { IsErr result → length self.old < n }
     {
         if n <= self.bytes.len() {
             self.bytes.truncate(n);
@@ -56,12 +64,11 @@ impl File {
         self.bytes.resize(n, 0)
     }
 
-    /// Writes at a place; zeros lie between an earlier end and the place. Takes memory only for a new end.
+    /// Writes at a place; zeros lie between an earlier end and the place.
     pub fn overwrite(&mut self, at: usize, bytes: &[u8]) -> Result<(), AllocError>
         requires { at + length bytes.now ≤ 2 ^ 62 }
         ensures done { OnOk result (self.new ≡ overwritten self.old at bytes.now) }
         ensures failed { OnErr result (self.new ≡ self.old) }
-        ensures grows { IsErr result → length self.old < at + length bytes.now }
     {
         grow(&mut self.bytes, at + bytes.len())?;
         put_at(&mut self.bytes, at, bytes);
@@ -73,7 +80,6 @@ impl File {
 fn grow(text: &mut Vec<u8>, end: usize) -> Result<(), AllocError>
     ensures done { OnOk result (text.new.items ≡ text.old.items ++ replicate (end - length text.old.items) 0) }
     ensures failed { OnErr result (text.new.items ≡ text.old.items) }
-    ensures grows { IsErr result → length text.old.items < end }
 {
     if text.len() < end {
         text.resize(end, 0)?;
@@ -101,53 +107,4 @@ pub fn copy_part(bytes: &[u8], at: u64, into: &mut [u8]) -> usize
     let n = rest.len().min(into.len());
     into[..n].copy_from_slice(&rest[..n]);
     n
-}
-
-/// Writes at a place of a file; a missing file is made first.
-pub fn write_slot(
-    slot: &mut Option<File>,
-    alloc: Global,
-    at: usize,
-    bytes: &[u8],
-) -> Result<(), AllocError>
-    requires { at + length bytes.now ≤ 2 ^ 62 }
-    ensures done { OnOk result (slot.new ≡ Some (overwritten (unwrap_or slot.old []) at bytes.now)) }
-    ensures failed { OnErr result (slot.new ≡ slot.old) }
-    ensures grows { IsErr result → length (unwrap_or slot.old []) < at + length bytes.now }
-{
-    match slot {
-        Some(file) => file.overwrite(at, bytes),
-        None => {
-            let mut file = File::new(alloc);
-            file.overwrite(at, bytes)?;
-            *slot = Some(file);
-            Ok(())
-        }
-    }
-}
-
-/// Sets the length of a file; a missing file is made first.
-pub fn resize_slot(slot: &mut Option<File>, alloc: Global, n: usize) -> Result<(), AllocError>
-    ensures done { OnOk result (slot.new ≡ Some (resized (unwrap_or slot.old []) n)) }
-    ensures failed { OnErr result (slot.new ≡ slot.old) }
-    ensures grows { IsErr result → length (unwrap_or slot.old []) < n }
-{
-    match slot {
-        Some(file) => file.resize(n),
-        None => {
-            let mut file = File::new(alloc);
-            file.resize(n)?;
-            *slot = Some(file);
-            Ok(())
-        }
-    }
-}
-
-/// Makes a file with no bytes where there is none. Takes no memory.
-pub fn create_slot(slot: &mut Option<File>, alloc: Global)
-    ensures { slot.new ≡ Some (unwrap_or slot.old []) }
-{
-    if slot.is_none() {
-        *slot = Some(File::new(alloc));
-    }
 }

@@ -11,6 +11,3 @@ mod steps;
 pub use laws::each_reader_has_its_own_read;
 pub use locks::{Bar, Holders, Locks, OpenRead, SLOTS};
 pub use steps::LockSteps;
-
-#[cfg(test)]
-mod tests;

@@ -16,6 +16,3 @@ pub use change::{insert_cell, remove_cell};
 pub use places::{place_of, right_child};
 pub use reading::{PageFault, cells, page_kind};
 pub use rebuilding::{NoRoom, rebuild};
-
-#[cfg(test)]
-mod tests;

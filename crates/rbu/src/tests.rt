@@ -2,7 +2,7 @@
 use crate::example::{empty_disk, example_disk};
 use crate::output::Output;
 use crate::program::program;
-use disk_memory::{MemoryDisk, MemorySink};
+use disk_memory::{FusedDisk, MemoryDisk, MemorySink};
 use rbu_disk::{Disk, DiskFault, FileName};
 use rbu_run::{Ran, run_command};
 use sha2::{Digest, Sha256};
@@ -397,6 +397,86 @@ fn each_failing_call_is_named_and_leaves_files_for_a_second_update(
     }
     let left = run_with_faults(rt.alloc(), UPDATE, &before, &[number], &[])?;
     ensure(left.status == 0, "a call more")
+}
+
+// What a crash leaves of an update that was stopped after so many calls, by the number of calls from 0 and a letter for
+// each choice from 0 to 8: `o` the old target alone, `h` beside the hidden log, `w` the whole write-ahead log, and `n` the
+// new target alone. A log that was made and has its other name is two changes of names, of which a choice keeps none, one
+// or both until the folder is synced.
+const CRASHES: &str =
+    "ooooooooo|ooooooooo|ooooooooo|ooooooooo|ooooooooo|ooooooooo|ooooooooo|ooooooooo|ooooooooo|\
+    ooooooooo|ooooooooo|ohohohoho|ohohohoho|ohohohoho|ohohohoho|ohohohoho|ohohohoho|ohohohoho|\
+    ohwohwohw|wwwwwwwww|wwwwwwwww|wwwwwwwww|wwwwwwwww|wnwnwnwnw|nnnnnnnnn";
+
+// The disk of an update that was stopped after so many calls.
+fn stopped_after(alloc: Global, before: &MemoryDisk, calls: u64) -> Result<MemoryDisk, AllocError> {
+    let mut words = Vec::new(alloc);
+    words.push(String::from_str(alloc, "apply")?)?;
+    words.push(String::from_str(alloc, "4294967295")?)?;
+    let disk = FusedDisk::new(copy_of(alloc, before, &[])?, calls);
+    let mut out = MemorySink::new(alloc, Vec::new(alloc));
+    let Ran { disk, .. } = run_command(alloc, &words, [1, 2], disk, &mut out);
+    Ok(disk.into_inner())
+}
+
+// Which of the four a disk has, if it has one.
+fn letter_of(alloc: Global, disk: &MemoryDisk) -> Result<u8, AllocError> {
+    let hidden = disk.contents(FileName::Oal).is_some();
+    if disk.contents(FileName::Wal).is_some() {
+        let whole = has_sum(alloc, disk, FileName::Wal, LOG)? && !hidden;
+        return Ok(if whole { b'w' } else { b'?' });
+    }
+    if has_sum(alloc, disk, FileName::Target, TARGET_BEFORE)? {
+        return Ok(if hidden { b'h' } else { b'o' });
+    }
+    let new = has_sum(alloc, disk, FileName::Target, TARGET_AFTER)? && !hidden;
+    Ok(if new { b'n' } else { b'?' })
+}
+
+// What an update says of a disk with this letter.
+fn line_of(letter: u8) -> &'static str {
+    match letter {
+        b'o' => CLEAN,
+        b'n' => INSERTED,
+        _ => LEFT_OVER,
+    }
+}
+
+// A crash by this choice leaves this, and a second update says so.
+fn leaves(alloc: Global, stopped: &MemoryDisk, choice: u64, letter: u8) -> Result<(), Fail> {
+    let left = stopped.crash(alloc, choice)?;
+    ensure(letter_of(alloc, &left)? == letter, "what a crash leaves")?;
+    let again = run_with_faults(alloc, UPDATE, &left, &[], &[])?;
+    ensure(
+        again.output.as_slice() == line_of(letter).as_bytes(),
+        "the update after a crash",
+    )
+}
+
+fn leaves_each(
+    alloc: Global,
+    before: &MemoryDisk,
+    calls: u64,
+    letters: &'static str,
+) -> Result<(), Fail> {
+    let stopped = stopped_after(alloc, before, calls)?;
+    let mut choice: u64 = 0;
+    for letter in letters.bytes() {
+        leaves(alloc, &stopped, choice, letter)?;
+        choice = choice.saturating_add(1);
+    }
+    Ok(())
+}
+
+#[test]
+fn crash_of_a_stopped_update_leaves_the_old_rows_or_the_new(rt: HostRuntime) -> Result<(), Fail> {
+    let before = example_disk(rt.alloc())?;
+    let mut calls: u64 = 0;
+    for letters in CRASHES.split('|') {
+        leaves_each(rt.alloc(), &before, calls, letters)?;
+        calls = calls.saturating_add(1);
+    }
+    Ok(())
 }
 
 // The command's status is 8, it wrote nothing, and it left the files that it leaves where the output takes all.

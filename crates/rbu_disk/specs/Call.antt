@@ -1,6 +1,7 @@
 -- What every call on a device owes, said of the device's own members.
-use Rattle.std.specs.Prelude.{◌≡◌, ◌++◌, ℕ, List, Option, Some, Result, IfErr}
+use Rattle.std.specs.Prelude.{◌≡◌, ◌++◌, ℕ, List, Option, Some, Result, IfErr, MatchResult}
 use Rattle.common_spec.specs.Counts.{Rises, CountsFaults}
+use Rattle.common_spec.specs.Told.{Leads}
 use Rattle.file_spec.specs.declared.FileName.{FileName}
 use Rattle.file_spec.specs.declared.DiskCall.{DiskCall}
 use Rattle.rbu_disk.specs.declared.disk.DiskFault.{DiskFault}
@@ -20,6 +21,10 @@ pub record Fails (before now : Failures) (fault : DiskFault) : Type 0 where
 pub record HasCause {T : Type 0} (before now : Failures) (name : FileName) (call : DiskCall) (result : Result T DiskFault) : Type 0 where
   pub counts : CountsFaults (λ (failures : Failures). failures.count) Fails before now result
   pub names : IfErr result (λ fault. fault ≡ record { file = name; call = call })
+
+-- the call led by the first relation where it ended well, and by the second where it failed
+abbrev pub LeadsBy : {S T E : Type 0} → Result T E → (S → S → Type 0) → (S → S → Type 0) → Option S → Option S → Type 0
+LeadsBy result Done Failed before after = MatchResult result (λ _. Leads Done before after) (λ _. Leads Failed before after)
 
 -- the faults of an output are counted
 abbrev pub CountsSinkFaults : {T : Type 0} → ℕ → ℕ → Result T SinkFault → Type 0

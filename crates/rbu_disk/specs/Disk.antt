@@ -1,11 +1,13 @@
 -- What a function over a disk says of it. Each word takes the disk's members, as `D.Disk`, and the disk before and after.
-use Rattle.std.specs.Prelude.{◌≡◌, Option, Some, None, Result}
-use Rattle.common_spec.specs.Counts.{CountsFaults}
-use Rattle.common_spec.specs.Told.{Leads, Finds}
+use Rattle.std.specs.Prelude.{◌≡◌, ◌≤◌, Option, Some, None, Result, IfOk, IfErr, IfSome, OnOk}
+use Rattle.common_spec.specs.Told.{Leads}
 use Rattle.file_spec.specs.Files.{Files}
+use Rattle.file_spec.specs.Records.{Record}
+use Rattle.file_spec.specs.Trails.{Passes}
 use Rattle.rbu_disk.specs.declared.disk.Disk.{Ghosts}
 use Rattle.rbu_disk.specs.declared.disk.DiskFault.{DiskFault}
 use Rattle.rbu_disk.specs.Call.{Failures, Fails}
+use Rattle.rbu_disk.specs.Uses.{AllowsEvery}
 
 -- the cause of an error: where it is a fault of the disk, that of the last call that failed; else no call failed
 abbrev pub IsCause : Option DiskFault → Failures → Failures → Type 0
@@ -13,18 +15,31 @@ IsCause (Some fault) before now = Fails before now fault
 IsCause None before now = now ≡ before
 
 module _ {D : Type 0} (g : Ghosts D) where
+  -- the disk allows every call
+  abbrev pub AllowsAll : D → Type 0
+  AllowsAll disk = AllowsEvery (g.test disk)
+
   -- the files went by R, where the disk tells them
   abbrev pub Goes : D → D → (Files → Files → Type 0) → Type 0
   Goes before after R = Leads R (g.shown before) (g.shown after)
 
-  -- the files stay, and what is answered holds of them, where the disk tells them
-  abbrev pub Looks : {T E : Type 0} → D → D → Result T E → (T → Files → Type 0) → Type 0
-  Looks before after result Is = Finds (g.shown before) (g.shown after) result Is
+  -- what holds of the record of a moment goes on holding: where it holds now, it holds of each moment that comes
+  abbrev pub Keeps : D → D → (Record → Type 0) → Type 0
+  Keeps before after Q = Leads (λ a b. Q a.now.at → Passes Q a b) (g.trail before) (g.trail after)
 
-  -- the calls on the disk that failed are counted, and an error has its cause: `fault_in` is the fault of the disk that it has, if any
-  abbrev pub OwesBy : {T E : Type 0} → (E → Option DiskFault) → D → D → Result T E → Type 0
-  OwesBy fault_in before after result =
-      CountsFaults (λ (failures : Failures). failures.count) (λ f h error. IsCause (fault_in error) f h) (g.failures before) (g.failures after) result
+  -- the disk stays, but for its count of faults, and what is answered holds of the files, where the disk tells them
+  pub record Looks {T E : Type 0} (before after : D) (result : Result T E) (Is : T → Files → Type 0) : Type 0 where
+    pub same : g.shown after ≡ g.shown before
+    pub answer : IfOk result (λ x. IfSome (g.shown before) (Is x))
+    pub moments : g.trail after ≡ g.trail before
+    pub test : g.test after ≡ g.test before
+
+  -- The calls on the disk that failed are counted, and an error has its cause: `fault_in` is the fault of the disk that it has, if any. A disk that allows every call goes on doing so.
+  pub record OwesBy {T E : Type 0} (fault_in : E → Option DiskFault) (before after : D) (result : Result T E) : Type 0 where
+    pub later : (g.failures before).count ≤ (g.failures after).count
+    pub still : OnOk result (g.failures after ≡ g.failures before)
+    pub cause : IfErr result (λ error. IsCause (fault_in error) (g.failures before) (g.failures after))
+    pub allows : AllowsAll before → AllowsAll after
 
   -- the same where each error is a fault of the disk
   abbrev pub Owes : {T : Type 0} → D → D → Result T DiskFault → Type 0

@@ -1,7 +1,11 @@
 pub mod Call
+pub mod Uses
 pub mod Disk
 pub mod Sink
 pub use Rattle.common_spec.specs.Told
 pub use Rattle.common_spec.specs.Counts
 pub use Rattle.file_spec.specs.Files
 pub use Rattle.file_spec.specs.Faults
+pub use Rattle.file_spec.specs.Records
+pub use Rattle.file_spec.specs.Trails
+pub use Rattle.file_spec.specs.Steps

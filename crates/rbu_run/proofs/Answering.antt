@@ -32,7 +32,7 @@ pub record Settled (salt : ℕ × ℕ) (words : List (List ℕ)) (before after :
 abbrev pub IsTellable : Answer → Answer → Type 0
 IsTellable answer told = (told ≡ answer) ⊎ ((told ≡ NoMemory) × ((table : List ℕ) × (data_rowid : ℤ) × (answer ≡ Ended (KeyPresent table data_rowid))))
 
-not_asked : (words : List (List ℕ)) → IsUsage words → ¬ AsksUpdate words
+pub not_asked : (words : List (List ℕ)) → IsUsage words → ¬ AsksUpdate words
 not_asked words usage asks = usage (Apply 4294967295) asks
 
 no_memory : (salt : ℕ × ℕ) (words : List (List ℕ)) (a b : Option Files) (table : List ℕ) (id : ℤ) → Settled salt words a b (Ended (KeyPresent table id)) → Settled salt words a b NoMemory

@@ -31,7 +31,7 @@ elsewhere changed name e f bytes = ap (λ there. if there then bytes else f name
 
 module _ (salt : ℕ × ℕ) where
   -- a reader sees the pages where they are in the write-ahead log, whatever the target holds
-  view-logged : (g : Files) (pages : List ℕ) → AreWords salt → length pages ≡ 8192 → g Wal ≡ Some (log_of salt pages) → IsView g (pages_of 4096 2 pages)
+  pub view-logged : (g : Files) (pages : List ℕ) → AreWords salt → length pages ≡ 8192 → g Wal ≡ Some (log_of salt pages) → IsView g (pages_of 4096 2 pages)
   view-logged g pages words long wal =
       let first : length (take 4096 pages) ≡ 4096 = omega (arith, length-take 4096 pages) in
       let second : length (drop 4096 pages) ≡ 4096 = omega (arith, length-drop 4096 pages) in

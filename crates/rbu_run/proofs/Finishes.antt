@@ -1,5 +1,5 @@
 -- What a decision on small files leaves of them.
-use Rattle.std.proofs.Common.{◌≡◌, ◌≤◌, ℕ, ℤ, List, Vec, Global, Result, Ok, Err, IsErrAnd, Some, refl, sym, ap, ◌∙◌, subst, inl, inr, false}
+use Rattle.std.proofs.Common.{◌≡◌, ◌≤◌, ℕ, ℤ, List, Vec, Global, Result, Ok, Err, IsErrAnd, IfErr, Some, refl, sym, ap, ◌∙◌, subst, inl, inr, false}
 use Rattle.file_spec.specs.declared.FileName.{FileName}
 use Rattle.file_spec.specs.declared.FileName.TheVariants.{Target, Oal, Wal, Journal, Rbu, State, StateTemp}
 use Rattle.file_spec.specs.Files.{Files, content, is_name, with_file}
@@ -7,6 +7,8 @@ use Rattle.format_spec.specs.Log.{AreWords}
 use Rattle.refusal.specs.declared.Part.TheVariants as part
 use Rattle.refusal.specs.declared.Refusal.TheVariants.{NotYet}
 use Rattle.rbu_disk.specs.declared.disk.DiskFault.{DiskFault}
+use Rattle.rbu_disk.specs.Call.{Failures}
+use Rattle.rbu_disk.specs.Disk.{IsCause}
 use Rattle.update_spec.specs.declared.Outcome.{Outcome}
 use Rattle.update_spec.specs.declared.Outcome.TheVariants.{Done, KeyPresent, Refused}
 use Rattle.update_spec.specs.Update.{IsLook}
@@ -20,6 +22,7 @@ use Rattle.small_update.specs.Decision.{Decides}
 use Rattle.small_update.specs.declared.Decision.TheVariants as decision
 use Rattle.rbu_run.specs.declared.halt.Halt.{Halt}
 use Rattle.rbu_run.specs.declared.halt.Halt.TheVariants.{Fault, Memory}
+use Rattle.rbu_run.specs.Halt.{fault_in}
 use Rattle.rbu_run.specs.Handover.{IsAlone, HasPages, IsMidway}
 use Rattle.rbu_run.specs.Ending.{AfterHalt, Ends}
 use Rattle.rbu_run.specs.Inspection.{IsSmallWith}
@@ -30,6 +33,11 @@ use Rattle.rbu_run.proofs.Outcomes.{only_decided}
 pub memory-ends : (salt : ℕ × ℕ) (result : Result Outcome Halt) → IsErrAnd result (λ halt. halt ≡ Memory) → (f : Files) → Ends salt result f f
 memory-ends salt (Ok outcome) h f = absurd h
 memory-ends salt (Err halt) h f = subst (λ (x : Halt). AfterHalt salt x f f) (sym h) refl
+
+-- and has no fault of the disk as its cause
+pub memory-cause : (result : Result Outcome Halt) → IsErrAnd result (λ halt. halt ≡ Memory) → (failures : Failures) → IfErr result (λ error. IsCause (fault_in error) failures failures)
+memory-cause (Ok outcome) h failures = tt
+memory-cause (Err halt) h failures = subst (λ (x : Halt). IsCause (fault_in x) failures failures) (sym h) refl
 
 module _ (salt : ℕ × ℕ) (target : List ℕ) (old : List TargetRow) (prepared : List PreparedRow) where
   pub shared-ends : Decides old prepared decision.SharedKey → (f : Files) → IsSmallWith target old prepared f → Ends salt (Ok (Refused (NotYet part.Rows))) f f
@@ -49,7 +57,7 @@ module _ (salt : ℕ × ℕ) (target : List ℕ) (old : List TargetRow) (prepare
     only_decided f target old prepared known (decision.KeyPresent table id) decides,
   )
 
-  alone : (f : Files) → IsSmallWith target old prepared f → IsAlone f
+  pub alone : (f : Files) → IsSmallWith target old prepared f → IsAlone f
   alone f known = record {
     no_oal = none-there (f Oal) (λ there. known.small.alone (inr (inr (inr (inl there)))));
     no_wal = none-there (f Wal) (λ there. known.small.alone (inr (inr (inl there))));
@@ -58,7 +66,7 @@ module _ (salt : ℕ × ℕ) (target : List ℕ) (old : List TargetRow) (prepare
 
   module _ (law : UpdateLeavesSmallTarget) (rows : Vec TargetRow Global) (decides : Decides old prepared (decision.Merged rows)) where
     -- the new database's bytes
-    new_bytes : (f : Files) → IsSmallWith target old prepared f → AreNewBytes f (new_pages target rows.items)
+    pub new_bytes : (f : Files) → IsSmallWith target old prepared f → AreNewBytes f (new_pages target rows.items)
     new_bytes f known = record {
       rows = rows.items;
       new_rows = record { old = old; prepared = prepared; can_insert = can_insert f known decides.0 decides.1; none_present = decides.2; merged = decides.3 };

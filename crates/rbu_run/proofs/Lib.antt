@@ -1,11 +1,17 @@
 mod Answering
 mod Copies
+mod CrashAnswers
 mod Endings
 mod FileReads
 mod Finishes
+mod Handings
 mod Handovers
 mod Inspections
 mod LogWrites
+mod Moments
 mod Numerals
 mod Outcomes
 mod Parts
+mod PhaseCalls
+mod PhaseSteps
+mod Survivals

@@ -7,7 +7,7 @@ use Rattle.std.proofs.lemmas.List.Elements.{at_from_Contains}
 use Rattle.file_spec.specs.declared.FileName.TheVariants.{Target, Rbu}
 use Rattle.file_spec.specs.Files.{Files, content}
 use Rattle.refusal.specs.declared.Part.TheVariants as part
-use Rattle.refusal.specs.declared.Refusal.TheVariants.{NotYet, BadPage, ChainBroken, TrunkDamaged, TargetFull}
+use Rattle.refusal.specs.declared.Refusal.TheVariants.{NotYet, BadPage, ChainBroken, TrunkDamaged, TargetFull, LogHeader, LogFrame}
 use Rattle.update_spec.specs.declared.Outcome.{Outcome}
 use Rattle.update_spec.specs.declared.Outcome.TheVariants.{Done, KeyPresent, Refused}
 use Rattle.small_spec.specs.declared.TargetRow.{TargetRow}
@@ -33,6 +33,8 @@ only_files f other (Refused (BadPage rule)) h = absurd h
 only_files f other (Refused (ChainBroken page)) h = absurd h
 only_files f other (Refused (TrunkDamaged page)) h = absurd h
 only_files f other (Refused (TargetFull pages limit)) h = absurd h
+only_files f other (Refused LogHeader) h = absurd h
+only_files f other (Refused (LogFrame number)) h = absurd h
 
 pub only_target : (f : Files) → (¬ HasOtherFile f) → ((old : List TargetRow) → ¬ IsSmallTarget (content f Target) old) → HasOnly f (Refused (NotYet part.Target))
 only_target f alone none Done (old, prepared, can, absent) = absurd (none old can.small.target)
@@ -47,6 +49,8 @@ only_target f alone none (Refused (BadPage rule)) h = absurd h
 only_target f alone none (Refused (ChainBroken page)) h = absurd h
 only_target f alone none (Refused (TrunkDamaged page)) h = absurd h
 only_target f alone none (Refused (TargetFull pages limit)) h = absurd h
+only_target f alone none (Refused LogHeader) h = absurd h
+only_target f alone none (Refused (LogFrame number)) h = absurd h
 
 pub only_rbu : (f : Files) → (¬ HasOtherFile f) → (old : List TargetRow) → IsSmallTarget (content f Target) old →
     ((prepared : List PreparedRow) → ¬ IsSmallRbu (content f Rbu) prepared) → HasOnly f (Refused (NotYet part.Rbu))
@@ -62,6 +66,8 @@ only_rbu f alone rows small none (Refused (BadPage rule)) h = absurd h
 only_rbu f alone rows small none (Refused (ChainBroken page)) h = absurd h
 only_rbu f alone rows small none (Refused (TrunkDamaged page)) h = absurd h
 only_rbu f alone rows small none (Refused (TargetFull pages limit)) h = absurd h
+only_rbu f alone rows small none (Refused LogHeader) h = absurd h
+only_rbu f alone rows small none (Refused (LogFrame number)) h = absurd h
 
 -- two places with one key are one place
 one_place : (prepared : List PreparedRow) → HasDistinctKeys prepared → (r s : PreparedRow) → Contains prepared r → Contains prepared s → r.key ≡ s.key → r.data_rowid ≡ s.data_rowid
@@ -149,3 +155,5 @@ only_decided f target old prepared known d decides (Refused (BadPage rule)) h = 
 only_decided f target old prepared known d decides (Refused (ChainBroken page)) h = absurd h
 only_decided f target old prepared known d decides (Refused (TrunkDamaged page)) h = absurd h
 only_decided f target old prepared known d decides (Refused (TargetFull pages limit)) h = absurd h
+only_decided f target old prepared known d decides (Refused LogHeader) h = absurd h
+only_decided f target old prepared known d decides (Refused (LogFrame number)) h = absurd h

@@ -2,6 +2,8 @@ pub mod Halt
 pub mod Inspection
 pub mod Handover
 pub mod Ending
+pub mod Phases
+pub mod Crash
 pub mod Line
 pub mod Status
 pub mod Told
@@ -16,3 +18,6 @@ pub use Rattle.update_spec.specs.Answer
 pub use Rattle.update_spec.specs.Words
 pub use Rattle.update_spec.specs.Text
 pub use Rattle.small_spec.specs.SmallUpdate
+pub use Rattle.update_spec.specs.Crashes
+pub use Rattle.file_spec.specs.Records
+pub use Rattle.file_spec.specs.Trails

@@ -27,6 +27,10 @@ use Rattle.rbu_run.specs.Told.{IsTold}
 abbrev pub IsStatus : ℕ → Type 0
 IsStatus status = (status ≤ 8) × (status ≢ 1) × (status ≢ 5)
 
+-- the update came to its outcome
+abbrev pub HasEnded : ℕ → Type 0
+HasEnded status = (status ≡ 0) ⊎ ((status ≡ 3) ⊎ (status ≡ 4))
+
 -- the transaction of all prepared rows has its constraint fault, and no file changed
 abbrev pub KeepsOnFault : Files → Files → Type 0
 KeepsOnFault before after = ((table : List ℕ) × (data_rowid : ℤ) × HasOutcome before (KeyPresent table data_rowid)) × (after ≡ before)

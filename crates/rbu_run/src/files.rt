@@ -2,7 +2,7 @@
 ghost use Rattle.std.specs.Prelude.{◌≡◌, ◌≢◌, ◌≤◌, ◌-◌, ◌↔◌, length, drop, replicate, IsTrue, IfOk, MatchOption};
 ghost use Rattle.byte_fields.specs.Bytes.{resized};
 ghost use Rattle.file_spec.specs.Files.{content};
-ghost use Rattle.rbu_disk.specs.Disk.{Looks, Owes, OwesBy};
+ghost use Rattle.rbu_disk.specs.Disk.{AllowsAll, Looks, Owes, OwesBy};
 ghost use Rattle.small_spec.specs.SmallUpdate.{HasOtherFile};
 ghost use Rattle.rbu_run.specs.Halt.{fault_in};
 
@@ -15,6 +15,7 @@ pub const SMALL: usize = 8192;
 
 /// Whether a file of a running update, or a rollback journal, exists.
 pub fn has_other_file<D: Disk>(disk: &mut D) -> Result<bool, DiskFault>
+    requires allowed { AllowsAll D.Disk disk.old }
     ensures files { Looks D.Disk disk.old disk.new result (λ there f. IsTrue there ↔ HasOtherFile f) }
     ensures calls { Owes D.Disk disk.old disk.new result }
 {
@@ -37,7 +38,8 @@ fn zeros(alloc: Global, n: usize) -> Result<Vec<u8>, AllocError>
 /// Fills a buffer of zeros with the first bytes of a file, and answers how many it gave. Those that it did not give,
 /// though its length promised them, stay zero.
 fn read_whole<D: Disk>(disk: &mut D, name: FileName, into: &mut [u8]) -> Result<usize, DiskFault>
-    requires { into.old ≡ replicate (length into.old) 0 }
+    requires allowed { AllowsAll D.Disk disk.old }
+    requires zeros { into.old ≡ replicate (length into.old) 0 }
     ensures files { Looks D.Disk disk.old disk.new result (λ _ f. into.new ≡ resized (content f name) (length into.old)) }
     ensures bound { IfOk result (λ n. n ≤ length into.old) }
     ensures missing { IfOk result (λ n. drop n into.new ≡ replicate (length into.old - n) 0) }
@@ -54,6 +56,7 @@ pub fn small_bytes<D: Disk>(
     disk: &mut D,
     name: FileName,
 ) -> Result<Option<Vec<u8>>, Halt>
+    requires allowed { AllowsAll D.Disk disk.old }
     ensures files { Looks D.Disk disk.old disk.new result (λ bytes f. MatchOption bytes (length (content f name) ≢ 8192) (λ v. v.items ≡ content f name)) }
     ensures calls { OwesBy D.Disk fault_in disk.old disk.new result }
 {

@@ -1,12 +1,16 @@
 // How the new pages reach the target: a whole log, its rename, and the copying of its pages.
-ghost use Rattle.std.specs.Prelude.{◌≡◌, ◌<◌, ◌^◌, ◌⊎◌, [], length, Some, None, OnOk, OnErr};
+ghost use Rattle.std.specs.Prelude.{◌≡◌, ◌<◌, ◌^◌, ◌⊎◌, ℕ, List, [], length, Some, None, OnOk, OnErr};
 ghost use Rattle.std.specs.List.{flat_map};
 ghost use Rattle.file_spec.specs.declared.FileName.TheVariants.{Target, Oal, Wal};
 ghost use Rattle.file_spec.specs.Files.{content, with_file, after_remove, after_rename, OnlyChanges};
-ghost use Rattle.rbu_disk.specs.Disk.{Goes, Owes};
+ghost use Rattle.file_spec.specs.Records.{shown_files};
+ghost use Rattle.rbu_disk.specs.Disk.{AllowsAll, Goes, Owes};
 ghost use Rattle.format_spec.specs.Log.{AreWords, pair_of};
 ghost use Rattle.rbu_run.specs.Halt.{FailsAtChange};
 ghost use Rattle.rbu_run.specs.Handover.{log_of, IsAlone, HasPages, IsMidway};
+ghost use Rattle.rbu_run.specs.Phases.{HasStable, KeepsBuilding, KeepsBetween, MovesLog, HasMovedLog, KeepsLogged};
+ghost use Rattle.rbu_run.specs.Crash.{GoesOn, HasNow, CrashesMidway};
+ghost use Rattle.update_spec.specs.Crashes.{HasShownNames, HasShownFile};
 
 use rbu_disk::{Disk, DiskFault, FileName};
 use wal_codec::{frame_bytes, header_bytes};
@@ -15,10 +19,12 @@ const PAGE_SIZE: usize = 4096;
 
 /// Writes the parts one after the other into the hidden log, which is empty.
 fn write_parts<D: Disk>(disk: &mut D, parts: &[&[u8]]) -> Result<(), DiskFault>
-    requires { length (flat_map (λ part. part.now) parts.now) < 2 ^ 64 }
+    requires allowed { AllowsAll D.Disk disk.old }
+    requires short { length (flat_map (λ part. part.now) parts.now) < 2 ^ 64 }
     ensures done { OnOk result (Goes D.Disk disk.old disk.new
         (λ f g. f Oal ≡ Some [] → g ≡ with_file f Oal (Some (flat_map (λ part. part.now) parts.now)))) }
     ensures only { Goes D.Disk disk.old disk.new (OnlyChanges Oal) }
+    ensures moments { GoesOn D.Disk disk.old disk.new KeepsBuilding }
     ensures fault { FailsAtChange result }
     ensures calls { Owes D.Disk disk.old disk.new result }
 {
@@ -32,10 +38,14 @@ fn write_parts<D: Disk>(disk: &mut D, parts: &[&[u8]]) -> Result<(), DiskFault>
 
 /// Writes the whole log of both pages to the hidden log, and makes it stable.
 fn write_log<D: Disk>(disk: &mut D, salt: [u32; 2], pages: &[u8]) -> Result<(), DiskFault>
-    requires { length pages.now ≡ 8192 }
+    requires allowed { AllowsAll D.Disk disk.old }
+    requires long { length pages.now ≡ 8192 }
     ensures done { OnOk result (Goes D.Disk disk.old disk.new
         (λ f g. f Oal ≡ None → g ≡ with_file f Oal (Some (log_of (pair_of salt) pages.now)))) }
     ensures only { Goes D.Disk disk.old disk.new (OnlyChanges Oal) }
+    ensures moments { GoesOn D.Disk disk.old disk.new KeepsBuilding }
+    ensures stable { OnOk result (GoesOn D.Disk disk.old disk.new
+        (λ a b. shown_files a.now.at Oal ≡ None → HasStable Oal (log_of (pair_of salt) pages.now) b.now.at)) }
     ensures words { AreWords (pair_of salt) }
     ensures fault { FailsAtChange result }
     ensures calls { Owes D.Disk disk.old disk.new result }
@@ -54,9 +64,13 @@ fn write_log<D: Disk>(disk: &mut D, salt: [u32; 2], pages: &[u8]) -> Result<(), 
 
 /// Copies both pages into the target, and makes it stable.
 fn copy_back<D: Disk>(disk: &mut D, pages: &[u8]) -> Result<(), DiskFault>
-    requires { length pages.now ≡ 8192 }
+    requires allowed { AllowsAll D.Disk disk.old }
+    requires long { length pages.now ≡ 8192 }
     ensures done { OnOk result (Goes D.Disk disk.old disk.new (λ f g. length (content f Target) ≡ 8192 → HasPages pages.now f g)) }
     ensures only { Goes D.Disk disk.old disk.new (OnlyChanges Target) }
+    ensures moments { GoesOn D.Disk disk.old disk.new KeepsLogged }
+    ensures stable { OnOk result (GoesOn D.Disk disk.old disk.new
+        (λ a b. length (content (shown_files a.now.at) Target) ≡ 8192 → HasStable Target pages.now b.now.at)) }
     ensures fault { FailsAtChange result }
     ensures calls { Owes D.Disk disk.old disk.new result }
 {
@@ -68,8 +82,11 @@ fn copy_back<D: Disk>(disk: &mut D, pages: &[u8]) -> Result<(), DiskFault>
 
 /// Renames the log to be the target's write-ahead log, which readers see from then on.
 fn move_log<D: Disk>(disk: &mut D) -> Result<(), DiskFault>
+    requires allowed { AllowsAll D.Disk disk.old }
     ensures done { OnOk result (Goes D.Disk disk.old disk.new (λ f g. g ≡ after_rename f Oal Wal)) }
     ensures failed { OnErr result (Goes D.Disk disk.old disk.new (λ f g. (g ≡ f) ⊎ (g ≡ after_rename f Oal Wal))) }
+    ensures moments { GoesOn D.Disk disk.old disk.new MovesLog }
+    ensures moved { OnOk result (GoesOn D.Disk disk.old disk.new HasMovedLog) }
     ensures fault { FailsAtChange result }
     ensures calls { Owes D.Disk disk.old disk.new result }
 {
@@ -79,8 +96,12 @@ fn move_log<D: Disk>(disk: &mut D) -> Result<(), DiskFault>
 
 /// Removes the write-ahead log, whose pages the target has.
 fn drop_log<D: Disk>(disk: &mut D) -> Result<(), DiskFault>
+    requires allowed { AllowsAll D.Disk disk.old }
     ensures done { OnOk result (Goes D.Disk disk.old disk.new (λ f g. g ≡ after_remove f Wal)) }
     ensures failed { OnErr result (Goes D.Disk disk.old disk.new (λ f g. (g ≡ f) ⊎ (g ≡ after_remove f Wal))) }
+    ensures moments { GoesOn D.Disk disk.old disk.new KeepsBetween }
+    ensures names { OnOk result (HasNow D.Disk disk.new HasShownNames) }
+    ensures target { OnOk result (GoesOn D.Disk disk.old disk.new (λ a b. (bytes : List ℕ) → HasStable Target bytes a.now.at → HasShownFile Target b.now.at)) }
     ensures fault { FailsAtChange result }
     ensures calls { Owes D.Disk disk.old disk.new result }
 {
@@ -91,9 +112,13 @@ fn drop_log<D: Disk>(disk: &mut D) -> Result<(), DiskFault>
 /// Brings the pages into the target. Where a call fails it stops midway, and a reader of the files sees the target as it
 /// was, or the pages.
 pub fn hand_over<D: Disk>(disk: &mut D, salt: [u32; 2], pages: &[u8]) -> Result<(), DiskFault>
-    requires { length pages.now ≡ 8192 }
+    requires allowed { AllowsAll D.Disk disk.old }
+    requires long { length pages.now ≡ 8192 }
     ensures done { OnOk result (Goes D.Disk disk.old disk.new (λ f g. IsAlone f → HasPages pages.now f g)) }
     ensures failed { OnErr result (Goes D.Disk disk.old disk.new (λ f g. IsAlone f → IsMidway (pair_of salt) pages.now f g)) }
+    ensures moments { GoesOn D.Disk disk.old disk.new (CrashesMidway (pair_of salt) pages.now) }
+    ensures names { OnOk result (HasNow D.Disk disk.new HasShownNames) }
+    ensures target { OnOk result (GoesOn D.Disk disk.old disk.new (λ a b. IsAlone (shown_files a.now.at) → HasShownFile Target b.now.at)) }
     ensures words { AreWords (pair_of salt) }
     ensures fault { FailsAtChange result }
     ensures calls { Owes D.Disk disk.old disk.new result }

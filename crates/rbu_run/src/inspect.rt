@@ -3,7 +3,7 @@ ghost use Rattle.std.specs.Prelude.{◌≡◌, ℕ, List, IfOk, IfSome, option_m
 ghost use Rattle.common_spec.specs.Reading.{Reads, OrNone};
 ghost use Rattle.file_spec.specs.declared.FileName.TheVariants.{Target, Rbu};
 ghost use Rattle.file_spec.specs.Files.{content};
-ghost use Rattle.rbu_disk.specs.Disk.{Looks, OwesBy};
+ghost use Rattle.rbu_disk.specs.Disk.{AllowsAll, Looks, OwesBy};
 ghost use Rattle.small_spec.specs.SmallFile.{IsSmallTarget, IsSmallRbu};
 ghost use Rattle.rbu_run.specs.Halt.{fault_in};
 ghost use Rattle.rbu_run.specs.Inspection.{IsInspected, HasSmallRows};
@@ -36,6 +36,7 @@ fn target_rows<D: Disk>(
     alloc: Global,
     disk: &mut D,
 ) -> Result<Option<(Vec<u8>, Vec<TargetRow>)>, Halt>
+    requires allowed { AllowsAll D.Disk disk.old }
     ensures files { Looks D.Disk disk.old disk.new result (λ found f.
         Reads (OrNone (IsSmallTarget (content f Target))) (option_map (λ pair. pair.1.items) found)
         × IfSome found (λ pair. pair.0.items ≡ content f Target)) }
@@ -53,6 +54,7 @@ fn target_rows<D: Disk>(
 
 /// The prepared rows, or `None` where the RBU database is not small.
 fn prepared_rows<D: Disk>(alloc: Global, disk: &mut D) -> Result<Option<Vec<PreparedRow>>, Halt>
+    requires allowed { AllowsAll D.Disk disk.old }
     ensures files { Looks D.Disk disk.old disk.new result (λ found f.
         Reads (OrNone (IsSmallRbu (content f Rbu))) (option_map (λ rows. rows.items) found)) }
     ensures rows { IfOk result (λ found. IfSome found (λ rows. (bytes : List ℕ) × IsSmallRbu bytes rows.items)) }
@@ -69,6 +71,7 @@ fn prepared_rows<D: Disk>(alloc: Global, disk: &mut D) -> Result<Option<Vec<Prep
 
 /// Looks at the files in the order in which their parts are refused, and reads the rows of small ones.
 pub fn inspect<D: Disk>(alloc: Global, disk: &mut D) -> Result<Inspected, Halt>
+    requires allowed { AllowsAll D.Disk disk.old }
     ensures files { Looks D.Disk disk.old disk.new result IsInspected }
     ensures rows { IfOk result HasSmallRows }
     ensures calls { OwesBy D.Disk fault_in disk.old disk.new result }

@@ -1,15 +1,18 @@
 // The commands, from the words in to the line out.
 ghost use Rattle.std.specs.Prelude.{◌≡◌, ◌≢◌, ◌⊎◌, ◌↔◌, map, string_bytes, IsTrue};
-ghost use Rattle.rbu_disk.specs.Disk.{Goes};
+ghost use Rattle.rbu_disk.specs.Disk.{AllowsAll, Goes};
 ghost use Rattle.format_spec.specs.Log.{pair_of};
 ghost use Rattle.update_spec.specs.declared.Command.TheVariants.{Apply};
 ghost use Rattle.update_spec.specs.declared.Answer.TheVariants.{Usage};
+ghost use Rattle.file_spec.specs.declared.FileName.TheVariants.{Target};
 ghost use Rattle.update_spec.specs.Update.{SeesOldOrNew};
+ghost use Rattle.update_spec.specs.Crashes.{HasShownFile, HasShownNames, LeavesOldOrNew};
 ghost use Rattle.update_spec.specs.Words.{IsUsage, AsksUpdate, AsksMore};
 ghost use Rattle.small_spec.specs.SmallUpdate.{IsFinished, small_inserts};
+ghost use Rattle.rbu_run.specs.Crash.{GoesOn, HasNow, IsStableAnswer, Survives};
 ghost use Rattle.rbu_run.specs.Ending.{EndsAs};
 ghost use Rattle.rbu_run.specs.Handover.{KeepsOthers, LeavesLog};
-ghost use Rattle.rbu_run.specs.Status.{Tells, TellsFault, KeepsOnFault, KeepsOnRefusal, HasStatusOf, IsStatus, IsOfWords, IsCounted, CountsCalls, CountsWrites};
+ghost use Rattle.rbu_run.specs.Status.{HasEnded, Tells, TellsFault, KeepsOnFault, KeepsOnRefusal, HasStatusOf, IsStatus, IsOfWords, IsCounted, CountsCalls, CountsWrites};
 
 use crate::halt::Halt;
 use crate::text::{tellable, write_line};
@@ -29,8 +32,10 @@ pub struct Ran<D> {
 
 /// The answer of the update.
 fn update_answer<D: Disk>(alloc: Global, salt: [u32; 2], disk: &mut D) -> Answer
+    requires allowed { AllowsAll D.Disk disk.old }
     ensures ended { result ≢ Usage }
     ensures files { Goes D.Disk disk.old disk.new (EndsAs (pair_of salt) result) }
+    ensures crash { GoesOn D.Disk disk.old disk.new (Survives (IsStableAnswer result)) }
     ensures calls { IsCounted D.Disk disk.old disk.new result }
 {
     match update(alloc, salt, disk) {
@@ -55,8 +60,10 @@ fn is_whole_update(command: &Command) -> bool
 
 /// The answer of the command that the words ask for. Words that ask for no update make no call on the disk.
 fn answer_of<D: Disk>(alloc: Global, words: &[String], salt: [u32; 2], disk: &mut D) -> Answer
+    requires allowed { AllowsAll D.Disk disk.old }
     ensures words { IsOfWords (map string_bytes words.now) result }
     ensures files { AsksUpdate (map string_bytes words.now) → Goes D.Disk disk.old disk.new (EndsAs (pair_of salt) result) }
+    ensures crash { AsksUpdate (map string_bytes words.now) → GoesOn D.Disk disk.old disk.new (Survives (IsStableAnswer result)) }
     ensures idle { (¬ AsksUpdate (map string_bytes words.now)) → disk.new ≡ disk.old }
     ensures calls { IsCounted D.Disk disk.old disk.new result }
 {
@@ -83,8 +90,18 @@ pub fn run_command<D: Disk, O: Sink>(
     mut disk: D,
     out: &mut O,
 ) -> Ran<D>
+    requires allowed { AllowsAll D.Disk disk }
+
     // Whatever stopped the call, a reader of the files sees the old database, or all of the new one.
     ensures headline { Goes D.Disk disk result.disk (SeesOldOrNew small_inserts) }
+
+    // So does a reader of what a crash at any moment of the call leaves, where each image at its start shows the old one.
+    ensures images { GoesOn D.Disk disk result.disk (LeavesOldOrNew small_inserts) }
+
+    // Where the update came to its outcome no crash takes it back: each image has the names that are shown, and the
+    // target where the update is done.
+    ensures names { AsksUpdate (map string_bytes words.now) → HasEnded result.status → HasNow D.Disk result.disk HasShownNames }
+    ensures target { result.status ≡ 0 → HasNow D.Disk result.disk (HasShownFile Target) }
 
     // Nor is any other file than the target and its two logs changed.
     ensures others { Goes D.Disk disk result.disk KeepsOthers }

@@ -123,6 +123,8 @@ fn refused_line(refusal: Refusal) -> ArrayString<64>
         Refusal::ChainBroken { page } => number_line("refused 45 ChainBroken ", page),
         Refusal::TrunkDamaged { page } => number_line("refused 50 TrunkDamaged ", page),
         Refusal::TargetFull { pages, limit } => full_line(pages, limit),
+        Refusal::LogHeader => plain_line("refused 100 LogHeader"),
+        Refusal::LogFrame { number } => number_line("refused 101 LogFrame ", number),
     }
 }
 
@@ -146,7 +148,7 @@ fn key_present_line(alloc: Global, table: &[u8], data_rowid: i64) -> Result<Vec<
 }
 
 fn plain_line(text: &'static str) -> ArrayString<64>
-    requires { length text.now ≤ 9 }
+    requires { length text.now ≤ 30 }
     ensures { result.bytes ≡ text.now ++ 10 ∷ [] }
 {
     let mut line = ArrayString::new();

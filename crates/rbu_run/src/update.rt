@@ -1,11 +1,15 @@
 // The update of a small target, from the files in to the files out.
 ghost use Rattle.std.specs.Prelude.{◌≡◌, ◌≤◌, ℕ, List, length, OnOk, OnErr};
-ghost use Rattle.rbu_disk.specs.Disk.{Goes, Owes, OwesBy};
+ghost use Rattle.file_spec.specs.declared.FileName.TheVariants.{Target};
+ghost use Rattle.file_spec.specs.Records.{shown_files};
+ghost use Rattle.rbu_disk.specs.Disk.{AllowsAll, Goes, Owes, OwesBy};
 ghost use Rattle.format_spec.specs.Log.{AreWords, pair_of};
 ghost use Rattle.refusal.specs.declared.Refusal.TheVariants.{NotYet};
 ghost use Rattle.update_spec.specs.declared.Outcome.TheVariants.{Refused};
+ghost use Rattle.update_spec.specs.Crashes.{HasShownNames, HasShownFile};
 ghost use Rattle.small_spec.specs.SmallFile.{IsSmallTarget, IsSmallRbu};
 ghost use Rattle.small_spec.specs.Inserts.{new_pages, page_room};
+ghost use Rattle.rbu_run.specs.Crash.{CrashesMidway, GoesOn, HasFirmNames, HasNow, IsStableEnd, Survives};
 ghost use Rattle.rbu_run.specs.Ending.{Ends};
 ghost use Rattle.rbu_run.specs.Halt.{fault_in, FailsAtChange};
 ghost use Rattle.rbu_run.specs.Handover.{HasPages, IsAlone, IsMidway};
@@ -36,10 +40,14 @@ fn install<D: Disk>(
     target: &mut [u8],
     rows: &[TargetRow],
 ) -> Result<(), DiskFault>
+    requires allowed { AllowsAll D.Disk disk.old }
     requires long { length target.old ≡ 8192 }
     requires room { page_room rows.now ≤ 4096 }
     ensures done { OnOk result (Goes D.Disk disk.old disk.new (λ f g. IsAlone f → HasPages (new_pages target.old rows.now) f g)) }
     ensures failed { OnErr result (Goes D.Disk disk.old disk.new (λ f g. IsAlone f → IsMidway (pair_of salt) (new_pages target.old rows.now) f g)) }
+    ensures moments { GoesOn D.Disk disk.old disk.new (CrashesMidway (pair_of salt) (new_pages target.old rows.now)) }
+    ensures names { OnOk result (HasNow D.Disk disk.new HasShownNames) }
+    ensures target { OnOk result (GoesOn D.Disk disk.old disk.new (λ a b. IsAlone (shown_files a.now.at) → HasShownFile Target b.now.at)) }
     ensures words { AreWords (pair_of salt) }
     ensures fault { FailsAtChange result }
     ensures calls { Owes D.Disk disk.old disk.new result }
@@ -57,9 +65,12 @@ fn finish<D: Disk>(
     old: Vec<TargetRow>,
     prepared: Vec<PreparedRow>,
 ) -> Result<Outcome, Halt>
+    requires allowed { AllowsAll D.Disk disk.old }
     requires target { IsSmallTarget target.items old.items }
     requires rbu { (bytes : List ℕ) × IsSmallRbu bytes prepared.items }
     ensures files { Goes D.Disk disk.old disk.new (λ f g. IsSmallWith target.items old.items prepared.items f → Ends (pair_of salt) result f g) }
+    ensures crash { GoesOn D.Disk disk.old disk.new (λ a b. HasFirmNames a.now.at →
+        IsSmallWith target.items old.items prepared.items (shown_files a.now.at) → Survives (IsStableEnd result) a b) }
     ensures calls { OwesBy D.Disk fault_in disk.old disk.new result }
 {
     match decide(alloc, old, prepared)? {
@@ -81,7 +92,9 @@ fn finish<D: Disk>(
 
 /// The update, from its first call on the disk on.
 pub fn update<D: Disk>(alloc: Global, salt: [u32; 2], disk: &mut D) -> Result<Outcome, Halt>
+    requires allowed { AllowsAll D.Disk disk.old }
     ensures files { Goes D.Disk disk.old disk.new (Ends (pair_of salt) result) }
+    ensures crash { GoesOn D.Disk disk.old disk.new (Survives (IsStableEnd result)) }
     ensures calls { OwesBy D.Disk fault_in disk.old disk.new result }
 {
     disk.sync_folder()?;

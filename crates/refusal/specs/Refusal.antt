@@ -6,7 +6,7 @@ use Rattle.refusal.specs.declared.Part.TheVariants as part
 use Rattle.refusal.specs.declared.Rule.{Rule}
 use Rattle.refusal.specs.declared.Rule.TheVariants as rule
 use Rattle.refusal.specs.declared.Refusal.{Refusal}
-use Rattle.refusal.specs.declared.Refusal.TheVariants.{NotYet, BadPage, ChainBroken, TrunkDamaged, TargetFull}
+use Rattle.refusal.specs.declared.Refusal.TheVariants.{NotYet, BadPage, ChainBroken, TrunkDamaged, TargetFull, LogHeader, LogFrame}
 
 -- the word of a part that is not built
 abbrev pub part_word : Part → List ℕ
@@ -36,3 +36,5 @@ refusal_text (BadPage rule) = codes "40 BadPage " ++ rule_word rule
 refusal_text (ChainBroken page) = codes "45 ChainBroken " ++ decimal page
 refusal_text (TrunkDamaged page) = codes "50 TrunkDamaged " ++ decimal page
 refusal_text (TargetFull pages limit) = codes "51 TargetFull " ++ (decimal pages ++ (codes " " ++ decimal limit))
+refusal_text LogHeader = codes "100 LogHeader"
+refusal_text (LogFrame number) = codes "101 LogFrame " ++ decimal number

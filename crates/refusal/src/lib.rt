@@ -100,4 +100,8 @@ pub enum Refusal {
     TrunkDamaged { page: u64 },
     /// 51: no page is free, and the next page past the end would pass the limit. Both are numbers of pages.
     TargetFull { pages: u64, limit: u64 },
+    /// 100: the bytes do not begin with a log's header, or its pages have a size that pages may not have.
+    LogHeader,
+    /// 101: a needed frame of a log is missing or not valid, or the last needed one is no commit. Frames count from 1.
+    LogFrame { number: u64 },
 }

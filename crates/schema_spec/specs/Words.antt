@@ -118,11 +118,15 @@ is_number_token text token = elim token.kind as (λ _. Bool) [ Number ↦ is_num
 abbrev pub is_sql : List ℕ → Token → Bool
 is_sql text token = elim token.kind as (λ _. Bool) [ Unclosed ↦ false | Number ↦ is_number (spelling text token) | _ ↦ true ]
 
+-- between the quotes of a token stands an even number of hexadecimal digits
+abbrev pub is_hex_content : List ℕ → Token → Bool
+is_hex_content text token =
+    elim token.kind as (λ _. Bool) [ Quoted ↦ list_all is_ascii_hexdigit (inner text token) && (length (inner text token) % 2 == 0) | _ ↦ false ]
+
 -- the token is X with an even number of hexadecimal digits in single quotes directly behind it
 abbrev pub is_blob : List ℕ → Token → Token → Bool
 is_blob text x content =
-    is_keyword (codes "X") text x && (content.start == x.end) && (slice_index text content.start == 39)
-    && elim content.kind as (λ _. Bool) [ Quoted ↦ list_all is_ascii_hexdigit (inner text content) && (length (inner text content) % 2 == 0) | _ ↦ false ]
+    is_keyword (codes "X") text x && (content.start == x.end) && (slice_index text content.start == 39) && is_hex_content text content
 
 -- a word of a type: any that begins no constraint
 abbrev pub is_type_word : List ℕ → Token → Bool

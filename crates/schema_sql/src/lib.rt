@@ -3,10 +3,17 @@
 //! `tokens` gives the tokens of a text by their places. What these are is said by `Tokens` in the `specs/` of `schema_spec`.
 #![tactic(auto)]
 
+mod brackets;
+mod clauses;
+mod columns;
+mod fronts;
 mod tokenizer;
+mod types;
+mod words;
 
 pub use schema_spec::{Token, TokenKind};
 pub use tokenizer::tokens;
+pub use words::name_of;
 
 #[cfg(test)]
 mod tests;

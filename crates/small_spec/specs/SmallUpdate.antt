@@ -5,7 +5,7 @@ use Rattle.file_spec.specs.declared.FileName.TheVariants.{Target, Oal, Wal, Jour
 use Rattle.file_spec.specs.Files.{Files, content, is_name}
 use Rattle.refusal.specs.declared.Part.{Part}
 use Rattle.refusal.specs.declared.Part.TheVariants as part
-use Rattle.refusal.specs.declared.Refusal.TheVariants.{NotYet, BadPage, ChainBroken, TrunkDamaged, TargetFull}
+use Rattle.refusal.specs.declared.Refusal.TheVariants.{NotYet, BadPage, ChainBroken, TrunkDamaged, TargetFull, LogHeader, LogFrame}
 use Rattle.format_spec.specs.PageMap.{PageMap, SamePages, pages_of}
 use Rattle.update_spec.specs.declared.Outcome.{Outcome}
 use Rattle.update_spec.specs.declared.Outcome.TheVariants.{Done, KeyPresent, Refused}
@@ -47,6 +47,8 @@ HasOutcome files (Refused (BadPage rule)) = ⊥
 HasOutcome files (Refused (ChainBroken page)) = ⊥
 HasOutcome files (Refused (TrunkDamaged page)) = ⊥
 HasOutcome files (Refused (TargetFull pages limit)) = ⊥
+HasOutcome files (Refused LogHeader) = ⊥
+HasOutcome files (Refused (LogFrame number)) = ⊥
 HasOutcome files (KeyPresent table data_rowid) =
     (old : List TargetRow) × (prepared : List PreparedRow) × (row : PreparedRow)
     × CanInsert files old prepared × IsFirstPresent old prepared row × (table ≡ target_table.name) × (row.data_rowid ≡ data_rowid)

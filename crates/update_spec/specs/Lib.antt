@@ -1,6 +1,8 @@
 pub mod View
 pub mod ViewLaws
 pub mod Update
+pub mod Crashes
+pub mod CrashesLaws
 pub mod Answer
 pub mod Words
 pub mod Text

@@ -1,5 +1,5 @@
 -- A reader of the files sees one list of pages: crates above cite these facts in their proofs.
-use Rattle.std.proofs.Common.{◌≡◌, ℕ, List, Option, Some, None, sym, subst}
+use Rattle.std.proofs.Common.{◌≡◌, ◌↔◌, ℕ, List, Option, Some, None, [], sym, subst, unwrap_or}
 use Rattle.file_spec.specs.declared.FileName.TheVariants.{Target, Wal}
 use Rattle.file_spec.specs.Files.{Files, content}
 use Rattle.format_spec.specs.PageMap.{PageMap, SamePages, file_pages}
@@ -36,3 +36,12 @@ view-same files a b v same = overlaid-same (files Wal) (content files Target) a 
 -- files that are the same show the same
 pub KeepsView-same : (before after : Files) → after ≡ before → KeepsView before after
 KeepsView-same before after e = subst (KeepsView before) (sym e) (λ pages. ((λ seen. seen), (λ seen. seen)))
+
+-- a reader looks at the target and the write-ahead log alone
+pub KeepsView-parts : (before other after : Files) → after Target ≡ other Target → after Wal ≡ other Wal → KeepsView before other → KeepsView before after
+KeepsView-parts before other after target wal keeps pages =
+    let below : IsOverlaidBy (other Wal) (content other Target) pages → IsOverlaidBy (after Wal) (content after Target) pages =
+    λ seen. subst (λ (log : Option (List ℕ)). IsOverlaidBy log (content after Target) pages) (sym wal) (subst (λ (file : Option (List ℕ)). IsOverlaidBy (other Wal) (unwrap_or file []) pages) (sym target) seen) in
+    let above : IsOverlaidBy (after Wal) (content after Target) pages → IsOverlaidBy (other Wal) (content other Target) pages =
+    λ seen. subst (λ (log : Option (List ℕ)). IsOverlaidBy log (content other Target) pages) wal (subst (λ (file : Option (List ℕ)). IsOverlaidBy (after Wal) (unwrap_or file []) pages) target seen) in
+    ((λ seen. below ((keeps pages).0 seen)), (λ seen. (keeps pages).1 (above seen)))

@@ -4,6 +4,8 @@
 //!
 //! - `Update`: an update, as the outcome of files and the new database that it makes; and what a call leaves of the files;
 //! - `View`: what a reader of the files sees, the pages of the target overlaid by its log;
+//! - `Crashes`: what a crash while a command runs may leave, and what one at its end; `images_keep_view` promises which
+//!   disks show one database whatever a crash leaves;
 //! - `ViewLaws`: those are one list of pages, as `view_is_one` promises;
 //! - `Answer`: which answer the files and words have;
 //! - `Words` and `Text`: the words of each command, and the line of each answer.
@@ -59,5 +61,5 @@ pub enum Answer {
 mod laws;
 mod worked;
 
-pub use laws::view_is_one;
+pub use laws::{images_keep_view, view_is_one};
 pub use worked::{worked_lines, worked_statuses, worked_view};

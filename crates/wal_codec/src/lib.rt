@@ -1,7 +1,10 @@
-//! Spells the header and the frames of SQLite's write-ahead log (Database File Format, section 4).
+//! Spells and reads SQLite's write-ahead log (Database File Format, section 4).
 //!
 //! The layer above writes a whole log by `header_bytes`, and then for each page `frame_bytes` and the page itself. Each call gives
-//! the checksum that the next one takes. `checksum` is offered to readers of logs.
+//! the checksum that the next one takes, as `checksum` does. It reads a whole log by `read_log`, which keeps a `Log`.
+//!
+//! What bytes say as a log of which the first frames are needed, and why they say nothing, is said by `LogReading`; `LogReadingLaws` has
+//! that bytes are one log or have one fault, and what one more frame changes.
 //!
 //! The definitions stand in `format_spec`: `Log`, also `pair_of`, an array of two words as a pair.
 //! That a header with frames is a log, and bytes are one in one way, is said there too, by `LogLaws`, and promised of what is written by `written_log_is_a_log`. `specs/Frames` has

@@ -1,4 +1,4 @@
-use Rattle.std.proofs.Common.{◌≡◌, length, sym, ap, ◌∙◌}
+use Rattle.std.proofs.Common.{◌≡◌, length, refl, sym, ap, ◌∙◌}
 use Rattle.std.specs.Vec.{with_items}
 use Rattle.std.proofs.lemmas.List.{with_items_is}
 use Rattle.common_spec.specs.ToldLaws.{told-both}
@@ -6,8 +6,8 @@ use Rattle.byte_fields.specs.BytesLaws.{resized-same}
 use Rattle.file_spec.specs.Files.{content}
 use Rattle.rbu_run.proofs.files.small_bytes.Goals as goal
 
-pub read_whole-requires : goal.read_whole-requires
-read_whole-requires g c = rw c.deref_mut.ensures.value c.in_ok-bytes.ensures.zeros
+pub read_whole-requires-clause-zeros : goal.read_whole-requires-clause-zeros
+read_whole-requires-clause-zeros g c = rw c.deref_mut.ensures.value c.in_ok-bytes.ensures.zeros
 
 pub returns-clause-files : goal.returns-clause-files
 returns-clause-files g c =
@@ -18,4 +18,6 @@ returns-clause-files g c =
       same = c.read_whole.ensures.files.same ∙ c.len.ensures.files.same;
       answer = told-both (g.D.Disk.shown c.args.disk.now) c.len.ensures.files.same c.in_ok-len.ensures.files.answer c.in_ok-read_whole.ensures.files.answer
           (λ f long read. held ∙ read ∙ resized-same (content f c.args.name) (length c.deref_mut.result.now) (sym long ∙ c.if-branch.false ∙ sym (lent ∙ c.in_ok-bytes.ensures.long)));
+      moments = c.read_whole.ensures.files.moments ∙ c.len.ensures.moments;
+      test = c.read_whole.ensures.files.test ∙ c.len.ensures.test.same refl refl;
     }

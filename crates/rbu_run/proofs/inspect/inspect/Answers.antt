@@ -1,4 +1,4 @@
-use Rattle.std.proofs.Common.{◌≡◌, ◌∙◌, IfSome, Some}
+use Rattle.std.proofs.Common.{◌≡◌, ◌∙◌, IfSome, Some, rules}
 use Rattle.std.proofs.lemmas.Option.{IfSome_then}
 use Rattle.common_spec.specs.Reading.{Reads, OrNone}
 use Rattle.common_spec.specs.ToldLaws.{told-both}
@@ -12,6 +12,8 @@ pub returns-then-branch-clause-files : goal.returns-then-branch-clause-files
 returns-then-branch-clause-files g c = record {
   same = c.has_other_file.ensures.files.same;
   answer = IfSome_then (g.D.Disk.shown c.args.disk.now) (rw c.if-branch.true at c.in_ok-has_other_file.ensures.files.answer) files-needed;
+  moments = c.has_other_file.ensures.files.moments;
+  test = c.has_other_file.ensures.files.test;
 }
 
 pub returns-in_default-clause-files : goal.returns-in_default-clause-files
@@ -21,6 +23,8 @@ returns-in_default-clause-files g c =
     record {
       same = c.target_rows.ensures.files.same ∙ c.has_other_file.ensures.files.same;
       answer = told-both start c.has_other_file.ensures.files.same alone (rw c.in_default.is at c.in_ok-target.ensures.files.answer) (λ f h none. target-needed f h none.0);
+      moments = c.target_rows.ensures.files.moments ∙ c.has_other_file.ensures.files.moments;
+      test = c.target_rows.ensures.files.test ∙ c.has_other_file.ensures.files.test;
     }
 
 pub returns-in_default-2-clause-files : goal.returns-in_default-2-clause-files
@@ -34,7 +38,22 @@ returns-in_default-2-clause-files g c =
     record {
       same = c.prepared_rows.ensures.files.same ∙ same;
       answer = told-both start same read (rw c.in_default-2.is at c.in_ok-prepared.ensures.files.answer) (λ f both none. rbu-needed f c.in-Some.old.items both.0 both.1.0 none);
+      moments = c.prepared_rows.ensures.files.moments ∙ c.target_rows.ensures.files.moments ∙ c.has_other_file.ensures.files.moments;
+      test = c.prepared_rows.ensures.files.test ∙ c.target_rows.ensures.files.test ∙ c.has_other_file.ensures.files.test;
     }
+
+pub prepared_rows-requires : goal.prepared_rows-requires
+prepared_rows-requires g c = record {
+  allowed = c.target_rows.ensures.calls.allows (c.has_other_file.ensures.calls.allows c.requires.allowed);
+}
+
+pub returns-clause-calls : goal.returns-clause-calls
+returns-clause-calls g c = record {
+  later = search rules;
+  still = search rules;
+  cause = search rules;
+  allows = λ all. c.prepared_rows.ensures.calls.allows (c.target_rows.ensures.calls.allows (c.has_other_file.ensures.calls.allows all));
+}
 
 pub returns-clause-files : goal.returns-clause-files
 returns-clause-files g c =
@@ -48,4 +67,6 @@ returns-clause-files g c =
       same = c.prepared_rows.ensures.files.same ∙ same;
       answer = told-both start same read (rw c.in-Some-2.is at c.in_ok-prepared.ensures.files.answer)
           (λ f both rows. small-found f c.in-Some.target.items c.in-Some.old.items c.in-Some-2.prepared.items both.0 both.1 rows);
+      moments = c.prepared_rows.ensures.files.moments ∙ c.target_rows.ensures.files.moments ∙ c.has_other_file.ensures.files.moments;
+      test = c.prepared_rows.ensures.files.test ∙ c.target_rows.ensures.files.test ∙ c.has_other_file.ensures.files.test;
     }

@@ -11,6 +11,8 @@ returns-in_default-clause-files g c = record {
   same = c.small_bytes.ensures.files.same;
   answer = IfSome_then (g.D.Disk.shown c.args.disk.now) (rw c.in_default.is at c.in_ok-bytes.ensures.files.answer)
       (λ f other. none-read (λ rows small. other small.file.long));
+  moments = c.small_bytes.ensures.files.moments;
+  test = c.small_bytes.ensures.files.test;
 }
 
 pub returns-in_default-2-clause-files : goal.returns-in_default-2-clause-files
@@ -20,6 +22,8 @@ returns-in_default-2-clause-files g c =
       same = c.small_bytes.ensures.files.same;
       answer = IfSome_then (g.D.Disk.shown c.args.disk.now) (rw c.in-Some.is at c.in_ok-bytes.ensures.files.answer)
           (λ f are. subst (λ (b : List ℕ). Reads (OrNone (IsSmallRbu b)) None) are read);
+      moments = c.small_bytes.ensures.files.moments;
+      test = c.small_bytes.ensures.files.test;
     }
 
 pub returns-clause-files : goal.returns-clause-files
@@ -30,6 +34,8 @@ returns-clause-files g c =
       same = c.small_bytes.ensures.files.same;
       answer = IfSome_then (g.D.Disk.shown c.args.disk.now) (rw c.in-Some.is at c.in_ok-bytes.ensures.files.answer)
           (λ f are. subst (λ (b : List ℕ). Reads (OrNone (IsSmallRbu b)) (Some rows)) are read);
+      moments = c.small_bytes.ensures.files.moments;
+      test = c.small_bytes.ensures.files.test;
     }
 
 pub returns-clause-rows : goal.returns-clause-rows

@@ -22,3 +22,10 @@ returns-then-not-is_whole_update-clause-words g c =
 
 pub returns-then-not-is_whole_update-clause-files : goal.returns-then-not-is_whole_update-clause-files
 returns-then-not-is_whole_update-clause-files g c asks = absurd (not_update g c asks)
+
+pub returns-in_default-clause-crash : goal.returns-in_default-clause-crash
+returns-in_default-clause-crash g c asks =
+    absurd (c.in_default.not-Some (Apply 4294967295) (c.command_of.ensures.only (Apply 4294967295) asks))
+
+pub returns-then-not-is_whole_update-clause-crash : goal.returns-then-not-is_whole_update-clause-crash
+returns-then-not-is_whole_update-clause-crash g c asks = absurd (not_update g c asks)

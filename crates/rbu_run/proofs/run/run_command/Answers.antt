@@ -1,10 +1,13 @@
 use Rattle.std.proofs.Common.{map, string_bytes, inl, refl, ap}
 use Rattle.update_spec.specs.ViewLaws.{KeepsView-same}
 use Rattle.format_spec.specs.Log.{pair_of}
+use Rattle.update_spec.specs.Words.{AsksUpdate}
 use Rattle.rbu_run.specs.Status.{IsCounted}
 use Rattle.rbu_run.proofs.Endings.{sees-ends, others-ends, log-ends}
 use Rattle.rbu_run.proofs.Answering as answering
 use Rattle.rbu_run.proofs.Answering.{Settled, settled-told, counted-told, however, owed}
+use Rattle.rbu_run.proofs.CrashAnswers as crash
+use Rattle.rbu_run.proofs.CrashAnswers.{Crashes, survives-told}
 use Rattle.rbu_run.proofs.run.run_command.Given as given
 use Rattle.rbu_run.proofs.run.run_command.Goals as goal
 
@@ -26,6 +29,32 @@ settled g c =
 
 counted : (g : given.Over) (c : goal.Joined-answer g) → IsCounted g.D.Disk c.args.disk c.answer_of-answer.new.disk c.tellable-answer.result.0
 counted g c = counted-told c.answer_of-answer.result c.tellable-answer.result.0 c.answer_of-answer.ensures.calls c.tellable-answer.ensures.answer
+
+-- and what a crash may leave behind it
+crashes : (g : given.Over) (c : goal.Joined-answer g) →
+    Crashes (map string_bytes c.args.words.now) (g.D.Disk.trail c.args.disk) (g.D.Disk.trail c.answer_of-answer.new.disk) c.tellable-answer.result.0
+crashes g c = record {
+  of_words = (settled g c).of_words;
+  survives = λ asks.
+      survives-told (g.D.Disk.trail c.args.disk) (g.D.Disk.trail c.answer_of-answer.new.disk) c.answer_of-answer.result c.tellable-answer.result.0
+      (c.answer_of-answer.ensures.crash asks) c.tellable-answer.ensures.answer;
+  idle = λ other. ap g.D.Disk.trail (c.answer_of-answer.ensures.idle other);
+}
+
+pub returns-clause-images : goal.returns-clause-images
+returns-clause-images g c =
+    crash.images (map string_bytes c.args.words.now) (g.D.Disk.trail c.args.disk) (g.D.Disk.trail c.answer_of-answer.new.disk) c.tellable-answer.result.0 (crashes g c)
+
+pub returns-clause-names : goal.returns-clause-names
+returns-clause-names g c asks ended =
+    crash.names c.args.out.now c.write_line-status.new.out c.tellable-answer.result.0 c.write_line-status.result c.write_line-status.ensures ((crashes g c).survives asks) ended
+
+pub returns-clause-target : goal.returns-clause-target
+returns-clause-target g c zero =
+    let asks : AsksUpdate (map string_bytes c.args.words.now) =
+    (answering.done (pair_of c.args.salt) (map string_bytes c.args.words.now) (g.D.Disk.shown c.args.disk) (g.D.Disk.shown c.answer_of-answer.new.disk)
+    c.args.out.now c.write_line-status.new.out c.tellable-answer.result.0 c.write_line-status.result (settled g c) c.write_line-status.ensures zero).0 in
+    crash.target c.args.out.now c.write_line-status.new.out c.tellable-answer.result.0 c.write_line-status.result c.write_line-status.ensures ((crashes g c).survives asks) zero
 
 pub returns-clause-headline : goal.returns-clause-headline
 returns-clause-headline g c =

@@ -1,12 +1,14 @@
--- A missing file stays missing.
-use Rattle.std.proofs.Common.{ap, ◌∙◌, sym}
-use Rattle.file_spec.specs.Files.{after_rename}
-use Rattle.disk_memory.specs.Disk.{DiskState, files_at}
-use Rattle.disk_memory.proofs.Places.{rename_of_missing}
+use Rattle.std.proofs.Common.{◌≡◌, ap, ◌∙◌}
+use Rattle.disk_memory.specs.Disk.{DiskState}
+use Rattle.disk_memory.specs.VolumeLaws.{files-renamed, trail-renamed}
 use Rattle.disk_memory.proofs.disk.MemoryDiskDisk.rename.Goals as goal
 
-pub returns-in_default-clause-done : goal.returns-in_default-clause-done
-returns-in_default-clause-done c =
-    c.replace_file.ensures.after
-    ∙ rename_of_missing c.self.inside.places c.args.from c.args.to (sym c.replace_file.ensures.value ∙ c.in_default.is)
-    ∙ ap (λ places. after_rename (files_at places) c.args.from c.args.to) (ap (λ (disk : DiskState). disk.places) c.self.view_is ∙ c.in_ok-count_call.ensures.same)
+-- the volume is that at the start of the call
+same : (c : goal.In-Ok) → c.self.inside.volume ≡ c.args.self.now.volume
+same c = ap (λ (disk : DiskState). disk.volume) c.self.view_is ∙ c.in_ok-count_call.ensures.same
+
+pub returns-in-Ok-clause-done : goal.returns-in-Ok-clause-done
+returns-in-Ok-clause-done c = rw (c.in-Ok.ensures.done, same c) (files-renamed c.args.self.now.volume c.args.from c.args.to)
+
+pub returns-in-Ok-clause-moments : goal.returns-in-Ok-clause-moments
+returns-in-Ok-clause-moments c = rw (c.in-Ok.ensures.done, same c) (trail-renamed c.args.self.now.volume c.args.from c.args.to)

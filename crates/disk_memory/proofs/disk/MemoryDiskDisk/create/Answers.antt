@@ -1,0 +1,14 @@
+use Rattle.std.proofs.Common.{◌≡◌, ap, ◌∙◌}
+use Rattle.disk_memory.specs.Disk.{DiskState}
+use Rattle.disk_memory.specs.VolumeLaws.{files-created, trail-created}
+use Rattle.disk_memory.proofs.disk.MemoryDiskDisk.create.Goals as goal
+
+-- the volume is that at the start of the call
+same : (c : goal.In-Ok) → c.self.inside.volume ≡ c.args.self.now.volume
+same c = ap (λ (disk : DiskState). disk.volume) c.self.view_is ∙ c.in_ok-count_call.ensures.same
+
+pub returns-in-Ok-clause-done : goal.returns-in-Ok-clause-done
+returns-in-Ok-clause-done c = rw (c.in-Ok.ensures.done, same c) (files-created c.args.self.now.volume c.args.name)
+
+pub returns-in-Ok-clause-moments : goal.returns-in-Ok-clause-moments
+returns-in-Ok-clause-moments c = rw (c.in-Ok.ensures.done, same c) (trail-created c.args.self.now.volume c.args.name)

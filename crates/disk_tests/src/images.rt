@@ -1,0 +1,343 @@
+// Random lists of calls, whose images are held against the rules of a crash, kept here byte by byte.
+ghost use Rattle.std.specs.Prelude.{◌<◌};
+
+use disk_memory::MemoryDisk;
+use rbu_disk::{Disk, FileName};
+use std::alloc::{AllocError, Global};
+use std::test::Fail;
+
+// A generator of numbers, by a linear congruence.
+#[derive(Drop)]
+struct Random {
+    state: u64,
+}
+
+impl Random {
+    fn below(&mut self, end: u64) -> u64
+        requires { 0 < end }
+    {
+        self.state = self
+            .state
+            .wrapping_mul(6_364_136_223_846_793_005)
+            .wrapping_add(1_442_695_040_888_963_407);
+        (self.state >> 33) % end
+    }
+
+    fn name(&mut self) -> FileName {
+        match self.below(3) {
+            0 => FileName::Target,
+            1 => FileName::Oal,
+            _ => FileName::Wal,
+        }
+    }
+}
+
+// What each image of a file has: at a place the byte, or any byte; and its lengths.
+#[derive(Drop)]
+struct Allowed {
+    shown: Vec<u8>,
+    firm: Vec<Option<u8>>,
+    least: usize,
+    greatest: usize,
+}
+
+impl Allowed {
+    fn empty(alloc: Global) -> Allowed {
+        Allowed {
+            shown: Vec::new(alloc),
+            firm: Vec::new(alloc),
+            least: 0,
+            greatest: 0,
+        }
+    }
+
+    // Any bytes from one place to another.
+    fn forget(&mut self, from: usize, to: usize) {
+        for (i, place) in self.firm.iter_mut().enumerate() {
+            if i >= from && i < to {
+                *place = None;
+            }
+        }
+    }
+
+    fn resize(&mut self, n: usize) -> Result<(), AllocError> {
+        let len = self.shown.len();
+        self.forget(len.min(n), len.max(n));
+        self.least = self.least.min(n);
+        self.greatest = self.greatest.max(n);
+        self.shown.resize(n, 0)
+    }
+
+    fn write(&mut self, at: usize, bytes: &[u8]) -> Result<(), AllocError> {
+        let end = at.saturating_add(bytes.len());
+        if self.shown.len() < end {
+            self.resize(end)?;
+        }
+        self.forget(at, end);
+        for (i, byte) in bytes.iter().enumerate() {
+            if let Some(place) = self.shown.get_mut(at.saturating_add(i)) {
+                *place = *byte;
+            }
+        }
+        Ok(())
+    }
+
+    fn sync(&mut self) -> Result<(), AllocError> {
+        self.firm.clear();
+        for byte in self.shown.as_slice() {
+            self.firm.push(Some(*byte))?;
+        }
+        self.least = self.shown.len();
+        self.greatest = self.shown.len();
+        Ok(())
+    }
+
+    fn allows(&self, bytes: &[u8]) -> bool {
+        if bytes.len() < self.least || bytes.len() > self.greatest {
+            return false;
+        }
+        for (byte, place) in bytes.iter().zip(self.firm.as_slice()) {
+            if let Some(firm) = place {
+                if firm != byte {
+                    return false;
+                }
+            }
+        }
+        true
+    }
+}
+
+// The number of the file of each name.
+#[derive(Clone, Copy)]
+struct Names {
+    target: Option<usize>,
+    oal: Option<usize>,
+    wal: Option<usize>,
+}
+
+impl Names {
+    fn of(&self, name: FileName) -> Option<usize> {
+        match name {
+            FileName::Target => self.target,
+            FileName::Oal => self.oal,
+            _ => self.wal,
+        }
+    }
+
+    fn with(self, name: FileName, number: Option<usize>) -> Names {
+        let mut names = self;
+        match name {
+            FileName::Target => names.target = number,
+            FileName::Oal => names.oal = number,
+            _ => names.wal = number,
+        }
+        names
+    }
+}
+
+// The files by number, the names now, and those before each change since the folder was synced.
+#[derive(Drop)]
+struct Rules {
+    files: Vec<Allowed>,
+    now: Names,
+    before: Vec<Names>,
+}
+
+impl Rules {
+    fn rename_to(&mut self, names: Names) -> Result<(), AllocError> {
+        self.before.push(self.now)?;
+        self.now = names;
+        Ok(())
+    }
+
+    // Makes an empty file where the name has none.
+    fn create(&mut self, alloc: Global, name: FileName) -> Result<(), AllocError> {
+        if self.now.of(name).is_none() {
+            let number = self.files.len();
+            self.files.push(Allowed::empty(alloc))?;
+            let names = self.now.with(name, Some(number));
+            self.rename_to(names)?;
+        }
+        Ok(())
+    }
+
+    fn remove(&mut self, name: FileName) -> Result<(), AllocError> {
+        if self.now.of(name).is_some() {
+            let names = self.now.with(name, None);
+            self.rename_to(names)?;
+        }
+        Ok(())
+    }
+
+    fn rename(&mut self, from: FileName, to: FileName) -> Result<(), AllocError> {
+        let number = self.now.of(from);
+        if number.is_some() {
+            let names = self.now.with(from, None).with(to, number);
+            self.rename_to(names)?;
+        }
+        Ok(())
+    }
+
+    fn write(&mut self, name: FileName, at: usize, bytes: &[u8]) -> Result<(), AllocError> {
+        if let Some(number) = self.now.of(name) {
+            if let Some(file) = self.files.get_mut(number) {
+                file.write(at, bytes)?;
+            }
+        }
+        Ok(())
+    }
+
+    fn set_len(&mut self, name: FileName, n: usize) -> Result<(), AllocError> {
+        if let Some(number) = self.now.of(name) {
+            if let Some(file) = self.files.get_mut(number) {
+                file.resize(n)?;
+            }
+        }
+        Ok(())
+    }
+
+    fn sync(&mut self, name: FileName) -> Result<(), AllocError> {
+        if let Some(number) = self.now.of(name) {
+            if let Some(file) = self.files.get_mut(number) {
+                file.sync()?;
+            }
+        }
+        Ok(())
+    }
+
+    fn allows_name(&self, names: &Names, name: FileName, file: Option<&[u8]>) -> bool {
+        match (names.of(name), file) {
+            (Some(number), Some(bytes)) => match self.files.get(number) {
+                Some(allowed) => allowed.allows(bytes),
+                None => false,
+            },
+            (None, None) => true,
+            _ => false,
+        }
+    }
+
+    fn allows_names(&self, names: &Names, disk: &MemoryDisk) -> bool {
+        self.allows_name(names, FileName::Target, disk.contents(FileName::Target))
+            && self.allows_name(names, FileName::Oal, disk.contents(FileName::Oal))
+            && self.allows_name(names, FileName::Wal, disk.contents(FileName::Wal))
+    }
+
+    fn allows(&self, disk: &MemoryDisk) -> bool {
+        for names in self.before.as_slice() {
+            if self.allows_names(names, disk) {
+                return true;
+            }
+        }
+        self.allows_names(&self.now, disk)
+    }
+}
+
+// The target is 'abcdef', and stable; neither log exists.
+fn first_rules(alloc: Global) -> Result<Rules, AllocError> {
+    let mut rules = Rules {
+        files: Vec::new(alloc),
+        now: Names {
+            target: None,
+            oal: None,
+            wal: None,
+        },
+        before: Vec::new(alloc),
+    };
+    rules.create(alloc, FileName::Target)?;
+    rules.write(FileName::Target, 0, b"abcdef")?;
+    rules.sync(FileName::Target)?;
+    rules.before.clear();
+    Ok(rules)
+}
+
+fn first_disk(alloc: Global) -> Result<MemoryDisk, AllocError> {
+    let mut files = Vec::new(alloc);
+    files.push((FileName::Target, Vec::from_slice(alloc, b"abcdef")?))?;
+    Ok(MemoryDisk::new(alloc, files, Vec::new(alloc)))
+}
+
+// A write or a change of length, which makes a missing file first.
+fn change(
+    alloc: Global,
+    random: &mut Random,
+    disk: &mut MemoryDisk,
+    rules: &mut Rules,
+) -> Result<(), Fail> {
+    let name = random.name();
+    let at = random.below(10);
+    rules.create(alloc, name)?;
+    if random.below(3) > 0 {
+        let bytes = [b'A', b'B', b'C'];
+        disk.write_at(name, at, &bytes)?;
+        rules.write(name, at as usize, &bytes)?;
+    } else {
+        disk.set_len(name, at)?;
+        rules.set_len(name, at as usize)?;
+    }
+    Ok(())
+}
+
+// A call on names, or a sync.
+fn settle(
+    alloc: Global,
+    random: &mut Random,
+    disk: &mut MemoryDisk,
+    rules: &mut Rules,
+) -> Result<(), Fail> {
+    let name = random.name();
+    match random.below(6) {
+        0 => {
+            disk.create(name)?;
+            rules.create(alloc, name)?;
+        }
+        1 => {
+            disk.remove(name)?;
+            rules.remove(name)?;
+        }
+        2 => {
+            disk.sync_folder()?;
+            rules.before.clear();
+        }
+        3 => {
+            disk.sync(name)?;
+            rules.sync(name)?;
+        }
+        _ => {
+            let to = random.name();
+            disk.rename(name, to)?;
+            rules.rename(name, to)?;
+        }
+    }
+    Ok(())
+}
+
+fn assert_images(alloc: Global, disk: &MemoryDisk, rules: &Rules) -> Result<(), Fail> {
+    for choice in 0..9 {
+        if !rules.allows(&disk.crash(alloc, choice)?) {
+            return Err(Fail::new("an image that the rules do not allow"));
+        }
+    }
+    Ok(())
+}
+
+fn assert_list(alloc: Global, random: &mut Random) -> Result<(), Fail> {
+    let mut disk = first_disk(alloc)?;
+    let mut rules = first_rules(alloc)?;
+    for _ in 0..10 {
+        if random.below(2) > 0 {
+            change(alloc, random, &mut disk, &mut rules)?;
+        } else {
+            settle(alloc, random, &mut disk, &mut rules)?;
+        }
+    }
+    assert_images(alloc, &disk, &rules)
+}
+
+#[test]
+fn images_of_random_lists_of_calls_are_allowed(rt: HostRuntime) -> Result<(), Fail> {
+    let mut random = Random { state: 1 };
+    for _ in 0..1000 {
+        assert_list(rt.alloc(), &mut random)?;
+    }
+    Ok(())
+}

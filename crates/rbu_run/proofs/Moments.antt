@@ -1,0 +1,71 @@
+-- How the moments of a disk go on over the calls of a function.
+use Rattle.std.proofs.Common.{◌≡◌, Option, Some, None, option_map, Result, Ok, Err, OnOk, IfSome, refl, subst}
+use Rattle.common_spec.specs.Told.{Leads}
+use Rattle.common_spec.specs.ToldLaws.{Leads-weaken}
+use Rattle.file_spec.specs.declared.FileName.{FileName}
+use Rattle.file_spec.specs.declared.DiskCall.{DiskCall}
+use Rattle.file_spec.specs.Files.{Files}
+use Rattle.file_spec.specs.Records.{Record, shown_files}
+use Rattle.file_spec.specs.Trails.{Trail, Passes, Adds}
+use Rattle.file_spec.specs.TrailsLaws.{Adds-passes, Fails-passes}
+use Rattle.file_spec.specs.Steps.{Fails}
+use Rattle.rbu_disk.specs.declared.disk.Disk.{Ghosts}
+use Rattle.rbu_disk.specs.Call.{LeadsBy}
+
+-- two relations of one step
+pub Leads-both : {S : Type 0} {P Q : S → S → Type 0} {x y : Option S} → Leads P x y → Leads Q x y → Leads (λ a b. P a b × Q a b) x y
+Leads-both {x = None} p q = record { goes_on = p.goes_on; step = tt }
+Leads-both {x = Some a} {y = None} p q = record { goes_on = p.goes_on; step = tt }
+Leads-both {x = Some a} {y = Some b} p q = record { goes_on = p.goes_on; step = (p.step, q.step) }
+
+-- what a step leaves of the state
+pub Leads-after : {S : Type 0} {R : S → S → Type 0} {P : S → Type 0} {x y : Option S} → Leads R x y → ((a b : S) → R a b → P b) → IfSome y P
+Leads-after {x = x} {y = None} led w = tt
+Leads-after {x = None} {y = Some b} led w = absurd (let e = led.goes_on in cc)
+Leads-after {x = Some a} {y = Some b} led w = w a b led.step
+
+-- a step, and what is known of the state that it leaves
+pub Leads-ending : {S : Type 0} {R : S → S → Type 0} {P : S → Type 0} {x y : Option S} → Leads R x y → IfSome y P → Leads (λ a b. R a b × P b) x y
+Leads-ending {x = None} led p = record { goes_on = led.goes_on; step = tt }
+Leads-ending {x = Some a} {y = None} led p = record { goes_on = led.goes_on; step = tt }
+Leads-ending {x = Some a} {y = Some b} led p = record { goes_on = led.goes_on; step = (led.step, p) }
+
+-- what is said of one part of a state
+pub part-Leads : {S T : Type 0} (part : S → T) (R : T → T → Type 0) (x y : Option S) → Leads R (option_map part x) (option_map part y) → Leads (λ a b. R (part a) (part b)) x y
+part-Leads part R None None led = record { goes_on = refl; step = tt }
+part-Leads part R None (Some b) led = absurd (let e = led.goes_on in cc)
+part-Leads part R (Some a) None led = absurd (let e = led.goes_on in cc)
+part-Leads part R (Some a) (Some b) led = record { goes_on = refl; step = led.step }
+
+pub part-IfSome : {S T : Type 0} (part : S → T) (P : T → Type 0) (x : Option S) → IfSome (option_map part x) P → IfSome x (λ a. P (part a))
+part-IfSome part P None p = tt
+part-IfSome part P (Some a) p = p
+
+module _ {D : Type 0} (d : Ghosts D) (tied : (disk : D) → d.shown disk ≡ option_map (λ (t : Trail). shown_files t.now.at) (d.trail disk)) where
+  -- what is said of the shown files, said of the records
+  pub records-go : (R : Files → Files → Type 0) (before after : D) → Leads R (d.shown before) (d.shown after) →
+      Leads (λ a b. R (shown_files a.now.at) (shown_files b.now.at)) (d.trail before) (d.trail after)
+  records-go R before after led =
+      part-Leads (λ (t : Trail). shown_files t.now.at) R (d.trail before) (d.trail after)
+      (subst (λ f. Leads R f (option_map (λ (t : Trail). shown_files t.now.at) (d.trail after))) (tied before) (subst (λ f. Leads R (d.shown before) f) (tied after) led))
+
+  pub records-have : (P : Files → Type 0) (disk : D) → IfSome (d.shown disk) P → IfSome (d.trail disk) (λ t. P (shown_files t.now.at))
+  records-have P disk p = part-IfSome (λ (t : Trail). shown_files t.now.at) P (d.trail disk) (subst (λ f. IfSome f P) (tied disk) p)
+
+-- what a call makes of the moments, however it ended
+pub led-by : {T E : Type 0} (x y : Option Trail) (result : Result T E) (Done Failed S : Trail → Trail → Type 0) → LeadsBy result Done Failed x y →
+    ((a b : Trail) → Done a b → S a b) → ((a b : Trail) → Failed a b → S a b) → Leads S x y
+led-by x y (Ok v) Done Failed S led done failed = Leads-weaken led done
+led-by x y (Err e) Done Failed S led done failed = Leads-weaken led failed
+
+pub led-ok : {T E : Type 0} (x y : Option Trail) (result : Result T E) (Done Failed : Trail → Trail → Type 0) → LeadsBy result Done Failed x y → OnOk result (Leads Done x y)
+led-ok x y (Ok v) Done Failed led = led
+led-ok x y (Err e) Done Failed led = tt
+
+-- a call that keeps Q: one that changes nothing where it fails, and one that then may have changed a part
+module _ (file : FileName) (call : DiskCall) (R : Record → Record → Type 0) (Q : Record → Type 0) (keeps : (r q : Record) → Q r → R r q → Q q) where
+  pub adds-keeps : (a b : Trail) → Adds file call R a b → Q a.now.at → Passes Q a b
+  adds-keeps a b adds here = Adds-passes file call R Q a b (λ r step. keeps a.now.at r here step) adds
+
+  pub fails-keeps : (a b : Trail) → Fails file call R a b → Q a.now.at → Passes Q a b
+  fails-keeps a b fails here = Fails-passes file call R Q a b here (λ r step. keeps a.now.at r here step) fails

@@ -1,0 +1,54 @@
+// What the grammar skips.
+ghost use Rattle.std.specs.Prelude.{◌≡◌, ◌<◌, ◌+◌, ◌^◌, IfOk, length};
+ghost use Rattle.schema_spec.specs.Brackets.{bracketed, to_close, open_behind};
+ghost use Rattle.schema_sql.specs.Parses.{Parses};
+
+use crate::fronts::{misfit, sign};
+use crate::words::{is_sign, is_sql};
+use schema_spec::{SqlFault, Token};
+
+// Any tokens between two brackets.
+pub(crate) fn bracketed<'a>(
+    text: &[u8],
+    tokens: &'a [Token],
+) -> Result<(Token, &'a [Token]), SqlFault>
+    ensures parses { Parses text.now (bracketed text.now tokens.now) result }
+    ensures shorter { IfOk result (λ read. length read.1.now < length tokens.now) }
+{
+    let (_opening, rest) = sign(b'(', text, tokens)?;
+    to_close(text, rest)
+}
+
+// Any tokens up to the bracket that closes the open one.
+fn to_close<'a>(text: &[u8], tokens: &'a [Token]) -> Result<(Token, &'a [Token]), SqlFault>
+    ensures parses { Parses text.now (to_close text.now 1 tokens.now) result }
+    ensures shorter { IfOk result (λ read. length read.1.now < length tokens.now) }
+{
+    let mut depth = 1;
+    let mut left = tokens;
+    while let [token, rest @ ..] = left {
+        depth = open_behind(depth, text, *token);
+        if depth == 0 {
+            return Ok((*token, rest));
+        }
+        if !is_sql(text, *token) {
+            return Err(misfit(text, left));
+        }
+        left = rest;
+    }
+    Err(misfit(text, left))
+}
+
+// How many brackets are open behind a token.
+fn open_behind(depth: usize, text: &[u8], token: Token) -> usize
+    requires { depth + 1 < 2 ^ 64 }
+    ensures { result ≡ open_behind text.now depth token }
+{
+    if is_sign(b'(', text, token) {
+        depth + 1
+    } else if is_sign(b')', text, token) {
+        depth.saturating_sub(1)
+    } else {
+        depth
+    }
+}

@@ -1,0 +1,2 @@
+pub mod FrameIndex
+pub mod IndexLaws

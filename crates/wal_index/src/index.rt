@@ -1,0 +1,82 @@
+// The index of a log.
+ghost use Rattle.std.specs.Prelude.{◌≡◌, IfOk, length};
+ghost use Rattle.common_spec.specs.Reading.{OrNone, Reads};
+
+use std::alloc::{AllocError, Global};
+use std::marker::Model;
+use wal_codec::Log;
+
+/// The frames of a log by the numbers of their pages.
+#[derive(Drop)]
+pub struct WalIndex {
+    frames: Vec<u32>,
+    pages: u32,
+    backfilled: u64,
+}
+
+impl Model for WalIndex {
+    ghost use Rattle.wal_index.specs.FrameIndex.{FrameIndex};
+
+    ghost Value = { FrameIndex };
+
+    ghost view = { λ index. record { frames = index.frames.items; pages = index.pages; backfilled = index.backfilled } };
+}
+
+impl WalIndex {
+    ghost use Rattle.wal_index.specs.FrameIndex.{IsLastFrame};
+
+    /// The index of all valid frames of a log, of which none was copied yet.
+    pub fn of_log(alloc: Global, log: &Log) -> Result<WalIndex, AllocError>
+        ensures { IfOk result (λ index. index ≡ record { frames = log.now.frames; pages = log.now.commit_pages; backfilled = 0 }) }
+    {
+        let frames = log.frames.as_slice().to_vec(alloc)?;
+        Ok(WalIndex {
+            frames,
+            pages: log.commit_pages,
+            backfilled: 0,
+        })
+    }
+
+    /// The last frame of the page at or below the mark. Frames count from 1.
+    pub fn find(&self, page: u32, mark: u64) -> Option<u64>
+        ensures { Reads (OrNone (IsLastFrame self.now.frames page mark)) result }
+    {
+        let within = mark.min(self.frames.len() as u64) as usize;
+        let mut left = &self.frames[..within];
+        while let [front @ .., last] = left {
+            if *last == page {
+                return Some(left.len() as u64);
+            }
+            left = front;
+        }
+        None
+    }
+
+    /// The number of the last valid frame.
+    pub fn max_frame(&self) -> u64
+        ensures { result ≡ length self.now.frames }
+    {
+        self.frames.len() as u64
+    }
+
+    /// How many pages there are after the last commit, or 0 without a commit.
+    pub fn pages(&self) -> u32
+        ensures { result ≡ self.now.pages }
+    {
+        self.pages
+    }
+
+    /// How many frames were copied into the database file.
+    pub fn backfilled(&self) -> u64
+        ensures { result ≡ self.now.backfilled }
+    {
+        self.backfilled
+    }
+
+    /// Keeps how many frames were copied.
+    pub fn set_backfilled(&mut self, frame: u64)
+        ensures { self.new ≡ record self.old { backfilled = frame } }
+    {
+        self.backfilled = frame;
+    }
+}

@@ -1,0 +1,13 @@
+//! An index of the frames of a write-ahead log by the numbers of their pages (WAL-mode File Format, section 2).
+//!
+//! The layer above makes a `WalIndex` of a `Log`, and asks it by `find` for the last frame of a page at or below a read mark.
+//! Contracts see an index as the record `FrameIndex` of `specs/`, which also says which frame is the last of a page; `IndexLaws` has
+//! that there is one at most.
+//!
+//! The index is the list of the frames' page numbers, searched from the mark downwards.
+#![tactic(auto)]
+
+mod index;
+
+pub use index::WalIndex;
+pub use wal_codec::Log;

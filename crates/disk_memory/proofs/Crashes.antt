@@ -1,12 +1,12 @@
 -- What a replay leaves by a choice, name by name.
-use Rattle.std.proofs.Common.{◌≡◌, ℕ, zero, suc, ◌+◌, ◌-◌, ◌/◌, ◌%◌, ◌<◌, ◌≤◌, true, false, List, [], ◌∷◌, ◌++◌, length, map, get_or, slice_index_or, Option, Some, None, option_map, IfSome, refl, sym, ap, ◌∙◌, subst, inl, inr, arith, length-append}
+use Rattle.std.proofs.Common.{◌≡◌, ℕ, zero, suc, ◌+◌, ◌-◌, ◌/◌, ◌%◌, ◌<◌, ◌≤◌, true, List, [], ◌∷◌, ◌++◌, length, map, get_or, slice_index_or, Option, Some, None, option_map, IfSome, refl, sym, ap, ◌∙◌, subst, inl, inr, arith, length-append}
 use Rattle.std.proofs.Math.Nat.{mod-lt}
 use Rattle.std.proofs.lemmas.Bool.{cases_Bool, cases_lt}
 use Rattle.std.proofs.lemmas.Grind.{common_steps}
 use Rattle.std.proofs.lemmas.List.{get_or-map}
 use Rattle.common_spec.specs.MapsLaws.{set_at-itself, set_at-other}
 use Rattle.file_spec.specs.declared.FileName.{FileName}
-use Rattle.file_spec.specs.declared.FileName.TheVariants.{Target, Oal, Wal, Journal, Rbu, State, StateTemp}
+use Rattle.file_spec.specs.declared.FileName.TheVariants.{Target}
 use Rattle.file_spec.specs.Files.{Files, content, is_name, name_index, with_file}
 use Rattle.file_spec.specs.FilesLaws.{IsEquality-names, is_name-same}
 use Rattle.file_spec.specs.Records.{MayHold, Names, Record, Stored, all_names, at_rest, stable}

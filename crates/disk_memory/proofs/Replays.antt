@@ -7,8 +7,8 @@ use Rattle.common_spec.specs.Maps.{set_at}
 use Rattle.common_spec.specs.MapsLaws.{IsEquality-numbers, set_at-other}
 use Rattle.file_spec.specs.declared.FileName.{FileName}
 use Rattle.file_spec.specs.Files.{is_name}
-use Rattle.file_spec.specs.Records.{MayName, Names, Record, Stored, stable}
-use Rattle.file_spec.specs.RecordsLaws.{stored-here, stored-other}
+use Rattle.file_spec.specs.Records.{Names, Record, Stored, stable}
+use Rattle.file_spec.specs.RecordsLaws.{stored-here}
 use Rattle.file_spec.specs.Steps.{folder_synced, removed_at, renamed_at, synced_at, with_names, with_stored}
 use Rattle.file_spec.specs.Trails.{Trail}
 use Rattle.disk_memory.specs.declared.replay.Kept.{Kept}

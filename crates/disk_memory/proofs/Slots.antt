@@ -1,5 +1,5 @@
 -- Files that slots show.
-use Rattle.std.proofs.Common.{◌≡◌, Bool, true, false, if◌then◌else◌, List, [], ◌∷◌, ◌++◌, ℕ, Option, Some, None, unwrap_or, Result, Ok, Err, OnOk, OnErr, refl, sym, ap, ◌∙◌}
+use Rattle.std.proofs.Common.{◌≡◌, Bool, true, false, if◌then◌else◌, List, [], ◌∷◌, ◌++◌, ℕ, Option, Some, None, unwrap_or, refl, sym, ap, ◌∙◌}
 use Rattle.std.proofs.Math.Path.{fun_ext}
 use Rattle.std.specs.List.{All}
 use Rattle.std.proofs.lemmas.List.Elements.{All-push, All-same}
@@ -10,7 +10,7 @@ use Rattle.file_spec.specs.FilesLaws.{with_file-again, with_file-same}
 use Rattle.disk_memory.specs.declared.volume.Slot.{Slot}
 use Rattle.disk_memory.specs.declared.volume.Slot.TheVariants as slot
 use Rattle.disk_memory.specs.declared.volume.Step.{Step}
-use Rattle.disk_memory.specs.Volume.{IsShort, VolumeState, files_at, files_in, slot_at, slot_file, slot_files, with_step}
+use Rattle.disk_memory.specs.Volume.{IsShort, files_at, files_in, slot_at, slot_file, slot_files, with_step}
 
 -- a slot is put under a name
 pub slots-set : (start : Files) (slots new : List Slot) (name : FileName) (s : Slot) → slot_at new ≡ set_at is_name (slot_at slots) name s →

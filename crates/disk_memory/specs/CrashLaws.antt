@@ -1,5 +1,5 @@
 -- What a crash by a choice leaves is an image.
-use Rattle.std.proofs.Common.{◌≡◌, ◌⊎◌, ℕ, zero, suc, ◌+◌, ◌-◌, ◌%◌, ◌<◌, List, [], ◌∷◌, length, slice_index, slice_index_or, Option, Some, None, inl, inr, refl, sym, ◌∙◌, arith}
+use Rattle.std.proofs.Common.{◌≡◌, ◌⊎◌, ℕ, zero, suc, ◌+◌, ◌-◌, ◌%◌, ◌<◌, List, [], ◌∷◌, length, slice_index_or, Option, Some, None, inl, inr, refl, ◌∙◌, arith}
 use Rattle.file_spec.specs.Files.{Files}
 use Rattle.file_spec.specs.Records.{HoldsAt, IsAmong, IsImage, IsSound, MayHold, MayName, Names, Record, Stored}
 use Rattle.disk_memory.specs.Crash.{IsFilled, LeavesAt, LeavesBy, filling_of, kept_names, pending_byte}

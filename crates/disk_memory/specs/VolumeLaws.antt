@@ -1,18 +1,15 @@
 -- The trail of a disk in memory: each step goes by the relation of its call, and what is shown may be left.
-use Rattle.std.proofs.Common.{◌≡◌, ◌≢◌, ℕ, ◌+◌, ◌<◌, ◌≤◌, Bool, true, false, if◌then◌else◌, List, [], ◌∷◌, ◌++◌, length, Option, Some, None, option_map, inl, inr, ◌⊎◌, refl, sym, ap, ◌∙◌, subst, arith, length-append}
-use Rattle.std.proofs.lemmas.Bool.{cases_Bool}
+use Rattle.std.proofs.Common.{◌≡◌, ℕ, ◌<◌, Bool, true, false, if◌then◌else◌, List, [], ◌∷◌, ◌++◌, Option, Some, None, option_map, inl, inr, refl, sym, ap, ◌∙◌, subst, arith, length-append}
 use Rattle.common_spec.specs.Maps.{set_at}
-use Rattle.common_spec.specs.MapsLaws.{set_at-other}
-use Rattle.byte_fields.specs.Bytes.{resized, overwritten}
 use Rattle.file_spec.specs.declared.FileName.{FileName}
 use Rattle.file_spec.specs.declared.FileName.TheVariants.{Target, Oal, Wal, Journal, Rbu, State, StateTemp}
 use Rattle.file_spec.specs.declared.DiskCall.{DiskCall}
 use Rattle.file_spec.specs.declared.DiskCall.TheVariants as call
 use Rattle.file_spec.specs.Files.{Files, is_name, name_index, after_write, after_set_len, after_create, after_remove, after_rename}
-use Rattle.file_spec.specs.Records.{Stored, Names, Record, IsAmong, MayName, IsFresh, IsSound, at_rest, shown_files, stable}
+use Rattle.file_spec.specs.Records.{Stored, Names, Record, IsFresh, IsSound, at_rest, shown_files, stable}
 use Rattle.file_spec.specs.RecordsLaws.{rest-shown, rest-sound}
-use Rattle.file_spec.specs.Trails.{Trail, Adds, clock, moments}
-use Rattle.file_spec.specs.Steps.{AfterWrite, AfterSetLen, AfterSync, AfterCreate, AfterRemove, AfterRename, AfterFolderSync, Changes, ChangesAt, LengthSet, Written, folder_synced, removed_at, renamed_at, synced_at, with_names, with_new, with_stored}
+use Rattle.file_spec.specs.Trails.{Trail, Adds}
+use Rattle.file_spec.specs.Steps.{AfterWrite, AfterSetLen, AfterSync, AfterCreate, AfterRemove, AfterRename, AfterFolderSync, Changes, ChangesAt, LengthSet, Written, folder_synced, removed_at, renamed_at, synced_at, with_names}
 use Rattle.file_spec.specs.StepsLaws.{sound-changes, sound-length, sound-removed, sound-renamed, sound-same, sound-settled, sound-synced, sound-written}
 use Rattle.file_spec.specs.ShownLaws.{shown-changes, shown-created, shown-length, shown-removed, shown-renamed, shown-settled, shown-synced, shown-written}
 use Rattle.disk_memory.specs.declared.volume.Step.{Step}

@@ -1,4 +1,4 @@
-use Rattle.std.proofs.Common.{◌≡◌, ◌+◌, ap, ◌∙◌, subst, arith, length-append, length, [], ◌∷◌, ◌++◌, List, ℕ}
+use Rattle.std.proofs.Common.{◌+◌, ap, ◌∙◌, subst, length-append, length, [], ◌∷◌, List, ℕ}
 use Rattle.file_spec.specs.Records.{stable}
 use Rattle.disk_memory.specs.Volume.{files_at}
 use Rattle.disk_memory.specs.Replay.{Agrees}

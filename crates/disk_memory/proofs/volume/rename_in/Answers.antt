@@ -1,4 +1,4 @@
-use Rattle.std.proofs.Common.{◌≡◌, List, ℕ, Option, Some, None, option_map, is_some, true, false, refl, sym, ap, ◌∙◌}
+use Rattle.std.proofs.Common.{◌≡◌, List, ℕ, Option, Some, None, option_map, is_some, true, false, refl, sym, ◌∙◌}
 use Rattle.disk_memory.specs.Volume.{files_at}
 use Rattle.disk_memory.proofs.Slots.{slots-moved, slots-stay}
 use Rattle.disk_memory.proofs.volume.rename_in.Goals as goal

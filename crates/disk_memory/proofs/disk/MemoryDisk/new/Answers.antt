@@ -1,5 +1,4 @@
-use Rattle.std.proofs.Common.{ap, ◌∙◌}
-use Rattle.disk_memory.specs.Volume.{VolumeState, files_in}
+use Rattle.std.proofs.Common.{◌∙◌}
 use Rattle.disk_memory.specs.VolumeLaws.{first-shown}
 use Rattle.disk_memory.proofs.disk.MemoryDisk.new.Goals as goal
 

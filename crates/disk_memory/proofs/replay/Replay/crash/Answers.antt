@@ -1,4 +1,4 @@
-use Rattle.std.proofs.Common.{◌≡◌, ap, sym, ◌∙◌, subst, arith, ◌<◌, ◌≤◌, Option, ℕ}
+use Rattle.std.proofs.Common.{sym, ◌∙◌, subst, arith, ◌<◌, Option, ℕ}
 use Rattle.file_spec.specs.Files.{name_index}
 use Rattle.file_spec.specs.Records.{Names}
 use Rattle.disk_memory.specs.Volume.{files_at}

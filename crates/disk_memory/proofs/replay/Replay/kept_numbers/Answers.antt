@@ -1,4 +1,4 @@
-use Rattle.std.proofs.Common.{◌≡◌, ◌<◌, ◌≤◌, ◌+◌, ◌%◌, ap, sym, ◌∙◌, arith}
+use Rattle.std.proofs.Common.{◌<◌, ◌≤◌, ◌+◌, ◌%◌, ap, ◌∙◌, arith}
 use Rattle.disk_memory.specs.Replay.{numbers_at}
 use Rattle.disk_memory.proofs.Crashes.{kept-before, kept-last}
 use Rattle.disk_memory.proofs.replay.Replay.kept_numbers.Goals as goal

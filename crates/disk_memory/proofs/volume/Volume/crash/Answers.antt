@@ -1,7 +1,6 @@
 use Rattle.std.proofs.Common.{◌≡◌, List, ℕ, Option, sym, ap, ◌∙◌, subst}
 use Rattle.file_spec.specs.Trails.{Trail}
-use Rattle.disk_memory.specs.declared.volume.Step.{Step}
-use Rattle.disk_memory.specs.Volume.{VolumeState, files_at, first_trail, trail_from, trail_of}
+use Rattle.disk_memory.specs.Volume.{files_at, first_trail, trail_from, trail_of}
 use Rattle.disk_memory.specs.VolumeLaws.{fine-first, fine-from}
 use Rattle.disk_memory.specs.Crash.{LeavesBy}
 use Rattle.disk_memory.proofs.volume.Volume.crash.Goals as goal

@@ -5,13 +5,13 @@ use Rattle.std.proofs.lemmas.List.{take-append-le, take-replicate, drop_all, tak
 use Rattle.std.proofs.Math.Seq.{take-append-add}
 use Rattle.byte_fields.specs.Bytes.{overwritten}
 
-take_within : (old more : List ℕ) (at : ℕ) → at ≤ length old → take at (old ++ more) ≡ take at old ++ replicate (at - length old) 0
-take_within old more at h =
+take-within : (old more : List ℕ) (at : ℕ) → at ≤ length old → take at (old ++ more) ≡ take at old ++ replicate (at - length old) 0
+take-within old more at h =
     let none : at - length old ≡ 0 = omega arith in
     rw (take-append-le at old more, none) (sym (append-nil (take at old)))
 
-take_past : (old : List ℕ) (at n : ℕ) → at ≤ n → length old < at → take at (old ++ replicate (n - length old) 0) ≡ take at old ++ replicate (at - length old) 0
-take_past old at n within past =
+take-past : (old : List ℕ) (at n : ℕ) → at ≤ n → length old < at → take at (old ++ replicate (n - length old) 0) ≡ take at old ++ replicate (at - length old) 0
+take-past old at n within past =
     let split : at ≡ length old + (at - length old) = omega arith in
     let shorter : at - length old ≤ n - length old = omega arith in
     let whole : take at old ≡ old = take_all at old (omega arith) in
@@ -21,12 +21,12 @@ take_past old at n within past =
     ∙ ap (λ front. front ++ replicate (at - length old) 0) (sym whole)
 
 -- zeros that are cut, where there are enough of them
-take_grown : (old : List ℕ) (at n : ℕ) → at ≤ n → take at (old ++ replicate (n - length old) 0) ≡ take at old ++ replicate (at - length old) 0
-take_grown old at n within = elim (cases_lt (length old) at) [ inl past ↦ take_past old at n within past | inr h ↦ take_within old (replicate (n - length old) 0) at h ]
+take-grown : (old : List ℕ) (at n : ℕ) → at ≤ n → take at (old ++ replicate (n - length old) 0) ≡ take at old ++ replicate (at - length old) 0
+take-grown old at n within = elim (cases_lt (length old) at) [ inl past ↦ take-past old at n within past | inr h ↦ take-within old (replicate (n - length old) 0) at h ]
 
 -- behind the zeros stands nothing, and without zeros what stood there
-drop_grown : (old : List ℕ) (n : ℕ) → drop n (old ++ replicate (n - length old) 0) ≡ drop n old
-drop_grown old n =
+drop-grown : (old : List ℕ) (n : ℕ) → drop n (old ++ replicate (n - length old) 0) ≡ drop n old
+drop-grown old n =
     elim (cases_lt (length old) n) [
       | inl past ↦
           let whole : length (old ++ replicate (n - length old) 0) ≤ n = omega (arith, length-append old (replicate (n - length old) 0), length-replicate {A = ℕ}) in
@@ -35,9 +35,9 @@ drop_grown old n =
     ]
 
 -- the bytes that stand after a text was grown to hold them and then written over
-pub overwritten_by_parts : (old bytes grown new : List ℕ) (at : ℕ) → grown ≡ old ++ replicate (at + length bytes - length old) 0 → new ≡ take at grown ++ bytes ++ drop (at + length bytes) grown → new ≡ overwritten old at bytes
-overwritten_by_parts old bytes grown new at grows written =
+pub overwritten-by_parts : (old bytes grown new : List ℕ) (at : ℕ) → grown ≡ old ++ replicate (at + length bytes - length old) 0 → new ≡ take at grown ++ bytes ++ drop (at + length bytes) grown → new ≡ overwritten old at bytes
+overwritten-by_parts old bytes grown new at grows written =
     written
     ∙ ap (λ text. take at text ++ bytes ++ drop (at + length bytes) text) grows
-    ∙ ap (λ front. front ++ bytes ++ drop (at + length bytes) (old ++ replicate (at + length bytes - length old) 0)) (take_grown old at (at + length bytes) (omega arith))
-    ∙ ap (λ back. take at old ++ replicate (at - length old) 0 ++ bytes ++ back) (drop_grown old (at + length bytes))
+    ∙ ap (λ front. front ++ bytes ++ drop (at + length bytes) (old ++ replicate (at + length bytes - length old) 0)) (take-grown old at (at + length bytes) (omega arith))
+    ∙ ap (λ back. take at old ++ replicate (at - length old) 0 ++ bytes ++ back) (drop-grown old (at + length bytes))

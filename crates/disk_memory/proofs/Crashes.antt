@@ -83,14 +83,14 @@ if-some (Some x) f = f x refl
 -- a number that is kept is that of a file, which agrees with the record
 module _ (replay : Replay) (choice : ℕ) (t : Trail) (fine : IsFine t) (stands : StandsAt replay t) (numbers : Names) (kept : numbers ≡ kept_names choice t.now.at) (name : FileName) (id : ℕ)
     (is : numbers name ≡ Some id) where
-  named : kept_names choice t.now.at name ≡ Some id
-  named = ap (λ (m : Names). m name) (sym kept) ∙ is
+  kept_names-named : kept_names choice t.now.at name ≡ Some id
+  kept_names-named = ap (λ (m : Names). m name) (sym kept) ∙ is
 
   pub left-within : id < length replay.files.items
-  left-within = let less = fine.below (kept_names choice t.now.at) (kept-may choice t.now.at) name id named in omega (arith, less, stands.long)
+  left-within = let less = fine.below (kept_names choice t.now.at) (kept-may choice t.now.at) name id kept_names-named in omega (arith, less, stands.long)
 
   pub left-known : MayHold (t.now.at.stored id) (t.now.at.stored id).shown × Agrees (kept_at replay.files.items id) (t.now.at.stored id)
-  left-known = (fine.sound.shows id, stands.fits.agree (kept_names choice t.now.at) (kept-may choice t.now.at) name id named)
+  left-known = (fine.sound.shows id, stands.fits.agree (kept_names choice t.now.at) (kept-may choice t.now.at) name id kept_names-named)
 
 -- the files that were given
 pub first-agree : (files : Files) (kept : List Kept) → ((name : FileName) → Agrees (kept_at kept (name_index name)) (stable (content files name))) →

@@ -36,24 +36,24 @@ first_of-assoc None b c = refl
 first_of-assoc (Some x) b c = refl
 
 -- the last entry is put in its place
-first_entries_step : (entries : List Entry) (entry : Entry) (before after : Files) → after ≡ with_file before entry.0 (Some entry.1) → (name : FileName) → first_of (first_entries entries name) (after name) ≡ first_of (first_entries (entries ++ entry ∷ []) name) (before name)
-first_entries_step entries entry before after puts name =
+first_entries-one_more : (entries : List Entry) (entry : Entry) (before after : Files) → after ≡ with_file before entry.0 (Some entry.1) → (name : FileName) → first_of (first_entries entries name) (after name) ≡ first_of (first_entries (entries ++ entry ∷ []) name) (before name)
+first_entries-one_more entries entry before after puts name =
     ap (λ files. first_of (first_entries entries name) (files name)) puts
     ∙ ap (first_of (first_entries entries name)) (first_of-cond (is_name entry.0 name) entry.1 (before name))
     ∙ sym (first_of-assoc (first_entries entries name) (cond (is_name entry.0 name) (Some entry.1) None) (before name))
     ∙ ap (λ first. first_of first (before name)) (sym (first_entries-push entries entry name))
 
 -- the same where the entries are seen by view, and the last is taken off
-pub places_step : {X : Type 0} (view : X → Entry) (all rest : List X) (x : X) (file : List ℕ) (before after : Files) → all ≡ rest ++ x ∷ [] → file ≡ (view x).1 → after ≡ with_file before (view x).0 (Some file) → (name : FileName) → first_of (first_entries (map view rest) name) (after name) ≡ first_of (first_entries (map view all) name) (before name)
-places_step view all rest x file before after split same puts name =
-    first_entries_step (map view rest) (view x) before after (puts ∙ ap (λ bytes. with_file before (view x).0 (Some bytes)) same) name
+pub first_entries-last_taken : {X : Type 0} (view : X → Entry) (all rest : List X) (x : X) (file : List ℕ) (before after : Files) → all ≡ rest ++ x ∷ [] → file ≡ (view x).1 → after ≡ with_file before (view x).0 (Some file) → (name : FileName) → first_of (first_entries (map view rest) name) (after name) ≡ first_of (first_entries (map view all) name) (before name)
+first_entries-last_taken view all rest x file before after split same puts name =
+    first_entries-one_more (map view rest) (view x) before after (puts ∙ ap (λ bytes. with_file before (view x).0 (Some bytes)) same) name
     ∙ ap (λ entries. first_of (first_entries entries name) (before name)) (sym (ap (map view) split ∙ map-append view rest (x ∷ [])))
 
 -- where no file was, removing it changes nothing
-without_missing : (places : List (Option (List ℕ))) (from other : FileName) → files_at places from ≡ None → with_file (files_at places) from None other ≡ files_at places other
-without_missing places from other missing = grind (arith, common_steps, nat_tests)
+with_file-of_missing : (places : List (Option (List ℕ))) (from other : FileName) → files_at places from ≡ None → with_file (files_at places) from None other ≡ files_at places other
+with_file-of_missing places from other missing = grind (arith, common_steps, nat_tests)
 
 -- a rename of a missing file leaves what removing it leaves
-pub rename_of_missing : (places : List (Option (List ℕ))) (from to : FileName) → files_at places from ≡ None → with_file (files_at places) from None ≡ after_rename (files_at places) from to
-rename_of_missing places from to missing =
-    fun_ext (λ other. without_missing places from other missing) ∙ ap (moved (files_at places) from to) (sym missing)
+pub after_rename-of_missing : (places : List (Option (List ℕ))) (from to : FileName) → files_at places from ≡ None → with_file (files_at places) from None ≡ after_rename (files_at places) from to
+after_rename-of_missing places from to missing =
+    fun_ext (λ other. with_file-of_missing places from other missing) ∙ ap (moved (files_at places) from to) (sym missing)

@@ -150,39 +150,39 @@ numbered-below name fresh id n (Some k) names names_after past past_after number
 numbered-below name fresh id n None names names_after past past_after numbered less below = omega (arith, numbered.0, less)
 
 module _ (replay added : Replay) (fresh : ℕ) (t : Trail) (adds : AddsFile replay added fresh) (fine : IsFine t) (stands : StandsAt replay t) where
-  long : length added.files.items ≡ fresh_number t + 1
-  long = let l : length (replay.files.items ++ adds.kept ∷ []) ≡ length replay.files.items + 1 = length-append replay.files.items (adds.kept ∷ []) in
+  length-added : length added.files.items ≡ fresh_number t + 1
+  length-added = let l : length (replay.files.items ++ adds.kept ∷ []) ≡ length replay.files.items + 1 = length-append replay.files.items (adds.kept ∷ []) in
       ap length adds.files ∙ l ∙ ap (λ k. k + 1) stands.long
 
-  names_added : names_of added ≡ names_of replay
-  names_added = ap numbers_at adds.names
+  names_of-added : names_of added ≡ names_of replay
+  names_of-added = ap numbers_at adds.names
 
-  before_added : before_of added ≡ before_of replay
-  before_added = ap (λ (v : Vec (List (Option ℕ)) Global). map numbers_at v.items) adds.before
+  before_of-added : before_of added ≡ before_of replay
+  before_of-added = ap (λ (v : Vec (List (Option ℕ)) Global). map numbers_at v.items) adds.before
 
-  fresh_is : fresh ≡ fresh_number t
-  fresh_is = adds.number_is ∙ stands.long
+  fresh-is_next : fresh ≡ fresh_number t
+  fresh-is_next = adds.number_is ∙ stands.long
 
   pub named-within : (name : FileName) (id : ℕ) → names_of added name ≡ Some id → id < length added.files.items
   named-within name id is =
-      let less : id < fresh_number t = fine.below t.now.at.names (inl refl) name id (ap (λ (m : Names). m name) (sym (names_added ∙ stands.fits.names)) ∙ is) in
-      omega (arith, less, long)
+      let less : id < fresh_number t = fine.below t.now.at.names (inl refl) name id (ap (λ (m : Names). m name) (sym (names_of-added ∙ stands.fits.names)) ∙ is) in
+      omega (arith, less, length-added)
 
   pub numbered-within : (name : FileName) (id : ℕ) (names_after : Names) (past_after : List Names)
       → IsNumbered name fresh id (names_of added name) (names_of added) names_after (before_of added) past_after → id < length added.files.items
   numbered-within name id names_after past_after numbered =
       numbered-below name fresh id (length added.files.items) (names_of added name) (names_of added) names_after (before_of added) past_after numbered
-      (omega (arith, fresh_is, long)) (named-within name)
+      (omega (arith, fresh-is_next, length-added)) (named-within name)
 
-  fits_added : Fits replay.files.items (names_of added) (before_of added) t.now.at
-  fits_added = subst (λ (b : List Names). Fits replay.files.items (names_of added) b t.now.at) (sym before_added)
-      (subst (λ (m : Names). Fits replay.files.items m (before_of replay) t.now.at) (sym names_added) stands.fits)
+  fits-added : Fits replay.files.items (names_of added) (before_of added) t.now.at
+  fits-added = subst (λ (b : List Names). Fits replay.files.items (names_of added) b t.now.at) (sym before_of-added)
+      (subst (λ (m : Names). Fits replay.files.items m (before_of replay) t.now.at) (sym names_of-added) stands.fits)
 
-  others : (files after : List Kept) (id : ℕ) (kept : Kept) → after ≡ set files id kept → (i : ℕ) → i ≢ id → kept_at after i ≡ kept_at files i
-  others files after id kept is i ne = ap (λ (l : List Kept). kept_at l i) is ∙ get_or-set_other files id i kept nothing_kept ne
+  kept_at-others : (files after : List Kept) (id : ℕ) (kept : Kept) → after ≡ set files id kept → (i : ℕ) → i ≢ id → kept_at after i ≡ kept_at files i
+  kept_at-others files after id kept is i ne = ap (λ (l : List Kept). kept_at l i) is ∙ get_or-set_other files id i kept nothing_kept ne
 
-  here : (files after : List Kept) (id : ℕ) (kept : Kept) → after ≡ set files id kept → id < length files → kept_at after id ≡ kept
-  here files after id kept is less = ap (λ (l : List Kept). kept_at l id) is ∙ get_or-set_same files id kept nothing_kept less
+  kept_at-here : (files after : List Kept) (id : ℕ) (kept : Kept) → after ≡ set files id kept → id < length files → kept_at after id ≡ kept
+  kept_at-here files after id kept is less = ap (λ (l : List Kept). kept_at l id) is ∙ get_or-set_same files id kept nothing_kept less
 
   -- the file of a name changes
   pub stands-changed : (s : Step) (change : Stored → Stored) (name : FileName) (id : ℕ) (after : Replay)
@@ -191,11 +191,11 @@ module _ (replay added : Replay) (fresh : ℕ) (t : Trail) (adds : AddsFile repl
       → ((st : Stored) → Agrees (kept_at added.files.items id) st → Agrees (kept_at after.files.items id) (change st))
       → after_step (fresh_number t) s t.now.at ≡ changed_at change name (fresh_number t) (t.now.at.names name) t.now.at → StandsAt after (gone_on t s)
   stands-changed s change name id after numbered same_length same_files changes is =
-      stands-next t s after (same_length ∙ long)
+      stands-next t s after (same_length ∙ length-added)
       (subst (Fits after.files.items (names_of after) (before_of after)) (sym is)
-      (fits-changed t.now.at replay.files.items (names_of added) (before_of added) (fresh_number t) stands.long fine.below fits_added adds.kept adds.empty change name id
+      (fits-changed t.now.at replay.files.items (names_of added) (before_of added) (fresh_number t) stands.long fine.below fits-added adds.kept adds.empty change name id
       after.files.items (names_of after) (before_of after)
-      (subst (λ k. IsNumbered name k id (names_of added name) (names_of added) (names_of after) (before_of added) (before_of after)) fresh_is numbered)
+      (subst (λ k. IsNumbered name k id (names_of added name) (names_of added) (names_of after) (before_of added) (before_of after)) fresh-is_next numbered)
       (λ i ne. same_files i ne ∙ ap (λ (l : List Kept). kept_at l i) adds.files)
       (λ st agrees. changes st (subst (λ (l : List Kept). Agrees (kept_at l id) st) (sym adds.files) agrees))))
 
@@ -208,9 +208,9 @@ module _ (replay added : Replay) (fresh : ℕ) (t : Trail) (adds : AddsFile repl
   stands-set s change name id numbered_at files kept numbered same sets changes is =
       let set_in : files.items ≡ set added.files.items id kept = sets ∙ ap (λ (v : Vec Kept Global). set v.items id kept) same in
       stands-changed s change name id (record { alloc = numbered_at.alloc; files = files; names = numbered_at.names; before = numbered_at.before }) numbered
-      (ap length set_in ∙ length-set added.files.items id kept) (others added.files.items files.items id kept set_in)
+      (ap length set_in ∙ length-set added.files.items id kept) (kept_at-others added.files.items files.items id kept set_in)
       (λ st agrees. subst (λ (k : Kept). Agrees k (change st))
-      (sym (here added.files.items files.items id kept set_in (numbered-within name id (names_of numbered_at) (before_of numbered_at) numbered)))
+      (sym (kept_at-here added.files.items files.items id kept set_in (numbered-within name id (names_of numbered_at) (before_of numbered_at) numbered)))
       (changes st (subst (λ (v : Vec Kept Global). Agrees (kept_at v.items id) st) (sym same) agrees)))
       is
 
@@ -222,10 +222,10 @@ module _ (replay added : Replay) (fresh : ℕ) (t : Trail) (adds : AddsFile repl
       (λ st agrees. subst (λ (v : Vec Kept Global). Agrees (kept_at v.items id) st) (sym same) agrees) refl
 
   -- a step left all but the names
-  stays : (s : Step) (after : Replay) → after.files ≡ added.files
+  stands-files_same : (s : Step) (after : Replay) → after.files ≡ added.files
       → Fits (replay.files.items ++ adds.kept ∷ []) (names_of after) (before_of after) (after_step (fresh_number t) s t.now.at) → StandsAt after (gone_on t s)
-  stays s after same fits =
-      stands-next t s after (ap (λ (v : Vec Kept Global). length v.items) same ∙ long)
+  stands-files_same s after same fits =
+      stands-next t s after (ap (λ (v : Vec Kept Global). length v.items) same ∙ length-added)
       (subst (λ (l : List Kept). Fits l (names_of after) (before_of after) (after_step (fresh_number t) s t.now.at)) (sym (ap (λ (v : Vec Kept Global). v.items) same ∙ adds.files)) fits)
 
   pub stands-synced : (name : FileName) (id : ℕ) (files : Vec Kept Global) (kept : Kept) → names_of added name ≡ Some id → files.items ≡ set added.files.items id kept
@@ -233,47 +233,47 @@ module _ (replay added : Replay) (fresh : ℕ) (t : Trail) (adds : AddsFile repl
       → StandsAt (record { alloc = added.alloc; files = files; names = added.names; before = added.before }) (gone_on t (step.Sync name))
   stands-synced name id files kept is sets syncs =
       stands-next t (step.Sync name) (record { alloc = added.alloc; files = files; names = added.names; before = added.before })
-      (ap length sets ∙ length-set added.files.items id kept ∙ long)
-      (fits-synced t.now.at replay.files.items (names_of added) (before_of added) (fresh_number t) stands.long fine.below fits_added adds.kept adds.empty id files.items
-      (λ i ne. others added.files.items files.items id kept sets i ne ∙ ap (λ (l : List Kept). kept_at l i) adds.files)
-      (λ st agrees. subst (λ (k : Kept). Agrees k (stable st.shown)) (sym (here added.files.items files.items id kept sets (named-within name id is)))
+      (ap length sets ∙ length-set added.files.items id kept ∙ length-added)
+      (fits-synced t.now.at replay.files.items (names_of added) (before_of added) (fresh_number t) stands.long fine.below fits-added adds.kept adds.empty id files.items
+      (λ i ne. kept_at-others added.files.items files.items id kept sets i ne ∙ ap (λ (l : List Kept). kept_at l i) adds.files)
+      (λ st agrees. subst (λ (k : Kept). Agrees k (stable st.shown)) (sym (kept_at-here added.files.items files.items id kept sets (named-within name id is)))
       (syncs st (subst (λ (l : List Kept). Agrees (kept_at l id) st) (sym adds.files) agrees)))
       name is)
 
   pub stands-unsynced : (name : FileName) → names_of added name ≡ None → StandsAt added (gone_on t (step.Sync name))
   stands-unsynced name is =
-      stays (step.Sync name) added refl (fits-unsynced t.now.at replay.files.items (names_of added) (before_of added) (fresh_number t) stands.long fine.below fits_added adds.kept adds.empty name is)
+      stands-files_same (step.Sync name) added refl (fits-unsynced t.now.at replay.files.items (names_of added) (before_of added) (fresh_number t) stands.long fine.below fits-added adds.kept adds.empty name is)
 
   pub stands-unremoved : (name : FileName) → names_of added name ≡ None → StandsAt added (gone_on t (step.Remove name))
   stands-unremoved name is =
-      stays (step.Remove name) added refl (fits-unremoved t.now.at replay.files.items (names_of added) (before_of added) (fresh_number t) stands.long fine.below fits_added adds.kept adds.empty name is)
+      stands-files_same (step.Remove name) added refl (fits-unremoved t.now.at replay.files.items (names_of added) (before_of added) (fresh_number t) stands.long fine.below fits-added adds.kept adds.empty name is)
 
   pub stands-unrenamed : (from to : FileName) → names_of added from ≡ None → StandsAt added (gone_on t (step.Rename from to))
   stands-unrenamed from to is =
-      stays (step.Rename from to) added refl (fits-unrenamed t.now.at replay.files.items (names_of added) (before_of added) (fresh_number t) stands.long fine.below fits_added adds.kept adds.empty from to is)
+      stands-files_same (step.Rename from to) added refl (fits-unrenamed t.now.at replay.files.items (names_of added) (before_of added) (fresh_number t) stands.long fine.below fits-added adds.kept adds.empty from to is)
 
-  pushed_before : (past : Vec (List (Option ℕ)) Global) → past.items ≡ added.before.items ++ added.names ∷ [] → map numbers_at past.items ≡ before_of added ++ names_of added ∷ []
-  pushed_before past is = ap (map numbers_at) is ∙ map-append numbers_at added.before.items (added.names ∷ [])
+  before_of-pushed : (past : Vec (List (Option ℕ)) Global) → past.items ≡ added.before.items ++ added.names ∷ [] → map numbers_at past.items ≡ before_of added ++ names_of added ∷ []
+  before_of-pushed past is = ap (map numbers_at) is ∙ map-append numbers_at added.before.items (added.names ∷ [])
 
   pub stands-removed : (name : FileName) (id : ℕ) (numbers : List (Option ℕ)) (past : Vec (List (Option ℕ)) Global) → names_of added name ≡ Some id
       → numbers_at numbers ≡ set_at is_name (names_of added) name None → past.items ≡ added.before.items ++ added.names ∷ []
       → StandsAt (record { alloc = added.alloc; files = added.files; names = numbers; before = past }) (gone_on t (step.Remove name))
   stands-removed name id numbers past is gone pushed =
-      stays (step.Remove name) (record { alloc = added.alloc; files = added.files; names = numbers; before = past }) refl
-      (fits-removed t.now.at replay.files.items (names_of added) (before_of added) (fresh_number t) stands.long fine.below fits_added adds.kept adds.empty id
-      (numbers_at numbers) (map numbers_at past.items) name is gone (pushed_before past pushed))
+      stands-files_same (step.Remove name) (record { alloc = added.alloc; files = added.files; names = numbers; before = past }) refl
+      (fits-removed t.now.at replay.files.items (names_of added) (before_of added) (fresh_number t) stands.long fine.below fits-added adds.kept adds.empty id
+      (numbers_at numbers) (map numbers_at past.items) name is gone (before_of-pushed past pushed))
 
   pub stands-renamed : (from to : FileName) (id : ℕ) (numbers : List (Option ℕ)) (past : Vec (List (Option ℕ)) Global) → names_of added from ≡ Some id
       → numbers_at numbers ≡ set_at is_name (set_at is_name (names_of added) from None) to (Some id) → past.items ≡ added.before.items ++ added.names ∷ []
       → StandsAt (record { alloc = added.alloc; files = added.files; names = numbers; before = past }) (gone_on t (step.Rename from to))
   stands-renamed from to id numbers past is moved pushed =
-      stays (step.Rename from to) (record { alloc = added.alloc; files = added.files; names = numbers; before = past }) refl
-      (fits-renamed t.now.at replay.files.items (names_of added) (before_of added) (fresh_number t) stands.long fine.below fits_added adds.kept adds.empty id
-      (numbers_at numbers) (map numbers_at past.items) from to is moved (pushed_before past pushed))
+      stands-files_same (step.Rename from to) (record { alloc = added.alloc; files = added.files; names = numbers; before = past }) refl
+      (fits-renamed t.now.at replay.files.items (names_of added) (before_of added) (fresh_number t) stands.long fine.below fits-added adds.kept adds.empty id
+      (numbers_at numbers) (map numbers_at past.items) from to is moved (before_of-pushed past pushed))
 
   pub stands-settled : (past : Vec (List (Option ℕ)) Global) → past.items ≡ []
       → StandsAt (record { alloc = added.alloc; files = added.files; names = added.names; before = past }) (gone_on t step.SyncFolder)
   stands-settled past none =
-      stays step.SyncFolder (record { alloc = added.alloc; files = added.files; names = added.names; before = past }) refl
+      stands-files_same step.SyncFolder (record { alloc = added.alloc; files = added.files; names = added.names; before = past }) refl
       (subst (λ (b : List Names). Fits (replay.files.items ++ adds.kept ∷ []) (names_of added) b (folder_synced t.now.at)) (sym (ap (map numbers_at) none))
-      (fits-settled t.now.at replay.files.items (names_of added) (before_of added) (fresh_number t) stands.long fine.below fits_added adds.kept adds.empty))
+      (fits-settled t.now.at replay.files.items (names_of added) (before_of added) (fresh_number t) stands.long fine.below fits-added adds.kept adds.empty))

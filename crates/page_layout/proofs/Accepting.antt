@@ -18,8 +18,8 @@ use Rattle.page_layout.specs.declared.reading.PageFault.{PageFault}
 use Rattle.page_layout.specs.declared.reading.PageFault.TheVariants.{BadPage, Memory}
 use Rattle.page_layout.specs.Views.{HasViews, HasKind, IsRefused, HasPageFault, IsViewAt, AreViews}
 use Rattle.page_layout.specs.ViewsLaws.{view-size, kind_byte-same}
-use Rattle.page_layout.proofs.Viewing.{view_of, cell_of, same_views}
-use Rattle.page_layout.proofs.Marking.{push_all}
+use Rattle.page_layout.proofs.Viewing.{IsViewAt-of_cell, IsCellAt-of_view, AreViews-one}
+use Rattle.page_layout.proofs.Marking.{all-one_more}
 
 -- the cells that views are of
 abbrev pub viewed : List ℕ → ℕ → PageKind → ℕ → List CellView → List (List ℕ)
@@ -45,25 +45,25 @@ right_in TableInterior page header = number_at (header + 8) 4 page
 right_in IndexLeaf page header = 0
 right_in IndexInterior page header = number_at (header + 8) 4 page
 
-has_right : (kind : PageKind) (page : List ℕ) (header : ℕ) → RightChild kind page header (right_in kind page header)
+RightChild-right_in : (kind : PageKind) (page : List ℕ) (header : ℕ) → RightChild kind page header (right_in kind page header)
 unfolding right_in
-has_right TableLeaf page header = refl
-has_right TableInterior page header = refl
-has_right IndexLeaf page header = refl
-has_right IndexInterior page header = refl
+RightChild-right_in TableLeaf page header = refl
+RightChild-right_in TableInterior page header = refl
+RightChild-right_in IndexLeaf page header = refl
+RightChild-right_in IndexInterior page header = refl
 
-apart_same : (p m q n a b : ℕ) → m ≡ a → n ≡ b → AreApart p m q n → AreApart p a q b
-apart_same p m q n a b e f (inl x) = inl (omega arith)
-apart_same p m q n a b e f (inr x) = inr (omega arith)
+AreApart-same_sizes : (p m q n a b : ℕ) → m ≡ a → n ≡ b → AreApart p m q n → AreApart p a q b
+AreApart-same_sizes p m q n a b e f (inl x) = inl (omega arith)
+AreApart-same_sizes p m q n a b e f (inr x) = inr (omega arith)
 
 some_view : CellView
 some_view = record { size = 0; rowid = pos 0; child = 0; payload = 0; local_at = 0; local = 0; overflow = 0 }
 
 module _ (page : List ℕ) (number usable : ℕ) (whole : usable ≤ length page) where
   -- views of as many cells as the page counts
-  pub accepted : (kind : PageKind) (count : ℕ) (views : List CellView) → HasKind page number kind → cell_count page number ≡ count → length views ≡ count
+  pub AreViews-has_views : (kind : PageKind) (count : ℕ) (views : List CellView) → HasKind page number kind → cell_count page number ≡ count → length views ≡ count
       → AreViews page number usable kind count views → HasViews page number usable views
-  accepted kind count views has counts many are =
+  AreViews-has_views kind count views has counts many are =
       let cells = viewed page number kind 0 views in
       let long : length cells ≡ length views = length-viewed page number kind 0 views in
       let all : length cells ≡ count = long ∙ many in
@@ -81,12 +81,12 @@ module _ (page : List ℕ) (number usable : ℕ) (whole : usable ≤ length page
           each = λ k low.
               let below : k < length views = omega arith in
               subst⁻¹ (λ (n : ℕ). IsCellAt page number usable kind n k (get_or cells k [])) all
-              (subst⁻¹ (IsCellAt page number usable kind count k) (at k below) (cell_of page number usable kind whole count k (get_or views k some_view) (are.each k some_view below)));
+              (subst⁻¹ (IsCellAt page number usable kind count k) (at k below) (IsCellAt-of_view page number usable kind whole count k (get_or views k some_view) (are.each k some_view below)));
           apart = λ j k order low.
               let below : k < length views = omega arith in
               let first : j < length views = omega arith in
-              apart_same _ _ _ _ _ _ (sym (ap (max 4) (size j first))) (sym (ap (max 4) (size k below))) (are.apart j k some_view order below);
-          right_child = has_right kind page (header_place number);
+              AreApart-same_sizes _ _ _ _ _ _ (sym (ap (max 4) (size j first))) (sym (ap (max 4) (size k below))) (are.apart j k some_view order below);
+          right_child = RightChild-right_in kind page (header_place number);
         };
         many = sym long;
         each = λ k d low.
@@ -100,12 +100,12 @@ module _ (page : List ℕ) (number usable : ℕ) (whole : usable ≤ length page
       zero_more k = omega arith
 
   -- the views of an accepted page
-  pub views_are : (views : List CellView) (has : HasViews page number usable views) → AreViews page number usable has.kind (length has.cells) views
-  views_are views has = record {
+  pub HasViews-are_views : (views : List CellView) (has : HasViews page number usable views) → AreViews page number usable has.kind (length has.cells) views
+  HasViews-are_views views has = record {
     each = λ k d low. at k d (omega (arith, low, has.many));
     apart = λ j k d order low.
         let below : k < length has.cells = omega (arith, low, has.many) in
-        apart_same _ _ _ _ _ _ (ap (max 4) (sym (size j d (omega arith)))) (ap (max 4) (sym (size k d below))) (has.is_page.apart j k order below);
+        AreApart-same_sizes _ _ _ _ _ _ (ap (max 4) (sym (size j d (omega arith)))) (ap (max 4) (sym (size k d below))) (has.is_page.apart j k order below);
   }
     where
       size : (k : ℕ) (d : CellView) → k < length has.cells → (get_or views k d).size ≡ length (get_or has.cells k [])
@@ -114,68 +114,68 @@ module _ (page : List ℕ) (number usable : ℕ) (whole : usable ≤ length page
       at : (k : ℕ) (d : CellView) → k < length has.cells → IsViewAt page number usable has.kind (length has.cells) k (get_or views k d)
       at k d low =
           let was = has.is_page.each k low in
-          view_of page number usable has.kind whole (length has.cells) k (get_or has.cells k [])
+          IsViewAt-of_cell page number usable has.kind whole (length has.cells) k (get_or has.cells k [])
           (record { view = get_or views k d; is_cell = has.each k d low; stands = was.stands; behind_array = was.behind_array; inside = was.inside })
 
   -- a page has one list of views
-  one_list : IsOne (HasViews page number usable)
-  one_list a b one two =
+  HasViews-one : IsOne (HasViews page number usable)
+  HasViews-one a b one two =
       let kinds : one.kind ≡ two.kind = kind_byte-same one.kind two.kind (sym one.is_page.kind_is ∙ two.is_page.kind_is) in
       let counts : length two.cells ≡ length one.cells = sym two.is_page.count ∙ one.is_page.count in
-      let others = subst⁻¹ (λ (k : PageKind). AreViews page number usable k (length two.cells) b) kinds (views_are b two) in
+      let others = subst⁻¹ (λ (k : PageKind). AreViews page number usable k (length two.cells) b) kinds (HasViews-are_views b two) in
       let there = subst (λ (n : ℕ). AreViews page number usable one.kind n b) counts others in
-      same_views page number usable one.kind whole (length one.cells) a b one.many (two.many ∙ counts) (views_are a one) there
+      AreViews-one page number usable one.kind whole (length one.cells) a b one.many (two.many ∙ counts) (HasViews-are_views a one) there
 
-  one_rule : (a b : Rule) → IsRefused page number usable a → IsRefused page number usable b → a ≡ b
-  one_rule rule.Kind rule.Kind p q = refl
-  one_rule rule.Kind rule.Cells p q = absurd (p q.0.0 q.0.1)
-  one_rule rule.Cells rule.Kind p q = absurd (q p.0.0 p.0.1)
-  one_rule rule.Cells rule.Cells p q = refl
-  one_rule rule.Kind rule.Child p q = absurd q
-  one_rule rule.Kind rule.Depth p q = absurd q
-  one_rule rule.Kind rule.Empty p q = absurd q
-  one_rule rule.Kind rule.Chain p q = absurd q
-  one_rule rule.Kind rule.Trunk p q = absurd q
-  one_rule rule.Kind rule.Count p q = absurd q
-  one_rule rule.Kind rule.Record p q = absurd q
-  one_rule rule.Cells rule.Child p q = absurd q
-  one_rule rule.Cells rule.Depth p q = absurd q
-  one_rule rule.Cells rule.Empty p q = absurd q
-  one_rule rule.Cells rule.Chain p q = absurd q
-  one_rule rule.Cells rule.Trunk p q = absurd q
-  one_rule rule.Cells rule.Count p q = absurd q
-  one_rule rule.Cells rule.Record p q = absurd q
-  one_rule rule.Child b p q = absurd p
-  one_rule rule.Depth b p q = absurd p
-  one_rule rule.Empty b p q = absurd p
-  one_rule rule.Chain b p q = absurd p
-  one_rule rule.Trunk b p q = absurd p
-  one_rule rule.Count b p q = absurd p
-  one_rule rule.Record b p q = absurd p
+  IsRefused-one : (a b : Rule) → IsRefused page number usable a → IsRefused page number usable b → a ≡ b
+  IsRefused-one rule.Kind rule.Kind p q = refl
+  IsRefused-one rule.Kind rule.Cells p q = absurd (p q.0.0 q.0.1)
+  IsRefused-one rule.Cells rule.Kind p q = absurd (q p.0.0 p.0.1)
+  IsRefused-one rule.Cells rule.Cells p q = refl
+  IsRefused-one rule.Kind rule.Child p q = absurd q
+  IsRefused-one rule.Kind rule.Depth p q = absurd q
+  IsRefused-one rule.Kind rule.Empty p q = absurd q
+  IsRefused-one rule.Kind rule.Chain p q = absurd q
+  IsRefused-one rule.Kind rule.Trunk p q = absurd q
+  IsRefused-one rule.Kind rule.Count p q = absurd q
+  IsRefused-one rule.Kind rule.Record p q = absurd q
+  IsRefused-one rule.Cells rule.Child p q = absurd q
+  IsRefused-one rule.Cells rule.Depth p q = absurd q
+  IsRefused-one rule.Cells rule.Empty p q = absurd q
+  IsRefused-one rule.Cells rule.Chain p q = absurd q
+  IsRefused-one rule.Cells rule.Trunk p q = absurd q
+  IsRefused-one rule.Cells rule.Count p q = absurd q
+  IsRefused-one rule.Cells rule.Record p q = absurd q
+  IsRefused-one rule.Child b p q = absurd p
+  IsRefused-one rule.Depth b p q = absurd p
+  IsRefused-one rule.Empty b p q = absurd p
+  IsRefused-one rule.Chain b p q = absurd p
+  IsRefused-one rule.Trunk b p q = absurd p
+  IsRefused-one rule.Count b p q = absurd p
+  IsRefused-one rule.Record b p q = absurd p
 
-  one_fault : IsOne (HasPageFault page number usable)
-  one_fault (BadPage a) (BadPage b) p q = ap BadPage (one_rule a b p q)
-  one_fault (BadPage a) (Memory b) p q = absurd q
-  one_fault (Memory a) b p q = absurd p
+  HasPageFault-one : IsOne (HasPageFault page number usable)
+  HasPageFault-one (BadPage a) (BadPage b) p q = ap BadPage (IsRefused-one a b p q)
+  HasPageFault-one (BadPage a) (Memory b) p q = absurd q
+  HasPageFault-one (Memory a) b p q = absurd p
 
-  not_both : (views : List CellView) (fault : PageFault) → HasViews page number usable views → ¬ HasPageFault page number usable fault
-  not_both views (BadPage rule.Kind) has f = f has.kind has.is_page.kind_is
-  not_both views (BadPage rule.Cells) has f = f.1 has.kind has.cells has.right has.is_page
-  not_both views (BadPage rule.Child) has f = f
-  not_both views (BadPage rule.Depth) has f = f
-  not_both views (BadPage rule.Empty) has f = f
-  not_both views (BadPage rule.Chain) has f = f
-  not_both views (BadPage rule.Trunk) has f = f
-  not_both views (BadPage rule.Count) has f = f
-  not_both views (BadPage rule.Record) has f = f
-  not_both views (Memory e) has f = f
+  HasViews-no_fault : (views : List CellView) (fault : PageFault) → HasViews page number usable views → ¬ HasPageFault page number usable fault
+  HasViews-no_fault views (BadPage rule.Kind) has f = f has.kind has.is_page.kind_is
+  HasViews-no_fault views (BadPage rule.Cells) has f = f.1 has.kind has.cells has.right has.is_page
+  HasViews-no_fault views (BadPage rule.Child) has f = f
+  HasViews-no_fault views (BadPage rule.Depth) has f = f
+  HasViews-no_fault views (BadPage rule.Empty) has f = f
+  HasViews-no_fault views (BadPage rule.Chain) has f = f
+  HasViews-no_fault views (BadPage rule.Trunk) has f = f
+  HasViews-no_fault views (BadPage rule.Count) has f = f
+  HasViews-no_fault views (BadPage rule.Record) has f = f
+  HasViews-no_fault views (Memory e) has f = f
 
   pub answer-one : IsOne (OrFault (HasViews page number usable) (HasPageFault page number usable))
-  answer-one = OrFault-one (HasViews page number usable) (HasPageFault page number usable) one_list one_fault not_both
+  answer-one = OrFault-one (HasViews page number usable) (HasPageFault page number usable) HasViews-one HasPageFault-one HasViews-no_fault
 
   -- each page has views
-  pub has_views : (kind : PageKind) (cells : List (List ℕ)) (right : ℕ) → IsPage page number usable kind cells right → (views : List CellView) × HasViews page number usable views
-  has_views kind cells right is =
+  pub IsPage-has_views : (kind : PageKind) (cells : List (List ℕ)) (right : ℕ) → IsPage page number usable kind cells right → (views : List CellView) × HasViews page number usable views
+  IsPage-has_views kind cells right is =
       let all = up_to (length cells) (omega arith) in
       (all.0, record { kind = kind; cells = cells; right = right; is_page = is; many = all.1; each = all.2 })
     where
@@ -187,7 +187,7 @@ module _ (page : List ℕ) (number usable : ℕ) (whole : usable ≤ length page
           let long : length (before.0 ++ at.view ∷ []) ≡ suc n = omega (arith, length_push before.0 at.view, before.1) in (
             before.0 ++ at.view ∷ [],
             long,
-            λ k d low. push_all (λ (j : ℕ) (v : CellView). IsCell kind usable (get_or cells j []) v) before.0 at.view
+            λ k d low. all-one_more (λ (j : ℕ) (v : CellView). IsCell kind usable (get_or cells j []) v) before.0 at.view
                 (λ j e small. before.2 j e (omega (arith, small, before.1)))
                 (subst⁻¹ (λ (j : ℕ). IsCell kind usable (get_or cells j []) at.view) before.1 at.is_cell)
                 k d (omega (arith, low, long)),

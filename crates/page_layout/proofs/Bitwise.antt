@@ -26,9 +26,9 @@ pub record AreBetween (from to bits : ℕ) : Type 0 where
   pub outside : (i : ℕ) → (i < from) ⊎ (to ≤ i) → bit_at bits i ≡ 0
 
 -- a byte that was marked, among those of which the bits are these
-pub taken_word : (old words : List ℕ) (place from to index bits : ℕ) → 64 * index ≤ from → to ≤ 64 * index + 64 → AreBetween (from - 64 * index) (to - 64 * index) bits → MarkedUpTo old words place from
+pub mark_at-common_bit : (old words : List ℕ) (place from to index bits : ℕ) → 64 * index ≤ from → to ≤ 64 * index + 64 → AreBetween (from - 64 * index) (to - 64 * index) bits → MarkedUpTo old words place from
     → (i : ℕ) → bit_at (slice_index words index) i ≡ 1 → bit_at bits i ≡ 1 → (b : ℕ) × (from ≤ b) × (b < to) × (mark_at old b ≡ 1)
-taken_word old words place from to index bits low high between was i set also =
+mark_at-common_bit old words place from to index bits low high between was i set also =
     let above : from - 64 * index ≤ i = elim (cases_lt i (from - 64 * index)) [ inl below ↦ absurd (omega (arith, between.outside i (inl below), also)) | inr not_below ↦ not_below ] in
     let below : i < to - 64 * index = elim (cases_lt i (to - 64 * index)) [ inl under ↦ under | inr over ↦ absurd (omega (arith, between.outside i (inr over), also)) ] in
     let b = 64 * index + i in
@@ -40,14 +40,14 @@ taken_word old words place from to index bits low high between was i set also =
     )
 
 -- words that have no bit in common
-pub no_common_bit : (word bits : ℕ) → bit_and word bits ≡ 0 → (i : ℕ) → bit_at bits i ≡ 1 → bit_at word i ≡ 0
-no_common_bit word bits none i one =
+pub bit_and-none_common : (word bits : ℕ) → bit_and word bits ≡ 0 → (i : ℕ) → bit_at bits i ≡ 1 → bit_at word i ≡ 0
+bit_and-none_common word bits none i one =
     let zero : bit_at (bit_and word bits) i ≡ 0 = ap (λ (n : ℕ). bit_at n i) none ∙ bit_at-zero i in
     omega (arith, bit_at_and word bits i, zero, one)
 
 -- and words that have one
-pub common_bit : (word bits : ℕ) → word < 2 ^ 64 → 0 < bit_and word bits → (i : ℕ) × (bit_at word i ≡ 1) × (bit_at bits i ≡ 1)
-common_bit word bits fits some =
+pub bit_and-one_common : (word bits : ℕ) → word < 2 ^ 64 → 0 < bit_and word bits → (i : ℕ) × (bit_at word i ≡ 1) × (bit_at bits i ≡ 1)
+bit_and-one_common word bits fits some =
     let lowest = bit_at-trailing_zeros w64 (bit_and word bits) some (omega (arith, and_le_l word bits)) in
     let i = trailing_zeros w64 (bit_and word bits) in
     let both : min (bit_at word i) (bit_at bits i) ≡ 1 = sym (bit_at_and word bits i) ∙ lowest.1 in

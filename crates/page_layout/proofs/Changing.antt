@@ -9,7 +9,7 @@ use Rattle.page_spec.specs.RoomsLaws.{rooms-fit}
 use Rattle.page_layout.specs.declared.rebuilding.NoRoom.{NoRoom}
 use Rattle.page_layout.specs.NoRoom.{Fits}
 use Rattle.page_layout.specs.Views.{HasKind}
-use Rattle.page_layout.proofs.Packing.{as_known, as_laid}
+use Rattle.page_layout.proofs.Packing.{layout-to_known, layout-from_known}
 use Rattle.page_layout.specs.ViewsLaws.{kind_byte-same}
 use Rattle.page_layout.specs.declared.pack.Measured.{Measured}
 use Rattle.page_layout.specs.declared.put.Layout.{Layout}
@@ -19,11 +19,11 @@ use Rattle.page_layout.specs.Measuring.{IsMeasured}
 use Rattle.page_layout.specs.Written.{IsPacked, IsLaid, KeepsPlaces, laid_more}
 
 -- a page that was found to have no hole
-pub packed_of : (page : List ℕ) (number usable : ℕ) (kind : PageKind) (cells : List (List ℕ)) (right : ℕ) (m : Measured) → IsPage page number usable kind cells right
+pub IsPacked-measured : (page : List ℕ) (number usable : ℕ) (kind : PageKind) (cells : List (List ℕ)) (right : ℕ) (m : Measured) → IsPage page number usable kind cells right
     → IsMeasured page number usable kind cells m → IsTrue m.packed → IsPacked page m.layout cells right
-packed_of page number usable kind cells right m is measured packed = record {
-  is_page = as_laid (λ (n u : ℕ) (k : PageKind). IsPage page n u k cells right) m.layout number usable kind measured.number_is measured.usable_is measured.kind_is is;
-  no_hole = as_laid (λ (n u : ℕ) (k : PageKind). HasNoHole page n u k cells) m.layout number usable kind measured.number_is measured.usable_is measured.kind_is (measured.packed packed);
+IsPacked-measured page number usable kind cells right m is measured packed = record {
+  is_page = layout-from_known (λ (n u : ℕ) (k : PageKind). IsPage page n u k cells right) m.layout number usable kind measured.number_is measured.usable_is measured.kind_is is;
+  no_hole = layout-from_known (λ (n u : ℕ) (k : PageKind). HasNoHole page n u k cells) m.layout number usable kind measured.number_is measured.usable_is measured.kind_is (measured.packed packed);
   count = measured.count;
   bottom = measured.bottom ∙ sym measured.usable_is;
 }
@@ -32,76 +32,76 @@ module _ (old new : List ℕ) (number usable at : ℕ) (cell : List ℕ) (m : Me
     (measured : OfCells old number usable (λ kind cells right. IsMeasured old number usable kind cells m))
     (more : after ≡ laid_more m.layout (cell_room cell)) where
   -- what was laid is the page with the cell
-  written_more : OfCells old number usable (λ kind cells right. IsLaid new after (insert cells at cell) right)
+  IsLaid-is_written : OfCells old number usable (λ kind cells right. IsLaid new after (insert cells at cell) right)
       → OfCells old number usable (λ kind cells right. IsWritten new number usable kind (insert cells at cell) right)
-  written_more laid kind cells right is =
+  IsLaid-is_written laid kind cells right is =
       let its = measured kind cells right is in
-      as_known (λ (n u : ℕ) (k : PageKind). IsWritten new n u k (insert cells at cell) right) after number usable kind
+      layout-to_known (λ (n u : ℕ) (k : PageKind). IsWritten new n u k (insert cells at cell) right) after number usable kind
       (ap (λ (l : Layout). l.number) more ∙ its.number_is) (ap (λ (l : Layout). l.usable) more ∙ its.usable_is) (ap (λ (l : Layout). l.kind) more ∙ its.kind_is)
       (laid kind cells right is).written
 
-  pub rest_kept : (a b : List ℕ) → KeepsRest m.layout.number m.layout.usable a b → KeepsRest number usable a b
-  rest_kept a b rest =
+  pub KeepsRest-by_layout : (a b : List ℕ) → KeepsRest m.layout.number m.layout.usable a b → KeepsRest number usable a b
+  KeepsRest-by_layout a b rest =
       let its = measured accepted.kind accepted.cells accepted.right accepted.is_page in
-      as_known (λ (n u : ℕ) (k : PageKind). KeepsRest n u a b) m.layout number usable accepted.kind its.number_is its.usable_is its.kind_is rest
+      layout-to_known (λ (n u : ℕ) (k : PageKind). KeepsRest n u a b) m.layout number usable accepted.kind its.number_is its.usable_is its.kind_is rest
 
   -- the cell was put in front of the others, which are without a hole
-  pub inserts : IsTrue m.packed → ((cells : List (List ℕ)) (right : ℕ) → IsPacked old m.layout cells right → IsLaid new after (insert cells at cell) right)
+  pub Inserts-packed : IsTrue m.packed → ((cells : List (List ℕ)) (right : ℕ) → IsPacked old m.layout cells right → IsLaid new after (insert cells at cell) right)
       → KeepsPlaces old new m.layout.number m.layout.kind m.layout.count at → KeepsRest m.layout.number m.layout.usable old new → Inserts old new number usable at cell
-  inserts packed laid still rest = record {
-    written = written_more (λ kind cells right is. laid cells right (packed_of old number usable kind cells right m is (measured kind cells right is) packed));
+  Inserts-packed packed laid still rest = record {
+    written = IsLaid-is_written (λ kind cells right is. laid cells right (IsPacked-measured old number usable kind cells right m is (measured kind cells right is) packed));
     still = λ kind cells right is none.
         let its = measured kind cells right is in
         subst (λ (n : ℕ). KeepsPlaces old new number kind n at) its.count
-        (as_known (λ (n u : ℕ) (k : PageKind). KeepsPlaces old new n k m.layout.count at) m.layout number usable kind its.number_is its.usable_is its.kind_is still);
-    rest = rest_kept old new rest;
+        (layout-to_known (λ (n u : ℕ) (k : PageKind). KeepsPlaces old new n k m.layout.count at) m.layout number usable kind its.number_is its.usable_is its.kind_is still);
+    rest = KeepsRest-by_layout old new rest;
   }
 
   -- the page had a hole, and was laid anew
-  pub inserts_anew : m.packed ≡ false → OfCells old number usable (λ kind cells right. IsLaid new after (insert cells at cell) right) → KeepsRest number usable old new
+  pub Inserts-anew : m.packed ≡ false → OfCells old number usable (λ kind cells right. IsLaid new after (insert cells at cell) right) → KeepsRest number usable old new
       → Inserts old new number usable at cell
-  inserts_anew loose laid rest = record {
-    written = written_more laid;
+  Inserts-anew loose laid rest = record {
+    written = IsLaid-is_written laid;
     still = λ kind cells right is none. absurd ((measured kind cells right is).loose loose none);
     rest = rest;
   }
 
 -- the room that a page has by its layout is that which its cells leave
-pub free_of : (page : List ℕ) (number usable : ℕ) (kind : PageKind) (cells : List (List ℕ)) (m : Measured) → IsMeasured page number usable kind cells m
+pub free_bytes-measured : (page : List ℕ) (number usable : ℕ) (kind : PageKind) (cells : List (List ℕ)) (m : Measured) → IsMeasured page number usable kind cells m
     → m.layout.bottom - array_end m.layout.number m.layout.kind m.layout.count ≡ free_bytes number usable kind cells
-free_of page number usable kind cells m its =
+free_bytes-measured page number usable kind cells m its =
     ap (λ (n : ℕ). m.layout.bottom - n)
-    (as_known (λ (n u : ℕ) (k : PageKind). array_end m.layout.number m.layout.kind m.layout.count ≡ array_end n k m.layout.count) m.layout number usable kind its.number_is its.usable_is its.kind_is refl
+    (layout-to_known (λ (n u : ℕ) (k : PageKind). array_end m.layout.number m.layout.kind m.layout.count ≡ array_end n k m.layout.count) m.layout number usable kind its.number_is its.usable_is its.kind_is refl
     ∙ ap (array_end number kind) its.count)
     ∙ omega (arith, its.bottom)
 
 module _ (page : List ℕ) (number usable at : ℕ) (cell : List ℕ) (m : Measured) (fits : IsUsable usable) (accepted : IsAccepted page number usable)
     (measured : OfCells page number usable (λ kind cells right. IsMeasured page number usable kind cells m)) where
-  its : IsMeasured page number usable accepted.kind accepted.cells m
-  its = measured accepted.kind accepted.cells accepted.right accepted.is_page
+  IsMeasured-accepted : IsMeasured page number usable accepted.kind accepted.cells m
+  IsMeasured-accepted = measured accepted.kind accepted.cells accepted.right accepted.is_page
 
   -- the array ends where the cells begin
-  pub array_fits : array_end m.layout.number m.layout.kind m.layout.count ≤ m.layout.bottom
-  array_fits =
-      as_laid (λ (n u : ℕ) (k : PageKind). array_end n k m.layout.count ≤ m.layout.bottom) m.layout number usable accepted.kind its.number_is its.usable_is its.kind_is
-      (omega (arith, rooms-fit page number usable accepted.kind accepted.cells accepted.right fits accepted.is_page, its.bottom, its.count))
+  pub array-before_cells : array_end m.layout.number m.layout.kind m.layout.count ≤ m.layout.bottom
+  array-before_cells =
+      layout-from_known (λ (n u : ℕ) (k : PageKind). array_end n k m.layout.count ≤ m.layout.bottom) m.layout number usable accepted.kind IsMeasured-accepted.number_is IsMeasured-accepted.usable_is IsMeasured-accepted.kind_is
+      (omega (arith, rooms-fit page number usable accepted.kind accepted.cells accepted.right fits accepted.is_page, IsMeasured-accepted.bottom, IsMeasured-accepted.count))
 
-  pub counts : m.layout.count ≡ cell_count page number
-  counts = its.count ∙ sym accepted.is_page.count
+  pub count-measured : m.layout.count ≡ cell_count page number
+  count-measured = IsMeasured-accepted.count ∙ sym accepted.is_page.count
 
-  pub usable_is : m.layout.usable ≡ usable
-  usable_is = its.usable_is
+  pub usable-measured : m.layout.usable ≡ usable
+  usable-measured = IsMeasured-accepted.usable_is
 
-  pub bottom_within : m.layout.bottom ≤ m.layout.usable
-  bottom_within = omega (arith, its.bottom, its.usable_is)
+  pub bottom-within : m.layout.bottom ≤ m.layout.usable
+  bottom-within = omega (arith, IsMeasured-accepted.bottom, IsMeasured-accepted.usable_is)
 
-  pub one_cell : (kind : PageKind) × HasKind page number kind × IsOneCell kind usable cell → IsOneCell m.layout.kind m.layout.usable cell
-  one_cell one =
+  pub IsOneCell-measured : (kind : PageKind) × HasKind page number kind × IsOneCell kind usable cell → IsOneCell m.layout.kind m.layout.usable cell
+  IsOneCell-measured one =
       let same : one.0 ≡ accepted.kind = kind_byte-same one.0 accepted.kind (sym one.1 ∙ accepted.is_page.kind_is) in
-      as_laid (λ (n u : ℕ) (k : PageKind). IsOneCell k u cell) m.layout number usable accepted.kind its.number_is its.usable_is its.kind_is
+      layout-from_known (λ (n u : ℕ) (k : PageKind). IsOneCell k u cell) m.layout number usable accepted.kind IsMeasured-accepted.number_is IsMeasured-accepted.usable_is IsMeasured-accepted.kind_is
       (subst (λ (k : PageKind). IsOneCell k usable cell) same one.2)
 
   -- what is free by the layout is what the page's cells leave
-  pub fits_of : {T : Type 0} (result : Result T NoRoom) → Fits (cell_room cell + 2) (m.layout.bottom - array_end m.layout.number m.layout.kind m.layout.count) result
+  pub Fits-measured : {T : Type 0} (result : Result T NoRoom) → Fits (cell_room cell + 2) (m.layout.bottom - array_end m.layout.number m.layout.kind m.layout.count) result
       → OfCells page number usable (λ kind cells right. Fits (cell_room cell + 2) (free_bytes number usable kind cells) result)
-  fits_of result room kind cells right is = subst (λ (n : ℕ). Fits (cell_room cell + 2) n result) (free_of page number usable kind cells m (measured kind cells right is)) room
+  Fits-measured result room kind cells right is = subst (λ (n : ℕ). Fits (cell_room cell + 2) n result) (free_bytes-measured page number usable kind cells m (measured kind cells right is)) room

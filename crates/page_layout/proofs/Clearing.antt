@@ -29,8 +29,8 @@ pub record Writes (at size x : ℕ) (before after : List ℕ) : Type 0 where
   pub here : number_at at size after ≡ x
   pub other : (k : ℕ) → (k < at) ⊎ (at + size ≤ k) → slice_index after k ≡ slice_index before k
 
-pub wrote : (at size x : ℕ) (before after : List ℕ) → at + size ≤ length before → x < 256 ^ size → after ≡ with_number_at at size x before → Writes at size x before after
-wrote at size x before after room fits e =
+pub Writes-with_number_at : (at size x : ℕ) (before after : List ℕ) → at + size ≤ length before → x < 256 ^ size → after ≡ with_number_at at size x before → Writes at size x before after
+Writes-with_number_at at size x before after room fits e =
     let P : List ℕ → Type 0 = λ bytes. Writes at size x before bytes in
     subst⁻¹ P e (record {
       long = length-with_number_at at size x before room;
@@ -39,18 +39,18 @@ wrote at size x before after room fits e =
     })
 
 -- a number in front of the place, or behind it, stays
-before_it : {at size x : ℕ} {before after : List ℕ} → Writes at size x before after → (place n : ℕ) → place + n ≤ at → number_at place n after ≡ number_at place n before
-before_it {at} {size} {x} {before} {after} w place n front = number_at-same n after place before place (λ j small. w.other (place + j) (inl (omega arith)))
+Writes-in_front : {at size x : ℕ} {before after : List ℕ} → Writes at size x before after → (place n : ℕ) → place + n ≤ at → number_at place n after ≡ number_at place n before
+Writes-in_front {at} {size} {x} {before} {after} w place n front = number_at-same n after place before place (λ j small. w.other (place + j) (inl (omega arith)))
 
 -- the four numbers of a header behind its kind, one after the other
-pub puts_counts : (old a b c new : List ℕ) (header count bottom : ℕ)
+pub PutsCounts-from_writes : (old a b c new : List ℕ) (header count bottom : ℕ)
     → Writes (header + 1) 2 0 old a → Writes (header + 3) 2 count a b → Writes (header + 5) 2 (bottom % 65536) b c → Writes (header + 7) 1 0 c new
     → PutsCounts old new header count bottom
-puts_counts old a b c new header count bottom first second third fourth = record {
+PutsCounts-from_writes old a b c new header count bottom first second third fourth = record {
   long = fourth.long ∙ third.long ∙ second.long ∙ first.long;
-  no_freeblock = before_it fourth (header + 1) 2 (omega arith) ∙ before_it third (header + 1) 2 (omega arith) ∙ before_it second (header + 1) 2 (omega arith) ∙ first.here;
-  counts = before_it fourth (header + 3) 2 (omega arith) ∙ before_it third (header + 3) 2 (omega arith) ∙ second.here;
-  content = before_it fourth (header + 5) 2 (omega arith) ∙ third.here;
+  no_freeblock = Writes-in_front fourth (header + 1) 2 (omega arith) ∙ Writes-in_front third (header + 1) 2 (omega arith) ∙ Writes-in_front second (header + 1) 2 (omega arith) ∙ first.here;
+  counts = Writes-in_front fourth (header + 3) 2 (omega arith) ∙ Writes-in_front third (header + 3) 2 (omega arith) ∙ second.here;
+  content = Writes-in_front fourth (header + 5) 2 (omega arith) ∙ third.here;
   no_fragment = fourth.here;
   rest = λ k apart. rest k apart;
 }
@@ -60,9 +60,9 @@ puts_counts old a b c new header count bottom first second third fourth = record
     rest k (inr high) = fourth.other k (inr (omega arith)) ∙ third.other k (inr (omega arith)) ∙ second.other k (inr (omega arith)) ∙ first.other k (inr (omega arith))
 
 -- a header's kind, and the four numbers behind it
-pub empty_header : (old a new : List ℕ) (header usable : ℕ) (kind : PageKind) → Writes header 1 (kind_byte kind) old a → PutsCounts a new header 0 usable
+pub HasEmptyHeader-from_writes : (old a new : List ℕ) (header usable : ℕ) (kind : PageKind) → Writes header 1 (kind_byte kind) old a → PutsCounts a new header 0 usable
     → HasEmptyHeader old new header usable kind
-empty_header old a new header usable kind first puts = record {
+HasEmptyHeader-from_writes old a new header usable kind first puts = record {
   kind_is = puts.rest header (inl (omega arith)) ∙ sym (number_at-byte header a) ∙ first.here;
   no_freeblock = puts.no_freeblock;
   counts = puts.counts;

@@ -47,41 +47,41 @@ module _ (old new : List ℕ) (number usable : ℕ) (kind : PageKind) (cells : L
   others : List (List ℕ)
   others = insert cells at cell
 
-  many : length others ≡ length cells + 1
+  length-others : length others ≡ length cells + 1
   unfolding others
-  many = length-insert cells at cell inside
+  length-others = length-insert cells at cell inside
 
-  more : rooms others ≡ rooms cells + cell_room cell
+  rooms-others : rooms others ≡ rooms cells + cell_room cell
   unfolding others
-  more = sum_by-insert cell_room cells at cell
+  rooms-others = sum_by-insert cell_room cells at cell
 
-  kept_below : (k : ℕ) → k < at → IsKept old new number kind cells others k k
+  IsKept-below : (k : ℕ) → k < at → IsKept old new number kind cells others k k
   unfolding others
-  kept_below k low = record {
+  IsKept-below k low = record {
     low = omega arith;
     place = number_at-same 2 new (array_place number kind + 2 * k) old (array_place number kind + 2 * k) (puts.stays k low);
     cell = get_or-insert_below cells at cell [] k low inside;
   }
 
-  kept_above : (i : ℕ) → at ≤ i → i < length cells → IsKept old new number kind cells others (i + 1) i
+  IsKept-above : (i : ℕ) → at ≤ i → i < length cells → IsKept old new number kind cells others (i + 1) i
   unfolding others
-  kept_above i high low = record {
+  IsKept-above i high low = record {
     low = low;
     place = number_at-same 2 new (array_place number kind + 2 * (i + 1)) old (array_place number kind + 2 * i) (puts.moved i high low);
     cell = get_or-insert_above cells at cell [] i high inside;
   }
 
-  here_place : cell_place new number kind at ≡ place
+  place-here : cell_place new number kind at ≡ place
   unfolding place
-  here_place = puts.here
+  place-here = puts.here
 
-  here_cell : slice_index_or others at [] ≡ cell
+  cell-here : slice_index_or others at [] ≡ cell
   unfolding others
-  here_cell = get_or-insert_at cells at cell [] inside
+  cell-here = get_or-insert_at cells at cell [] inside
 
   -- a cell that stood there
-  stands_kept : (k i : ℕ) → IsKept old new number kind cells others k i → IsCellAt new number usable kind (length cells + 1) k (slice_index_or others k [])
-  stands_kept k i kept =
+  IsCellAt-kept : (k i : ℕ) → IsKept old new number kind cells others k i → IsCellAt new number usable kind (length cells + 1) k (slice_index_or others k [])
+  IsCellAt-kept k i kept =
       let was_at = was.each i kept.low in
       let low_end = no_hole i kept.low in
       let its_place = cell_place old number kind i in
@@ -100,51 +100,51 @@ module _ (old new : List ℕ) (number usable : ℕ) (kind : PageKind) (cells : L
       })
 
   -- the cell that was put in
-  stands_here : IsCellAt new number usable kind (length cells + 1) at (slice_index_or others at [])
+  IsCellAt-here : IsCellAt new number usable kind (length cells + 1) at (slice_index_or others at [])
   unfolding place
-  stands_here =
+  IsCellAt-here =
       let P : List ℕ → Type 0 = λ c. IsCellAt new number usable kind (length cells + 1) at c in
-      subst⁻¹ P here_cell (record {
+      subst⁻¹ P cell-here (record {
         view = view;
         is_cell = is_cell;
-        stands = ap (λ (p : ℕ). part_of new p (length cell)) here_place ∙ puts.cell_is;
-        behind_array = omega (arith, here_place);
-        inside = omega (arith, here_place);
+        stands = ap (λ (p : ℕ). part_of new p (length cell)) place-here ∙ puts.cell_is;
+        behind_array = omega (arith, place-here);
+        inside = omega (arith, place-here);
       })
 
-  stands : (k : ℕ) → k < length cells + 1 → IsCellAt new number usable kind (length cells + 1) k (slice_index_or others k [])
-  stands k low =
+  IsCellAt-each : (k : ℕ) → k < length cells + 1 → IsCellAt new number usable kind (length cells + 1) k (slice_index_or others k [])
+  IsCellAt-each k low =
       elim (cases_lt k at) [
-        | inl below ↦ stands_kept k k (kept_below k below)
+        | inl below ↦ IsCellAt-kept k k (IsKept-below k below)
         | inr not_below ↦ elim (cases_lt at k) [
           | inl above ↦
               let i = k - 1 in
               let k_is : i + 1 ≡ k = omega arith in
               let P : ℕ → Type 0 = λ n. IsCellAt new number usable kind (length cells + 1) n (slice_index_or others n []) in
-              subst P k_is (stands_kept (i + 1) i (kept_above i (omega arith) (omega arith)))
+              subst P k_is (IsCellAt-kept (i + 1) i (IsKept-above i (omega arith) (omega arith)))
           | inr not_above ↦
               let at_is : at ≡ k = omega arith in
               let P : ℕ → Type 0 = λ n. IsCellAt new number usable kind (length cells + 1) n (slice_index_or others n []) in
-              subst P at_is stands_here
+              subst P at_is IsCellAt-here
         ]
       ]
 
   -- apart from a cell that stood there
-  apart_here : (k : ℕ) (i : ℕ) → IsKept old new number kind cells others k i
+  AreApart-here : (k : ℕ) (i : ℕ) → IsKept old new number kind cells others k i
       → AreApart (cell_place new number kind at) (cell_room (slice_index_or others at [])) (cell_place new number kind k) (cell_room (slice_index_or others k []))
   unfolding place
-  apart_here k i kept =
+  AreApart-here k i kept =
       let P : List ℕ → Type 0 = λ c. AreApart (cell_place new number kind at) (cell_room c) (cell_place new number kind k) (cell_room (slice_index_or others k [])) in
       let low_end = no_hole i kept.low in
-      subst⁻¹ P here_cell (inl (omega (arith, here_place, kept.place)))
+      subst⁻¹ P cell-here (inl (omega (arith, place-here, kept.place)))
 
-  apart_turned : (p m q n : ℕ) → AreApart p m q n → AreApart q n p m
-  apart_turned p m q n (inl before) = inr before
-  apart_turned p m q n (inr behind) = inl behind
+  AreApart-turned : (p m q n : ℕ) → AreApart p m q n → AreApart q n p m
+  AreApart-turned p m q n (inl before) = inr before
+  AreApart-turned p m q n (inr behind) = inl behind
 
-  apart_kept : (j k a b : ℕ) → a < b → IsKept old new number kind cells others j a → IsKept old new number kind cells others k b
+  AreApart-kept : (j k a b : ℕ) → a < b → IsKept old new number kind cells others j a → IsKept old new number kind cells others k b
       → AreApart (cell_place new number kind j) (cell_room (slice_index_or others j [])) (cell_place new number kind k) (cell_room (slice_index_or others k []))
-  apart_kept j k a b order one other =
+  AreApart-kept j k a b order one other =
       let P : ℕ → ℕ → Type 0 = λ p q. AreApart p (cell_room (slice_index_or others j [])) q (cell_room (slice_index_or others k [])) in
       let Q : List ℕ → List ℕ → Type 0 = λ c d. AreApart (cell_place old number kind a) (cell_room c) (cell_place old number kind b) (cell_room d) in
       subst⁻¹ (λ (p : ℕ). P p (cell_place new number kind k)) one.place
@@ -153,32 +153,32 @@ module _ (old new : List ℕ) (number usable : ℕ) (kind : PageKind) (cells : L
       (subst⁻¹ (λ (d : List ℕ). Q (slice_index_or cells a []) d) other.cell (was.apart a b order other.low))))
 
   -- which cell of the old page stands at an index of the new one
-  source : (k : ℕ) → k < length cells + 1 → (k ≡ at) ⊎ ((i : ℕ) × (IsKept old new number kind cells others k i × (((k < at) × (i ≡ k)) ⊎ ((at < k) × (i + 1 ≡ k)))))
-  source k low =
+  IsKept-source : (k : ℕ) → k < length cells + 1 → (k ≡ at) ⊎ ((i : ℕ) × (IsKept old new number kind cells others k i × (((k < at) × (i ≡ k)) ⊎ ((at < k) × (i + 1 ≡ k)))))
+  IsKept-source k low =
       elim (cases_lt k at) [
-        | inl below ↦ inr (k, (kept_below k below, inl (below, refl)))
+        | inl below ↦ inr (k, (IsKept-below k below, inl (below, refl)))
         | inr not_below ↦ elim (cases_lt at k) [
           | inl above ↦
               let i = k - 1 in
               let k_is : i + 1 ≡ k = omega arith in
               let P : ℕ → Type 0 = λ n. IsKept old new number kind cells others n i in
-              inr (i, (subst P k_is (kept_above i (omega arith) (omega arith)), inr (above, k_is)))
+              inr (i, (subst P k_is (IsKept-above i (omega arith) (omega arith)), inr (above, k_is)))
           | inr not_above ↦ inl (omega arith)
         ]
       ]
 
-  apart : (j k : ℕ) → j < k → k < length cells + 1
+  AreApart-each : (j k : ℕ) → j < k → k < length cells + 1
       → AreApart (cell_place new number kind j) (cell_room (slice_index_or others j [])) (cell_place new number kind k) (cell_room (slice_index_or others k []))
-  apart j k order low =
+  AreApart-each j k order low =
       let P : ℕ → ℕ → Type 0 = λ a b. AreApart (cell_place new number kind a) (cell_room (slice_index_or others a [])) (cell_place new number kind b) (cell_room (slice_index_or others b [])) in
-      elim (source j (omega arith)) [
-        | inl j_here ↦ elim (source k low) [
+      elim (IsKept-source j (omega arith)) [
+        | inl j_here ↦ elim (IsKept-source k low) [
           | inl k_here ↦ absurd (omega arith)
-          | inr other ↦ subst⁻¹ (λ (a : ℕ). P a k) j_here (apart_here k other.0 other.1.0)
+          | inr other ↦ subst⁻¹ (λ (a : ℕ). P a k) j_here (AreApart-here k other.0 other.1.0)
         ]
-        | inr one ↦ elim (source k low) [
-          | inl k_here ↦ subst⁻¹ (λ (b : ℕ). P j b) k_here (apart_turned _ _ _ _ (apart_here j one.0 one.1.0))
-          | inr other ↦ apart_kept j k one.0 other.0 (ordered one.0 other.0 one.1.1 other.1.1 order) one.1.0 other.1.0
+        | inr one ↦ elim (IsKept-source k low) [
+          | inl k_here ↦ subst⁻¹ (λ (b : ℕ). P j b) k_here (AreApart-turned _ _ _ _ (AreApart-here j one.0 one.1.0))
+          | inr other ↦ AreApart-kept j k one.0 other.0 (ordered one.0 other.0 one.1.1 other.1.1 order) one.1.0 other.1.0
         ]
       ]
     where
@@ -188,37 +188,37 @@ module _ (old new : List ℕ) (number usable : ℕ) (kind : PageKind) (cells : L
       ordered a b (inr p) (inl q) h = omega arith
       ordered a b (inr p) (inr q) h = omega arith
 
-  is_page : IsPage new number usable kind others right
-  is_page =
+  IsPage-inserted : IsPage new number usable kind others right
+  IsPage-inserted =
       let P : ℕ → Type 0 = λ n. (k : ℕ) → k < n → IsCellAt new number usable kind n k (slice_index_or others k []) in
       let Q : ℕ → Type 0 = λ n. (j k : ℕ) → j < k → k < n
       → AreApart (cell_place new number kind j) (cell_room (slice_index_or others j [])) (cell_place new number kind k) (cell_room (slice_index_or others k [])) in
       record {
         kind_is = puts.front (header_place number) (omega arith) ∙ was.kind_is;
-        count = puts.counts ∙ sym many;
-        each = subst⁻¹ P many stands;
-        apart = subst⁻¹ Q many apart;
+        count = puts.counts ∙ sym length-others;
+        each = subst⁻¹ P length-others IsCellAt-each;
+        apart = subst⁻¹ Q length-others AreApart-each;
         right_child = right_child-same kind old new (header_place number) right puts.rest was.right_child;
       }
 
   -- no cell stands below the new one
-  lowest : (k : ℕ) → k < length others → place ≤ cell_place new number kind k
+  place-lowest : (k : ℕ) → k < length others → place ≤ cell_place new number kind k
   unfolding place
-  lowest k low =
-      elim (source k (omega (arith, many))) [
-        | inl here ↦ let P : ℕ → Type 0 = λ n. usable - (rooms cells + cell_room cell) ≤ cell_place new number kind n in subst⁻¹ P here (omega (arith, here_place))
+  place-lowest k low =
+      elim (IsKept-source k (omega (arith, length-others))) [
+        | inl here ↦ let P : ℕ → Type 0 = λ n. usable - (rooms cells + cell_room cell) ≤ cell_place new number kind n in subst⁻¹ P here (omega (arith, place-here))
         | inr kept ↦ let low_end = no_hole kept.0 kept.1.0.low in omega (arith, kept.1.0.place)
       ]
 
-  begins : usable - rooms (insert cells at cell) ≡ place
+  rooms-begin : usable - rooms (insert cells at cell) ≡ place
   unfolding others place
-  begins = omega (arith, more)
+  rooms-begin = omega (arith, rooms-others)
 
-  pub inserted : IsWritten new number usable kind (insert cells at cell) right
+  pub IsWritten-inserted : IsWritten new number usable kind (insert cells at cell) right
   unfolding others
-  inserted = record {
-    is_page = is_page;
-    no_hole = λ k low. let from = lowest k low in omega (arith, begins);
+  IsWritten-inserted = record {
+    is_page = IsPage-inserted;
+    no_hole = λ k low. let from = place-lowest k low in omega (arith, rooms-begin);
     no_freeblock = puts.no_freeblock;
     content = puts.content ∙ ap (λ (n : ℕ). (usable - n) % 65536) (sym (sum_by-insert cell_room cells at cell));
     no_fragment = puts.no_fragment;
@@ -235,32 +235,32 @@ cell-some IndexInterior usable cell view is =
     omega (arith, ap length is.whole, length-append is.child_bytes (is.payload_bytes ++ (is.local_bytes ++ is.overflow_bytes)), is.child_length)
 
 -- a cell put where the layout says
-pub laid_with : (old new : List ℕ) (layout : Layout) (cells : List (List ℕ)) (right at : ℕ) (cell : List ℕ) (header length_of place : ℕ)
+pub PutCell-is_laid : (old new : List ℕ) (layout : Layout) (cells : List (List ℕ)) (right at : ℕ) (cell : List ℕ) (header length_of place : ℕ)
     → layout.usable ≤ length old → length old ≤ 65536 → at ≤ layout.count → IsOneCell layout.kind layout.usable cell
     → array_end layout.number layout.kind (layout.count + 1) + cell_room cell ≤ layout.bottom → IsPacked old layout cells right
     → header ≡ header_place layout.number → length_of ≡ header_length layout.kind → place ≡ layout.bottom - cell_room cell
     → PutsCell old new header (header + length_of) layout.count at place cell → IsLaid new (laid_more layout (cell_room cell)) (insert cells at cell) right
-laid_with old new layout cells right at cell header length_of place whole long inside one room laid h l p puts =
+PutCell-is_laid old new layout cells right at cell header length_of place whole long inside one room laid h l p puts =
     let begins : place ≡ layout.usable - (rooms cells + cell_room cell) = omega (arith, laid.bottom) in
     let at_header = subst (λ (x : ℕ). PutsCell old new x (x + length_of) layout.count at place cell) h puts in
     let at_array = subst (λ (x : ℕ). PutsCell old new (header_place layout.number) (header_place layout.number + x) layout.count at place cell) l at_header in
     let at_count = subst (λ (x : ℕ). PutsCell old new (header_place layout.number) (array_place layout.number layout.kind) x at place cell) laid.count at_array in
     let at_place = subst (λ (x : ℕ). PutsCell old new (header_place layout.number) (array_place layout.number layout.kind) (length cells) at x cell) begins at_count in
     record {
-      written = inserted old new layout.number layout.usable layout.kind cells right at cell one.0 whole long laid.is_page laid.no_hole (omega (arith, laid.count)) one.1 (omega (arith, laid.count, laid.bottom)) at_place;
+      written = IsWritten-inserted old new layout.number layout.usable layout.kind cells right at cell one.0 whole long laid.is_page laid.no_hole (omega (arith, laid.count)) one.1 (omega (arith, laid.count, laid.bottom)) at_place;
       count = omega (arith, laid.count, length-insert cells at cell (omega (arith, laid.count)));
       bottom = omega (arith, laid.bottom, sum_by-insert cell_room cells at cell);
     }
 
-pub keeps_rest : (old new : List ℕ) (number usable header array count at place : ℕ) (cell : List ℕ) → header ≡ header_place number → place + length cell ≤ usable
+pub PutCell-keeps_rest : (old new : List ℕ) (number usable header array count at place : ℕ) (cell : List ℕ) → header ≡ header_place number → place + length cell ≤ usable
     → PutsCell old new header array count at place cell → KeepsRest number usable old new
-keeps_rest old new number usable header array count at place cell h within puts k (inl front) = puts.front k (omega (arith, h))
-keeps_rest old new number usable header array count at place cell h within puts k (inr behind) = puts.behind k (omega arith)
+PutCell-keeps_rest old new number usable header array count at place cell h within puts k (inl front) = puts.front k (omega (arith, h))
+PutCell-keeps_rest old new number usable header array count at place cell h within puts k (inr behind) = puts.behind k (omega arith)
 
 -- the other cells keep their places
-pub keeps_places : (old new : List ℕ) (number : ℕ) (kind : PageKind) (header length_of count at place : ℕ) (cell : List ℕ) → header ≡ header_place number → length_of ≡ header_length kind
+pub PutCell-keeps_places : (old new : List ℕ) (number : ℕ) (kind : PageKind) (header length_of count at place : ℕ) (cell : List ℕ) → header ≡ header_place number → length_of ≡ header_length kind
     → PutsCell old new header (header + length_of) count at place cell → KeepsPlaces old new number kind count at
-keeps_places old new number kind header length_of count at place cell h l puts =
+PutCell-keeps_places old new number kind header length_of count at place cell h l puts =
     let at_header = subst (λ (x : ℕ). PutsCell old new x (x + length_of) count at place cell) h puts in
     let at_array = subst (λ (x : ℕ). PutsCell old new (header_place number) (header_place number + x) count at place cell) l at_header in
     record {

@@ -20,28 +20,28 @@ use Rattle.page_layout.specs.ViewsLaws.{kind_byte-same}
 use Rattle.page_layout.specs.Written.{IsLaid}
 
 -- the cells up to one more
-more : (cells : List (List ℕ)) (i : ℕ) (x : List ℕ) → i < length cells → x ≡ get_or cells i x → take (i + 1) cells ≡ take i cells ++ x ∷ []
-more cells i x inside is = take_more cells i x inside ∙ ap (λ (y : List ℕ). take i cells ++ y ∷ []) (sym is)
+take-one_more : (cells : List (List ℕ)) (i : ℕ) (x : List ℕ) → i < length cells → x ≡ get_or cells i x → take (i + 1) cells ≡ take i cells ++ x ∷ []
+take-one_more cells i x inside is = take_more cells i x inside ∙ ap (λ (y : List ℕ). take i cells ++ y ∷ []) (sym is)
 
 -- one cell more behind those that were put
-pub put_more : (page : List ℕ) (layout : Layout) (before cells : List (List ℕ)) (right i : ℕ) (x : List ℕ) (count : ℕ) → i < length cells → x ≡ get_or cells i x → count ≡ length (before ++ take i cells)
+pub IsLaid-one_more : (page : List ℕ) (layout : Layout) (before cells : List (List ℕ)) (right i : ℕ) (x : List ℕ) (count : ℕ) → i < length cells → x ≡ get_or cells i x → count ≡ length (before ++ take i cells)
     → IsLaid page layout (insert (before ++ take i cells) count x) right → IsLaid page layout (before ++ take (i + 1) cells) right
-put_more page layout before cells right i x count inside is counts laid =
+IsLaid-one_more page layout before cells right i x count inside is counts laid =
     let P : List (List ℕ) → Type 0 = λ all. IsLaid page layout all right in
     let all = ap (λ (n : ℕ). insert (before ++ take i cells) n x) counts ∙ insert_end (before ++ take i cells) x ∙ append_assoc before (take i cells) (x ∷ [])
-    ∙ ap (λ (behind : List (List ℕ)). before ++ behind) (sym (more cells i x inside is)) in
+    ∙ ap (λ (behind : List (List ℕ)). before ++ behind) (sym (take-one_more cells i x inside is)) in
     subst P all laid
 
-pub rooms_more : (cells : List (List ℕ)) (i : ℕ) (x : List ℕ) → i < length cells → x ≡ get_or cells i x → rooms (take (i + 1) cells) ≡ rooms (take i cells) + cell_room x
-rooms_more cells i x inside is = ap rooms (more cells i x inside is) ∙ sum_by_push cell_room (take i cells) x
+pub rooms-one_more : (cells : List (List ℕ)) (i : ℕ) (x : List ℕ) → i < length cells → x ≡ get_or cells i x → rooms (take (i + 1) cells) ≡ rooms (take i cells) + cell_room x
+rooms-one_more cells i x inside is = ap rooms (take-one_more cells i x inside is) ∙ sum_by_push cell_room (take i cells) x
 
 -- the room of one cell more, of which the size is known; it fits behind the array, with those before it
-pub measured_more : (page : List ℕ) (number usable : ℕ) (kind : PageKind) (cells : List (List ℕ)) (right : ℕ) → IsUsable usable → IsPage page number usable kind cells right
+pub rooms-one_more_fits : (page : List ℕ) (number usable : ℕ) (kind : PageKind) (cells : List (List ℕ)) (right : ℕ) → IsUsable usable → IsPage page number usable kind cells right
     → (i size : ℕ) → i < length cells → size ≡ length (slice_index_or cells i [])
     → (rooms (take (i + 1) cells) ≡ rooms (take i cells) + max 4 size) × (array_end number kind (length cells) + rooms (take (i + 1) cells) ≤ usable)
-measured_more page number usable kind cells right fits is i size low size_is =
+rooms-one_more_fits page number usable kind cells right fits is i size low size_is =
     let x = slice_index_or cells i [] in
-    let more_room : rooms (take (i + 1) cells) ≡ rooms (take i cells) + cell_room x = rooms_more cells i x low (get_or_default cells i [] x low) in (
+    let more_room : rooms (take (i + 1) cells) ≡ rooms (take i cells) + cell_room x = rooms-one_more cells i x low (get_or_default cells i [] x low) in (
       omega (arith, more_room, size_is),
       omega (arith, rooms-fit page number usable kind cells right fits is, sum_by-take-le cell_room cells (i + 1)),
     )
@@ -51,11 +51,11 @@ pub record IsLowest (place : ℕ → ℕ) (usable n lowest : ℕ) : Type 0 where
   pub low : (k : ℕ) → k < n → lowest ≤ place k
   pub met : (lowest ≡ usable) ⊎ ((k : ℕ) × (k < n) × (lowest ≡ place k))
 
-pub lowest_none : (place : ℕ → ℕ) (usable : ℕ) → IsLowest place usable 0 usable
-lowest_none place usable = record { low = λ k h. absurd (omega arith); met = inl refl }
+pub IsLowest-none : (place : ℕ → ℕ) (usable : ℕ) → IsLowest place usable 0 usable
+IsLowest-none place usable = record { low = λ k h. absurd (omega arith); met = inl refl }
 
-pub lowest_more : (place : ℕ → ℕ) (usable i lowest found next : ℕ) → found ≡ place i → next ≡ min lowest found → IsLowest place usable i lowest → IsLowest place usable (i + 1) next
-lowest_more place usable i lowest found next at is was = record {
+pub IsLowest-one_more : (place : ℕ → ℕ) (usable i lowest found next : ℕ) → found ≡ place i → next ≡ min lowest found → IsLowest place usable i lowest → IsLowest place usable (i + 1) next
+IsLowest-one_more place usable i lowest found next at is was = record {
   low = λ k h. elim (cases_lt k i) [
     | inl below ↦ omega (arith, was.low k below, is)
     | inr not_below ↦ let here : i ≡ k = omega arith in omega (arith, at, is, ap place here)
@@ -74,9 +74,9 @@ pub record AreRead (page : List ℕ) (number usable : ℕ) (found kind : PageKin
   pub front : take i cells ≡ cells
   pub low : IsLowest (cell_place page number kind) usable (length cells) lowest
 
-pub all_read : (page : List ℕ) (number usable : ℕ) (found kind : PageKind) (cells : List (List ℕ)) (right i lowest count : ℕ) → IsPage page number usable kind cells right → HasKind page number found
+pub AreRead-at_end : (page : List ℕ) (number usable : ℕ) (found kind : PageKind) (cells : List (List ℕ)) (right i lowest count : ℕ) → IsPage page number usable kind cells right → HasKind page number found
     → count ≡ cell_count page number → count ≤ i → i ≤ count → IsLowest (cell_place page number found) usable i lowest → AreRead page number usable found kind cells right i lowest
-all_read page number usable found kind cells right i lowest count is has counts most least low =
+AreRead-at_end page number usable found kind cells right i lowest count is has counts most least low =
     let same : found ≡ kind = kind_byte-same found kind (sym has ∙ is.kind_is) in
     let all : i ≡ length cells = omega (arith, counts, is.count) in
     record {
@@ -90,39 +90,39 @@ all_read page number usable found kind cells right i lowest count is has counts 
 -- what is known once each cell was measured
 module _ (page : List ℕ) (number usable : ℕ) (kind : PageKind) (cells : List (List ℕ)) (layout : Layout) (lowest : ℕ) (number_is : layout.number ≡ number) (usable_is : layout.usable ≡ usable) (kind_is : layout.kind ≡ kind)
     (count : layout.count ≡ length cells) (fits : layout.bottom + rooms cells ≡ usable) (is : IsLowest (cell_place page number kind) usable (length cells) lowest) where
-  no_hole : layout.bottom ≤ lowest → HasNoHole page number usable kind cells
-  no_hole above k low = omega (arith, is.low k low)
+  HasNoHole-lowest : layout.bottom ≤ lowest → HasNoHole page number usable kind cells
+  HasNoHole-lowest above k low = omega (arith, is.low k low)
 
-  hole : lowest < layout.bottom → HasNoHole page number usable kind cells → ⊥
-  hole below none = elim is.met [ inl end ↦ omega arith | inr some ↦ let at = none some.0 some.1 in omega (arith, at, some.2) ]
+  HasNoHole-not_below : lowest < layout.bottom → HasNoHole page number usable kind cells → ⊥
+  HasNoHole-not_below below none = elim is.met [ inl end ↦ omega arith | inr some ↦ let at = none some.0 some.1 in omega (arith, at, some.2) ]
 
-  le_of : (a b : ℕ) → nat_le a b ≡ true → a ≤ b
-  le_of a b e = grind (arith, nat_tests)
+  nat_le-true : (a b : ℕ) → nat_le a b ≡ true → a ≤ b
+  nat_le-true a b e = grind (arith, nat_tests)
 
-  lt_of : (a b : ℕ) → nat_le a b ≡ false → b < a
-  lt_of a b e = grind (arith, nat_tests)
+  nat_le-false : (a b : ℕ) → nat_le a b ≡ false → b < a
+  nat_le-false a b e = grind (arith, nat_tests)
 
-  pub measured : IsMeasured page number usable kind cells (record { layout = layout; packed = nat_le layout.bottom lowest })
-  measured = record {
+  pub IsMeasured-lowest : IsMeasured page number usable kind cells (record { layout = layout; packed = nat_le layout.bottom lowest })
+  IsMeasured-lowest = record {
     number_is = number_is;
     usable_is = usable_is;
     kind_is = kind_is;
     count = count;
     bottom = fits;
-    packed = λ e. no_hole (le_of layout.bottom lowest e);
-    loose = λ e. hole (lt_of layout.bottom lowest e);
+    packed = λ e. HasNoHole-lowest (nat_le-true layout.bottom lowest e);
+    loose = λ e. HasNoHole-not_below (nat_le-false layout.bottom lowest e);
   }
 
 -- a fact about the number, the usable bytes and the kind of a layout that are known
-pub as_known : (P : ℕ → ℕ → PageKind → Type 0) (layout : Layout) (number usable : ℕ) (kind : PageKind) → layout.number ≡ number → layout.usable ≡ usable → layout.kind ≡ kind
+pub layout-to_known : (P : ℕ → ℕ → PageKind → Type 0) (layout : Layout) (number usable : ℕ) (kind : PageKind) → layout.number ≡ number → layout.usable ≡ usable → layout.kind ≡ kind
     → P layout.number layout.usable layout.kind → P number usable kind
-as_known P layout number usable kind n u k p =
+layout-to_known P layout number usable kind n u k p =
     subst (λ (x : PageKind). P number usable x) k (subst (λ (x : ℕ). P number x layout.kind) u (subst (λ (x : ℕ). P x layout.usable layout.kind) n p))
 
 -- and the other way round
-pub as_laid : (P : ℕ → ℕ → PageKind → Type 0) (layout : Layout) (number usable : ℕ) (kind : PageKind) → layout.number ≡ number → layout.usable ≡ usable → layout.kind ≡ kind
+pub layout-from_known : (P : ℕ → ℕ → PageKind → Type 0) (layout : Layout) (number usable : ℕ) (kind : PageKind) → layout.number ≡ number → layout.usable ≡ usable → layout.kind ≡ kind
     → P number usable kind → P layout.number layout.usable layout.kind
-as_laid P layout number usable kind n u k p =
+layout-from_known P layout number usable kind n u k p =
     subst⁻¹ (λ (x : ℕ). P x layout.usable layout.kind) n (subst⁻¹ (λ (x : ℕ). P number x layout.kind) u (subst⁻¹ (λ (x : PageKind). P number usable x) k p))
 
 -- a page's right child is the one that it keeps

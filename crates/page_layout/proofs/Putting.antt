@@ -7,11 +7,11 @@ use Rattle.page_layout.specs.Written.{PutsCounts, PutsPlace, PutsCell}
 use Rattle.page_spec.specs.PlacesLaws.{number_at-same, with_part, length-with_part, part_of-written, slice_index-apart_from_part}
 
 -- an array whose last places moved up, and a place written in front of them
-pub puts_place : (old shifted : List ℕ) (array count at place : ℕ) → at ≤ count → array + 2 * (count + 1) ≤ length old → place < 65536 → length shifted ≡ length old
+pub PutsPlace-from_copy : (old shifted : List ℕ) (array count at place : ℕ) → at ≤ count → array + 2 * (count + 1) ≤ length old → place < 65536 → length shifted ≡ length old
     → CopiedTo old shifted (array + 2 * at) (array + 2 * at + 2) (array + 2 * count - (array + 2 * at)) → SameBelow old shifted (array + 2 * at + 2)
     → SameFrom old shifted (array + 2 * at + 2 + (array + 2 * count - (array + 2 * at)))
     → PutsPlace old (with_number_at (array + 2 * at) 2 place shifted) array count at place
-puts_place old shifted array count at place inside room fits long copied below from =
+PutsPlace-from_copy old shifted array count at place inside room fits long copied below from =
     let pointer = array + 2 * at in
     let fit : pointer + 2 ≤ length shifted = omega arith in
     let other = λ (k : ℕ) (apart : (k < pointer) ⊎ (pointer + 2 ≤ k)). slice_index-apart_from_number pointer 2 place k shifted fit apart in
@@ -28,10 +28,10 @@ puts_place old shifted array count at place inside room fits long copied below f
     }
 
 -- and the numbers in the header, and the cell's bytes
-pub puts_cell : (old pointed counted : List ℕ) (header array count at place : ℕ) (cell : List ℕ) → at ≤ count → header + 8 ≤ array → array + 2 * (count + 1) ≤ place
+pub PutCell-from_parts : (old pointed counted : List ℕ) (header array count at place : ℕ) (cell : List ℕ) → at ≤ count → header + 8 ≤ array → array + 2 * (count + 1) ≤ place
     → place + length cell ≤ length old → PutsPlace old pointed array count at place → PutsCounts pointed counted header (count + 1) place
     → PutsCell old (with_part place cell counted) header array count at place cell
-puts_cell old pointed counted header array count at place cell inside front room within puts counts =
+PutCell-from_parts old pointed counted header array count at place cell inside front room within puts counts =
     let whole : place + length cell ≤ length counted = omega (arith, counts.long, puts.long) in
     let new = with_part place cell counted in
     let cell_apart = λ (k : ℕ) (apart : (k < place) ⊎ (place + length cell ≤ k)). slice_index-apart_from_part place cell counted whole k apart in

@@ -13,7 +13,7 @@ use Rattle.page_spec.specs.PlacesLaws.{number_at-same, part_of-same}
 use Rattle.page_spec.specs.Rooms.{array_end, rooms, HasNoHole, IsWritten}
 use Rattle.page_layout.specs.Taken.{Moves, MovesPlaces, DropsPlace, TakesCell}
 use Rattle.page_layout.specs.Written.{PutsCounts}
-use Rattle.page_layout.proofs.Clearing.{wrote}
+use Rattle.page_layout.proofs.Clearing.{Writes-with_number_at}
 use Rattle.page_layout.proofs.Inserting.{right_child-same}
 
 moves-same : (place by x y a b : ℕ) → x ≡ a → y ≡ b → Moves place by x y → Moves place by a b
@@ -21,14 +21,14 @@ moves-same place by x y a b e f (inl low) = inl (omega (arith, low.0), omega (ar
 moves-same place by x y a b e f (inr high) = inr (omega (arith, high.0), omega (arith, high.1))
 
 -- one place more of an array, moved up
-pub moves_more : (old before after : List ℕ) (array count place by i found next : ℕ) → i < count → array + 2 * count ≤ length old → length before ≡ length old → next < 65536
+pub Moves-one_more : (old before after : List ℕ) (array count place by i found next : ℕ) → i < count → array + 2 * count ≤ length old → length before ≡ length old → next < 65536
     → ((k : ℕ) → k < i → Moves place by (number_at (array + 2 * k) 2 old) (number_at (array + 2 * k) 2 before))
     → ((k : ℕ) → (k < array) ⊎ (array + 2 * i ≤ k) → slice_index before k ≡ slice_index old k)
     → found ≡ number_at (array + 2 * i) 2 before → Moves place by found next → after ≡ with_number_at (array + 2 * i) 2 next before
     → ((k : ℕ) → k < i + 1 → Moves place by (number_at (array + 2 * k) 2 old) (number_at (array + 2 * k) 2 after))
     × ((k : ℕ) → (k < array) ⊎ (array + 2 * (i + 1) ≤ k) → slice_index after k ≡ slice_index old k)
-moves_more old before after array count place by i found next low room long small was rest at moves is =
-    let w = wrote (array + 2 * i) 2 next before after (omega arith) (omega arith) is in (
+Moves-one_more old before after array count place by i found next low room long small was rest at moves is =
+    let w = Writes-with_number_at (array + 2 * i) 2 next before after (omega arith) (omega arith) is in (
       λ k h. elim (cases_lt k i) [
         | inl below ↦ moves-same place by _ _ _ _ refl (sym (number_at-same 2 after (array + 2 * k) before (array + 2 * k) (λ j h2. w.other (array + 2 * k + j) (inl (omega arith))))) (was k below)
         | inr not_below ↦
@@ -41,14 +41,14 @@ moves_more old before after array count place by i found next low room long smal
     )
   where
     others : (k : ℕ) → (k < array) ⊎ (array + 2 * (i + 1) ≤ k) → slice_index after k ≡ slice_index old k
-    others k (inl front) = (wrote (array + 2 * i) 2 next before after (omega arith) (omega arith) is).other k (inl (omega arith)) ∙ rest k (inl front)
-    others k (inr behind) = (wrote (array + 2 * i) 2 next before after (omega arith) (omega arith) is).other k (inr (omega arith)) ∙ rest k (inr (omega arith))
+    others k (inl front) = (Writes-with_number_at (array + 2 * i) 2 next before after (omega arith) (omega arith) is).other k (inl (omega arith)) ∙ rest k (inl front)
+    others k (inr behind) = (Writes-with_number_at (array + 2 * i) 2 next before after (omega arith) (omega arith) is).other k (inr (omega arith)) ∙ rest k (inr (omega arith))
 
 -- an array whose last places moved down over one
-pub drops_place : (old new : List ℕ) (array count at : ℕ) → at < count → length new ≡ length old
+pub DropsPlace-from_copy : (old new : List ℕ) (array count at : ℕ) → at < count → length new ≡ length old
     → CopiedTo old new (array + 2 * at + 2) (array + 2 * at) (array + 2 * count - (array + 2 * at + 2)) → SameBelow old new (array + 2 * at)
     → SameFrom old new (array + 2 * at + (array + 2 * count - (array + 2 * at + 2))) → DropsPlace old new array count at
-drops_place old new array count at inside long copied below from = record {
+DropsPlace-from_copy old new array count at inside long copied below from = record {
   long = long;
   moved = λ k low high j small.
       let index : array + 2 * at + 2 + (array + 2 * k + j - (array + 2 * at)) ≡ array + 2 * (k + 1) + j = omega arith in
@@ -58,11 +58,11 @@ drops_place old new array count at inside long copied below from = record {
 }
 
 -- cells that moved up, their places, the place that went, and the numbers in the header
-pub takes_cell : (old a b c new : List ℕ) (header array count at bottom place room : ℕ) → at < count → header + 8 ≤ array → array + 2 * count ≤ bottom → bottom ≤ place
+pub TakesCell-from_parts : (old a b c new : List ℕ) (header array count at bottom place room : ℕ) → at < count → header + 8 ≤ array → array + 2 * count ≤ bottom → bottom ≤ place
     → length a ≡ length old → CopiedTo old a bottom (bottom + room) (place - bottom) → SameBelow old a (bottom + room) → SameFrom old a (bottom + room + (place - bottom))
     → MovesPlaces a b array count place room → DropsPlace b c array count at → PutsCounts c new header (count - 1) (bottom + room)
     → TakesCell old new header array count at bottom place room
-takes_cell old a b c new header array count at bottom place room inside front fits order long copied below from moves drops counts =
+TakesCell-from_parts old a b c new header array count at bottom place room inside front fits order long copied below from moves drops counts =
     let behind_header = λ (k : ℕ) (high : header + 8 ≤ k). counts.rest k (inr high) in
     let old_place = λ (k : ℕ) (low : k < count). number_at-same 2 a (array + 2 * k) old (array + 2 * k) (λ j small. below (array + 2 * k + j) 0 (omega arith)) in
     let behind_array = λ (k : ℕ) (high : array + 2 * count ≤ k). behind_header k (omega arith) ∙ drops.behind k high ∙ moves.rest k (inr high) in
@@ -89,9 +89,9 @@ takes_cell old a b c new header array count at bottom place room inside front fi
     }
 
 -- the same, with all numbers known by other names
-pub takes_as : (old new : List ℕ) (at header length_of count bottom place room h l n b p r : ℕ) → header ≡ h → length_of ≡ l → count ≡ n → bottom ≡ b → place ≡ p → room ≡ r
+pub TakesCell-same_numbers : (old new : List ℕ) (at header length_of count bottom place room h l n b p r : ℕ) → header ≡ h → length_of ≡ l → count ≡ n → bottom ≡ b → place ≡ p → room ≡ r
     → TakesCell old new header (header + length_of) count at bottom place room → TakesCell old new h (h + l) n at b p r
-takes_as old new at header length_of count bottom place room h l n b p r h_is l_is n_is b_is p_is r_is takes =
+TakesCell-same_numbers old new at header length_of count bottom place room h l n b p r h_is l_is n_is b_is p_is r_is takes =
     subst (λ (x : ℕ). TakesCell old new h (h + l) n at b p x) r_is
     (subst (λ (x : ℕ). TakesCell old new h (h + l) n at b x room) p_is
     (subst (λ (x : ℕ). TakesCell old new h (h + l) n at x place room) b_is
@@ -111,11 +111,11 @@ module _ (old new : List ℕ) (number usable : ℕ) (kind : PageKind) (cells : L
   abbrev others : List (List ℕ)
   others = remove cells at
 
-  many : length others + 1 ≡ length cells
-  many = length-remove cells at inside
+  length-others : length others + 1 ≡ length cells
+  length-others = length-remove cells at inside
 
-  less : rooms others + room ≡ rooms cells
-  less = sum_by-remove cell_room cells at [] inside
+  rooms-others : rooms others + room ≡ rooms cells
+  rooms-others = sum_by-remove cell_room cells at [] inside
 
   -- a cell of the new page that is one of the old page: where it stood in front of the one that went it moved up
   record IsSame (k i : ℕ) : Type 0 where
@@ -124,19 +124,19 @@ module _ (old new : List ℕ) (number usable : ℕ) (kind : PageKind) (cells : L
     stands : ((cell_place old number kind i + cell_room (slice_index_or cells i []) ≤ place) × (cell_place new number kind k ≡ cell_place old number kind i + room))
         ⊎ ((place + room ≤ cell_place old number kind i) × (cell_place new number kind k ≡ cell_place old number kind i))
 
-  apart_turned : (p m q n : ℕ) → AreApart p m q n → AreApart q n p m
-  apart_turned p m q n (inl before) = inr before
-  apart_turned p m q n (inr behind) = inl behind
+  AreApart-turned : (p m q n : ℕ) → AreApart p m q n → AreApart q n p m
+  AreApart-turned p m q n (inl before) = inr before
+  AreApart-turned p m q n (inr behind) = inl behind
 
-  from_moves : (p m q r s : ℕ) → 4 ≤ m → 4 ≤ s → AreApart p m q s → Moves q s p r → ((p + m ≤ q) × (r ≡ p + s)) ⊎ ((q + s ≤ p) × (r ≡ p))
-  from_moves p m q r s some also (inl before) (inl low) = inl (before, low.1)
-  from_moves p m q r s some also (inl before) (inr high) = absurd (omega (arith, before, high.0))
-  from_moves p m q r s some also (inr behind) (inl low) = absurd (omega (arith, behind, low.0))
-  from_moves p m q r s some also (inr behind) (inr high) = inr (behind, high.1)
+  Moves-apart : (p m q r s : ℕ) → 4 ≤ m → 4 ≤ s → AreApart p m q s → Moves q s p r → ((p + m ≤ q) × (r ≡ p + s)) ⊎ ((q + s ≤ p) × (r ≡ p))
+  Moves-apart p m q r s some also (inl before) (inl low) = inl (before, low.1)
+  Moves-apart p m q r s some also (inl before) (inr high) = absurd (omega (arith, before, high.0))
+  Moves-apart p m q r s some also (inr behind) (inl low) = absurd (omega (arith, behind, low.0))
+  Moves-apart p m q r s some also (inr behind) (inr high) = inr (behind, high.1)
 
   -- which cell of the old page stands at an index of the new one
-  source : (k : ℕ) → k < length others → (i : ℕ) × (IsSame k i × (((k < at) × (i ≡ k)) ⊎ ((at ≤ k) × (i ≡ k + 1))))
-  source k low =
+  IsSame-source : (k : ℕ) → k < length others → (i : ℕ) × (IsSame k i × (((k < at) × (i ≡ k)) ⊎ ((at ≤ k) × (i ≡ k + 1))))
+  IsSame-source k low =
       elim (cases_lt k at) [
         | inl below ↦ (
           k,
@@ -144,7 +144,7 @@ module _ (old new : List ℕ) (number usable : ℕ) (kind : PageKind) (cells : L
             record {
               low = omega arith;
               cell = get_or-remove_below cells at [] k below inside;
-              stands = from_moves _ _ _ _ _ (omega arith) (omega arith) (was.apart k at below inside) (takes.in_front k below);
+              stands = Moves-apart _ _ _ _ _ (omega arith) (omega arith) (was.apart k at below inside) (takes.in_front k below);
             },
             inl (below, refl),
           ),
@@ -153,17 +153,17 @@ module _ (old new : List ℕ) (number usable : ℕ) (kind : PageKind) (cells : L
           k + 1,
           (
             record {
-              low = omega (arith, many);
+              low = omega (arith, length-others);
               cell = get_or-remove_above cells at [] k above inside;
-              stands = from_moves _ _ _ _ _ (omega arith) (omega arith) (apart_turned _ _ _ _ (was.apart at (k + 1) (omega arith) (omega (arith, many)))) (takes.above k above (omega (arith, many)));
+              stands = Moves-apart _ _ _ _ _ (omega arith) (omega arith) (AreApart-turned _ _ _ _ (was.apart at (k + 1) (omega arith) (omega (arith, length-others)))) (takes.above k above (omega (arith, length-others)));
             },
             inr (above, refl),
           ),
         )
       ]
 
-  stands_at : (k i : ℕ) → k < length others → IsSame k i → IsCellAt new number usable kind (length others) k (slice_index_or others k [])
-  stands_at k i low same =
+  IsCellAt-same : (k i : ℕ) → k < length others → IsSame k i → IsCellAt new number usable kind (length others) k (slice_index_or others k [])
+  IsCellAt-same k i low same =
       let was_at = was.each i same.low in
       let low_end = no_hole i same.low in
       let its_place = cell_place old number kind i in
@@ -184,54 +184,54 @@ module _ (old new : List ℕ) (number usable : ℕ) (kind : PageKind) (cells : L
         view = was_at.view;
         is_cell = was_at.is_cell;
         stands = stood;
-        behind_array = elim same.stands [ inl up ↦ omega (arith, up.1, was_at.behind_array, many) | inr still ↦ omega (arith, still.1, was_at.behind_array, many) ];
+        behind_array = elim same.stands [ inl up ↦ omega (arith, up.1, was_at.behind_array, length-others) | inr still ↦ omega (arith, still.1, was_at.behind_array, length-others) ];
         inside = elim same.stands [ inl up ↦ omega (arith, up.0, up.1, end) | inr still ↦ omega (arith, still.1, was_at.inside) ];
       })
 
-  ordered : (j k a b : ℕ) → ((j < at) × (a ≡ j)) ⊎ ((at ≤ j) × (a ≡ j + 1)) → ((k < at) × (b ≡ k)) ⊎ ((at ≤ k) × (b ≡ k + 1)) → j < k → a < b
-  ordered j k a b (inl p) (inl q) h = omega (arith, p.1, q.1)
-  ordered j k a b (inl p) (inr q) h = omega (arith, p.1, q.1)
-  ordered j k a b (inr p) (inl q) h = absurd (omega (arith, p.0, q.0))
-  ordered j k a b (inr p) (inr q) h = omega (arith, p.1, q.1)
+  sources-ordered : (j k a b : ℕ) → ((j < at) × (a ≡ j)) ⊎ ((at ≤ j) × (a ≡ j + 1)) → ((k < at) × (b ≡ k)) ⊎ ((at ≤ k) × (b ≡ k + 1)) → j < k → a < b
+  sources-ordered j k a b (inl p) (inl q) h = omega (arith, p.1, q.1)
+  sources-ordered j k a b (inl p) (inr q) h = omega (arith, p.1, q.1)
+  sources-ordered j k a b (inr p) (inl q) h = absurd (omega (arith, p.0, q.0))
+  sources-ordered j k a b (inr p) (inr q) h = omega (arith, p.1, q.1)
 
   -- two that were apart are apart
-  apart_moved : (p m q n r t : ℕ) → AreApart p m q n → ((p + m ≤ place) × (r ≡ p + room)) ⊎ ((place + room ≤ p) × (r ≡ p)) → ((q + n ≤ place) × (t ≡ q + room)) ⊎ ((place + room ≤ q) × (t ≡ q))
+  AreApart-moved : (p m q n r t : ℕ) → AreApart p m q n → ((p + m ≤ place) × (r ≡ p + room)) ⊎ ((place + room ≤ p) × (r ≡ p)) → ((q + n ≤ place) × (t ≡ q + room)) ⊎ ((place + room ≤ q) × (t ≡ q))
       → AreApart r m t n
-  apart_moved p m q n r t (inl x) (inl u) (inl v) = inl (omega (arith, x, u.1, v.1))
-  apart_moved p m q n r t (inr x) (inl u) (inl v) = inr (omega (arith, x, u.1, v.1))
-  apart_moved p m q n r t x (inl u) (inr v) = inl (omega (arith, u.0, u.1, v.0, v.1))
-  apart_moved p m q n r t x (inr u) (inl v) = inr (omega (arith, u.0, u.1, v.0, v.1))
-  apart_moved p m q n r t (inl x) (inr u) (inr v) = inl (omega (arith, x, u.1, v.1))
-  apart_moved p m q n r t (inr x) (inr u) (inr v) = inr (omega (arith, x, u.1, v.1))
+  AreApart-moved p m q n r t (inl x) (inl u) (inl v) = inl (omega (arith, x, u.1, v.1))
+  AreApart-moved p m q n r t (inr x) (inl u) (inl v) = inr (omega (arith, x, u.1, v.1))
+  AreApart-moved p m q n r t x (inl u) (inr v) = inl (omega (arith, u.0, u.1, v.0, v.1))
+  AreApart-moved p m q n r t x (inr u) (inl v) = inr (omega (arith, u.0, u.1, v.0, v.1))
+  AreApart-moved p m q n r t (inl x) (inr u) (inr v) = inl (omega (arith, x, u.1, v.1))
+  AreApart-moved p m q n r t (inr x) (inr u) (inr v) = inr (omega (arith, x, u.1, v.1))
 
-  apart : (j k : ℕ) → j < k → k < length others
+  AreApart-each : (j k : ℕ) → j < k → k < length others
       → AreApart (cell_place new number kind j) (cell_room (slice_index_or others j [])) (cell_place new number kind k) (cell_room (slice_index_or others k []))
-  apart j k order low =
-      let one = source j (omega arith) in
-      let other = source k low in
+  AreApart-each j k order low =
+      let one = IsSame-source j (omega arith) in
+      let other = IsSame-source k low in
       let P : List ℕ → List ℕ → Type 0 = λ c d. AreApart (cell_place new number kind j) (cell_room c) (cell_place new number kind k) (cell_room d) in
       subst⁻¹ (λ (c : List ℕ). P c (slice_index_or others k [])) one.1.0.cell
       (subst⁻¹ (λ (d : List ℕ). P (slice_index_or cells one.0 []) d) other.1.0.cell
-      (apart_moved _ _ _ _ _ _ (was.apart one.0 other.0 (ordered j k one.0 other.0 one.1.1 other.1.1 order) other.1.0.low) one.1.0.stands other.1.0.stands))
+      (AreApart-moved _ _ _ _ _ _ (was.apart one.0 other.0 (sources-ordered j k one.0 other.0 one.1.1 other.1.1 order) other.1.0.low) one.1.0.stands other.1.0.stands))
 
-  begins : usable - rooms others ≡ usable - rooms cells + room
-  begins = omega (arith, less, fits)
+  rooms-begin : usable - rooms others ≡ usable - rooms cells + room
+  rooms-begin = omega (arith, rooms-others, fits)
 
-  pub taken : IsWritten new number usable kind (remove cells at) right
-  taken = record {
+  pub IsWritten-taken : IsWritten new number usable kind (remove cells at) right
+  IsWritten-taken = record {
     is_page = record {
       kind_is = takes.front (header_place number) (omega arith) ∙ was.kind_is;
-      count = omega (arith, takes.counts, many);
-      each = λ k low. let from = source k low in stands_at k from.0 low from.1.0;
-      apart = apart;
+      count = omega (arith, takes.counts, length-others);
+      each = λ k low. let from = IsSame-source k low in IsCellAt-same k from.0 low from.1.0;
+      apart = AreApart-each;
       right_child = right_child-same kind old new (header_place number) right takes.rest was.right_child;
     };
     no_hole = λ k low.
-        let from = source k low in
+        let from = IsSame-source k low in
         let low_end = no_hole from.0 from.1.0.low in
         let at_end = no_hole at inside in
-        elim from.1.0.stands [ inl up ↦ omega (arith, begins, low_end, up.1) | inr still ↦ omega (arith, begins, at_end, still.0, still.1) ];
+        elim from.1.0.stands [ inl up ↦ omega (arith, rooms-begin, low_end, up.1) | inr still ↦ omega (arith, rooms-begin, at_end, still.0, still.1) ];
     no_freeblock = takes.no_freeblock;
-    content = takes.content ∙ ap (λ (n : ℕ). n % 65536) (sym begins);
+    content = takes.content ∙ ap (λ (n : ℕ). n % 65536) (sym rooms-begin);
     no_fragment = takes.no_fragment;
   }

@@ -15,8 +15,8 @@ use Rattle.page_layout.specs.Views.{IsViewAt, AreViews}
 
 module _ (page : List ℕ) (number usable : ℕ) (kind : PageKind) (whole : usable ≤ length page) where
   -- a cell of a page has a view
-  pub view_of : (count k : ℕ) (cell : List ℕ) (at : IsCellAt page number usable kind count k cell) → IsViewAt page number usable kind count k at.view
-  view_of count k cell at =
+  pub IsViewAt-of_cell : (count k : ℕ) (cell : List ℕ) (at : IsCellAt page number usable kind count k cell) → IsViewAt page number usable kind count k at.view
+  IsViewAt-of_cell count k cell at =
       let size = view-size kind usable cell at.view at.is_cell in
       let bytes : part_of page (cell_place page number kind k) at.view.size ≡ cell = ap (part_of page (cell_place page number kind k)) size ∙ at.stands in
       record {
@@ -26,9 +26,9 @@ module _ (page : List ℕ) (number usable : ℕ) (kind : PageKind) (whole : usab
       }
 
   -- and a view is that of a cell
-  pub cell_of : (count k : ℕ) (view : CellView) → IsViewAt page number usable kind count k view
+  pub IsCellAt-of_view : (count k : ℕ) (view : CellView) → IsViewAt page number usable kind count k view
       → IsCellAt page number usable kind count k (part_of page (cell_place page number kind k) view.size)
-  cell_of count k view at =
+  IsCellAt-of_view count k view at =
       let place = cell_place page number kind k in
       let long : length (part_of page place view.size) ≡ view.size = length-part_of page place view.size (omega (arith, at.inside)) in
       record {
@@ -40,9 +40,9 @@ module _ (page : List ℕ) (number usable : ℕ) (kind : PageKind) (whole : usab
       }
 
   -- a view is that of the bytes from its place on
-  pub begins : (count k : ℕ) (view : CellView) → IsViewAt page number usable kind count k view
+  pub IsViewAt-begins : (count k : ℕ) (view : CellView) → IsViewAt page number usable kind count k view
       → BeginsWithCell kind usable (take (usable - cell_place page number kind k) (drop (cell_place page number kind k) page)) view
-  begins count k view at =
+  IsViewAt-begins count k view at =
       let place = cell_place page number kind k in
       let bytes = drop place page in
       let fits : view.size ≤ usable - place = omega (arith, at.inside) in (
@@ -50,9 +50,9 @@ module _ (page : List ℕ) (number usable : ℕ) (kind : PageKind) (whole : usab
         subst⁻¹ (λ (c : List ℕ). IsCell kind usable c view) (take-take view.size (usable - place) bytes fits) at.is_cell,
       )
 
-  pub begun : (count k : ℕ) (view : CellView) → array_place number kind + 2 * count ≤ cell_place page number kind k → cell_place page number kind k + max 4 view.size ≤ usable
+  pub IsViewAt-begun : (count k : ℕ) (view : CellView) → array_place number kind + 2 * count ≤ cell_place page number kind k → cell_place page number kind k + max 4 view.size ≤ usable
       → BeginsWithCell kind usable (take (usable - cell_place page number kind k) (drop (cell_place page number kind k) page)) view → IsViewAt page number usable kind count k view
-  begun count k view behind inside begins =
+  IsViewAt-begun count k view behind inside begins =
       let place = cell_place page number kind k in
       let fits : view.size ≤ usable - place = omega arith in
       record {
@@ -62,10 +62,10 @@ module _ (page : List ℕ) (number usable : ℕ) (kind : PageKind) (whole : usab
       }
 
   -- one view stands at an index
-  pub same_view_at : (count other k : ℕ) (a b : CellView) → IsViewAt page number usable kind count k a → IsViewAt page number usable kind other k b → a ≡ b
-  same_view_at count other k a b one two = cell-same_first kind usable _ a b (begins count k a one) (begins other k b two)
+  pub IsViewAt-one : (count other k : ℕ) (a b : CellView) → IsViewAt page number usable kind count k a → IsViewAt page number usable kind other k b → a ≡ b
+  IsViewAt-one count other k a b one two = cell-same_first kind usable _ a b (IsViewAt-begins count k a one) (IsViewAt-begins other k b two)
 
   -- one list of views
-  pub same_views : (count : ℕ) (a b : List CellView) → length a ≡ count → length b ≡ count → AreViews page number usable kind count a → AreViews page number usable kind count b → a ≡ b
-  same_views count a b many also one two =
-      same_lists a b (many ∙ sym also) (λ k d low. same_view_at count count k (get_or a k d) (get_or b k d) (one.each k d low) (two.each k d (omega (arith, low, many, also))))
+  pub AreViews-one : (count : ℕ) (a b : List CellView) → length a ≡ count → length b ≡ count → AreViews page number usable kind count a → AreViews page number usable kind count b → a ≡ b
+  AreViews-one count a b many also one two =
+      same_lists a b (many ∙ sym also) (λ k d low. IsViewAt-one count count k (get_or a k d) (get_or b k d) (one.each k d low) (two.each k d (omega (arith, low, many, also))))

@@ -7,9 +7,9 @@ use Rattle.page_spec.specs.Pages.{Pages, with_page}
 use Rattle.page_store.specs.Plain.{numbered}
 
 -- a page that is written, by its place in the list
-set_at_place : (contents : List (List ℕ)) (i : ℕ) (bytes : List ℕ) → i < length contents → (n : ℕ) → numbered (set contents i bytes) n ≡ with_page (numbered contents) (suc i) bytes n
-set_at_place contents i bytes inside zero = ap (λ (b : Bool). if b then bytes else []) (sym (ne_eqb (suc i) zero (λ e. omega arith)))
-set_at_place contents i bytes inside (suc k) =
+numbered-set_place : (contents : List (List ℕ)) (i : ℕ) (bytes : List ℕ) → i < length contents → (n : ℕ) → numbered (set contents i bytes) n ≡ with_page (numbered contents) (suc i) bytes n
+numbered-set_place contents i bytes inside zero = ap (λ (b : Bool). if b then bytes else []) (sym (ne_eqb (suc i) zero (λ e. omega arith)))
+numbered-set_place contents i bytes inside (suc k) =
     elim (cases_eq i k) [
       | inl same ↦
           let there : k < length contents = omega arith in
@@ -24,7 +24,7 @@ pub numbered-set : (contents : List (List ℕ)) (number : ℕ) (bytes : List ℕ
     → numbered (set contents (number - 1) bytes) ≡ with_page (numbered contents) number bytes
 numbered-set contents number bytes first within =
     let back : suc (number - 1) ≡ number = omega arith in
-    fun_ext (set_at_place contents (number - 1) bytes (omega arith)) ∙ ap (λ (m : ℕ). with_page (numbered contents) m bytes) back
+    fun_ext (numbered-set_place contents (number - 1) bytes (omega arith)) ∙ ap (λ (m : ℕ). with_page (numbered contents) m bytes) back
 
 -- pages up to a count that two lists share
 pub numbered-take : (contents others : List (List ℕ)) (count : ℕ) → take count contents ≡ take count others → (n : ℕ) → n ≤ count → numbered contents n ≡ numbered others n

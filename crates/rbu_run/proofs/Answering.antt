@@ -32,11 +32,11 @@ pub record Settled (salt : ℕ × ℕ) (words : List (List ℕ)) (before after :
 abbrev pub IsTellable : Answer → Answer → Type 0
 IsTellable answer told = (told ≡ answer) ⊎ ((told ≡ NoMemory) × ((table : List ℕ) × (data_rowid : ℤ) × (answer ≡ Ended (KeyPresent table data_rowid))))
 
-pub not_asked : (words : List (List ℕ)) → IsUsage words → ¬ AsksUpdate words
-not_asked words usage asks = usage (Apply 4294967295) asks
+pub usage-asks_no_update : (words : List (List ℕ)) → IsUsage words → ¬ AsksUpdate words
+usage-asks_no_update words usage asks = usage (Apply 4294967295) asks
 
-no_memory : (salt : ℕ × ℕ) (words : List (List ℕ)) (a b : Option Files) (table : List ℕ) (id : ℤ) → Settled salt words a b (Ended (KeyPresent table id)) → Settled salt words a b NoMemory
-no_memory salt words a b table id settled = record {
+settled-no_memory : (salt : ℕ × ℕ) (words : List (List ℕ)) (a b : Option Files) (table : List ℕ) (id : ℤ) → Settled salt words a b (Ended (KeyPresent table id)) → Settled salt words a b NoMemory
+settled-no_memory salt words a b table id settled = record {
   of_words = asked settled.of_words;
   files = λ asks. Leads-weaken (settled.files asks) (λ f g ends. ends.0.1);
   idle = settled.idle;
@@ -50,7 +50,7 @@ no_memory salt words a b table id settled = record {
 pub settled-told : (salt : ℕ × ℕ) (words : List (List ℕ)) (a b : Option Files) (answer told : Answer) → Settled salt words a b answer → IsTellable answer told → Settled salt words a b told
 settled-told salt words a b answer told settled (inl same) = subst (Settled salt words a b) (sym same) settled
 settled-told salt words a b answer told settled (inr short) =
-    subst (Settled salt words a b) (sym short.0) (no_memory salt words a b short.1.0 short.1.1 (subst (Settled salt words a b) short.1.2 settled))
+    subst (Settled salt words a b) (sym short.0) (settled-no_memory salt words a b short.1.0 short.1.1 (subst (Settled salt words a b) short.1.2 settled))
 
 pub counted-told : {D : Type 0} {d : disk.Ghosts D} {before after : D} (answer told : Answer) → IsCounted d before after answer → IsTellable answer told → IsCounted d before after told
 counted-told {d = d} {before = before} {after = after} answer told counted (inl same) = subst (IsCounted d before after) (sym same) counted
@@ -59,155 +59,155 @@ counted-told {d = d} {before = before} {after = after} answer told counted (inr 
     subst (IsCounted d before after) (sym short.0) (record { later = present.later; cause = present.cause })
 
 -- a fact of the files however the update ended, and of files that stay
-pub however : (salt : ℕ × ℕ) (words : List (List ℕ)) (a b : Option Files) (answer : Answer) {Q : Files → Files → Type 0} → Settled salt words a b answer →
+pub settled-however : (salt : ℕ × ℕ) (words : List (List ℕ)) (a b : Option Files) (answer : Answer) {Q : Files → Files → Type 0} → Settled salt words a b answer →
     ((f g : Files) → EndsAs salt answer f g → Q f g) → ((f : Files) → Q f f) → Leads Q a b
-however salt words a b answer {Q = Q} settled ends stays = by settled.of_words
+settled-however salt words a b answer {Q = Q} settled ends stays = by settled.of_words
   where
     by : IsOfWords words answer → Leads Q a b
     by (inl asks) = Leads-weaken (settled.files asks.0) ends
     by (inr (inl more)) = Leads-same (settled.idle more.0.0) stays
-    by (inr (inr usage)) = Leads-same (settled.idle (not_asked words usage.0)) stays
+    by (inr (inr usage)) = Leads-same (settled.idle (usage-asks_no_update words usage.0)) stays
 
 -- the answer of the words and the files
-update_answer : (salt : ℕ × ℕ) (a b : Option Files) (answer : Answer) → answer ≢ Usage → Leads (EndsAs salt answer) a b → IsUpdateAnswer small_inserts a b answer
-update_answer salt a b Usage other led = absurd (other refl)
-update_answer salt a b (Ended Done) other led = Leads-weaken led (λ f g ends. IsFinished-done f g ends.0)
-update_answer salt a b (Ended (KeyPresent table id)) other led = Leads-weaken led (λ f g ends. ends.0)
-update_answer salt a b (Ended (Refused refusal)) other led = Leads-weaken led (λ f g ends. ends.0)
-update_answer salt a b (Fault file call) other led = Leads-weaken led (fault-ends salt file call)
-update_answer salt a b NoMemory other led = same-Leads led
+IsUpdateAnswer-from_ending : (salt : ℕ × ℕ) (a b : Option Files) (answer : Answer) → answer ≢ Usage → Leads (EndsAs salt answer) a b → IsUpdateAnswer small_inserts a b answer
+IsUpdateAnswer-from_ending salt a b Usage other led = absurd (other refl)
+IsUpdateAnswer-from_ending salt a b (Ended Done) other led = Leads-weaken led (λ f g ends. IsFinished-done f g ends.0)
+IsUpdateAnswer-from_ending salt a b (Ended (KeyPresent table id)) other led = Leads-weaken led (λ f g ends. ends.0)
+IsUpdateAnswer-from_ending salt a b (Ended (Refused refusal)) other led = Leads-weaken led (λ f g ends. ends.0)
+IsUpdateAnswer-from_ending salt a b (Fault file call) other led = Leads-weaken led (fault-ends salt file call)
+IsUpdateAnswer-from_ending salt a b NoMemory other led = same-Leads led
 
-pub answers : (salt : ℕ × ℕ) (words : List (List ℕ)) (a b : Option Files) (answer : Answer) → Settled salt words a b answer → IsAnswer small_inserts words a b answer
-answers salt words a b answer settled = by settled.of_words
+pub settled-answers : (salt : ℕ × ℕ) (words : List (List ℕ)) (a b : Option Files) (answer : Answer) → Settled salt words a b answer → IsAnswer small_inserts words a b answer
+settled-answers salt words a b answer settled = by settled.of_words
   where
     by : IsOfWords words answer → IsAnswer small_inserts words a b answer
-    by (inl asks) = inl (asks.0, update_answer salt a b answer asks.1 (settled.files asks.0))
+    by (inl asks) = inl (asks.0, IsUpdateAnswer-from_ending salt a b answer asks.1 (settled.files asks.0))
     by (inr (inl more)) = inr (inl (more.0, more.1, settled.idle more.0.0))
-    by (inr (inr usage)) = inr (inr (usage.0, usage.1, settled.idle (not_asked words usage.0)))
+    by (inr (inr usage)) = inr (inr (usage.0, usage.1, settled.idle (usage-asks_no_update words usage.0)))
 
 module _ (salt : ℕ × ℕ) (words : List (List ℕ)) (a b : Option Files) where
   -- only the update has this answer
-  asked : (answer : Answer) → (answer ≢ Ended (Refused (NotYet part.Words))) → (answer ≢ Usage) → Settled salt words a b answer → AsksUpdate words × Leads (EndsAs salt answer) a b
-  asked answer other also settled = by settled.of_words
+  settled-asked : (answer : Answer) → (answer ≢ Ended (Refused (NotYet part.Words))) → (answer ≢ Usage) → Settled salt words a b answer → AsksUpdate words × Leads (EndsAs salt answer) a b
+  settled-asked answer other also settled = by settled.of_words
     where
       by : IsOfWords words answer → AsksUpdate words × Leads (EndsAs salt answer) a b
       by (inl asks) = (asks.0, settled.files asks.0)
       by (inr (inl more)) = absurd (other more.1)
       by (inr (inr usage)) = absurd (also usage.1)
 
-  done_status : (answer : Answer) → Settled salt words a b answer → answer_status answer ≡ 0 → AsksUpdate words × Leads IsFinished a b
-  done_status Usage settled zero = absurd (omega (arith, zero))
-  done_status (Ended Done) settled zero =
-      let is = asked (Ended Done) (λ e. let same : Ended Done ≡ Ended (Refused (NotYet part.Words)) = e in cc) (λ e. let same : Ended Done ≡ Usage = e in cc) settled in
+  settled-done : (answer : Answer) → Settled salt words a b answer → answer_status answer ≡ 0 → AsksUpdate words × Leads IsFinished a b
+  settled-done Usage settled zero = absurd (omega (arith, zero))
+  settled-done (Ended Done) settled zero =
+      let is = settled-asked (Ended Done) (λ e. let same : Ended Done ≡ Ended (Refused (NotYet part.Words)) = e in cc) (λ e. let same : Ended Done ≡ Usage = e in cc) settled in
       (is.0, Leads-weaken is.1 (λ f g ends. ends.0))
-  done_status (Ended (KeyPresent table id)) settled zero = absurd (omega (arith, zero))
-  done_status (Ended (Refused refusal)) settled zero = absurd (omega (arith, zero))
-  done_status (Fault file call) settled zero = absurd (omega (arith, zero))
-  done_status NoMemory settled zero = absurd (omega (arith, zero))
+  settled-done (Ended (KeyPresent table id)) settled zero = absurd (omega (arith, zero))
+  settled-done (Ended (Refused refusal)) settled zero = absurd (omega (arith, zero))
+  settled-done (Fault file call) settled zero = absurd (omega (arith, zero))
+  settled-done NoMemory settled zero = absurd (omega (arith, zero))
 
-  fault_status : (answer : Answer) → Settled salt words a b answer → answer_status answer ≡ 3 → AsksUpdate words × Leads KeepsOnFault a b
-  fault_status Usage settled three = absurd (omega (arith, three))
-  fault_status (Ended Done) settled three = absurd (omega (arith, three))
-  fault_status (Ended (KeyPresent table id)) settled three =
-      let is = asked (Ended (KeyPresent table id)) (λ e. let same : Ended (KeyPresent table id) ≡ Ended (Refused (NotYet part.Words)) = e in cc) (λ e. let same : Ended (KeyPresent table id) ≡ Usage = e in cc) settled in
+  settled-constraint : (answer : Answer) → Settled salt words a b answer → answer_status answer ≡ 3 → AsksUpdate words × Leads KeepsOnFault a b
+  settled-constraint Usage settled three = absurd (omega (arith, three))
+  settled-constraint (Ended Done) settled three = absurd (omega (arith, three))
+  settled-constraint (Ended (KeyPresent table id)) settled three =
+      let is = settled-asked (Ended (KeyPresent table id)) (λ e. let same : Ended (KeyPresent table id) ≡ Ended (Refused (NotYet part.Words)) = e in cc) (λ e. let same : Ended (KeyPresent table id) ≡ Usage = e in cc) settled in
       (is.0, Leads-weaken is.1 (λ f g ends. ((table, id, ends.0.0), ends.0.1)))
-  fault_status (Ended (Refused refusal)) settled three = absurd (omega (arith, three))
-  fault_status (Fault file call) settled three = absurd (omega (arith, three))
-  fault_status NoMemory settled three = absurd (omega (arith, three))
+  settled-constraint (Ended (Refused refusal)) settled three = absurd (omega (arith, three))
+  settled-constraint (Fault file call) settled three = absurd (omega (arith, three))
+  settled-constraint NoMemory settled three = absurd (omega (arith, three))
 
-  refused_status : (answer : Answer) → Settled salt words a b answer → answer_status answer ≡ 4 → AsksMore words ⊎ (AsksUpdate words × Leads KeepsOnRefusal a b)
-  refused_status Usage settled four = absurd (omega (arith, four))
-  refused_status (Ended Done) settled four = absurd (omega (arith, four))
-  refused_status (Ended (KeyPresent table id)) settled four = absurd (omega (arith, four))
-  refused_status (Ended (Refused refusal)) settled four = by settled.of_words
+  settled-refused : (answer : Answer) → Settled salt words a b answer → answer_status answer ≡ 4 → AsksMore words ⊎ (AsksUpdate words × Leads KeepsOnRefusal a b)
+  settled-refused Usage settled four = absurd (omega (arith, four))
+  settled-refused (Ended Done) settled four = absurd (omega (arith, four))
+  settled-refused (Ended (KeyPresent table id)) settled four = absurd (omega (arith, four))
+  settled-refused (Ended (Refused refusal)) settled four = by settled.of_words
     where
       by : IsOfWords words (Ended (Refused refusal)) → AsksMore words ⊎ (AsksUpdate words × Leads KeepsOnRefusal a b)
       by (inl asks) = inr (asks.0, Leads-weaken (settled.files asks.0) (λ f g ends. ((refusal, ends.0.0), ends.0.1)))
       by (inr (inl more)) = inl more.0
       by (inr (inr usage)) = absurd (let e = usage.1 in cc)
-  refused_status (Fault file call) settled four = absurd (omega (arith, four))
-  refused_status NoMemory settled four = absurd (omega (arith, four))
+  settled-refused (Fault file call) settled four = absurd (omega (arith, four))
+  settled-refused NoMemory settled four = absurd (omega (arith, four))
 
-  short_status : (answer : Answer) → Settled salt words a b answer → answer_status answer ≡ 7 → Leads (λ f g. g ≡ f) a b
-  short_status Usage settled seven = absurd (omega (arith, seven))
-  short_status (Ended Done) settled seven = absurd (omega (arith, seven))
-  short_status (Ended (KeyPresent table id)) settled seven = absurd (omega (arith, seven))
-  short_status (Ended (Refused refusal)) settled seven = absurd (omega (arith, seven))
-  short_status (Fault file call) settled seven = absurd (omega (arith, seven))
-  short_status NoMemory settled seven = however salt words a b NoMemory settled (λ f g same. same) (λ f. refl)
+  settled-memory : (answer : Answer) → Settled salt words a b answer → answer_status answer ≡ 7 → Leads (λ f g. g ≡ f) a b
+  settled-memory Usage settled seven = absurd (omega (arith, seven))
+  settled-memory (Ended Done) settled seven = absurd (omega (arith, seven))
+  settled-memory (Ended (KeyPresent table id)) settled seven = absurd (omega (arith, seven))
+  settled-memory (Ended (Refused refusal)) settled seven = absurd (omega (arith, seven))
+  settled-memory (Fault file call) settled seven = absurd (omega (arith, seven))
+  settled-memory NoMemory settled seven = settled-however salt words a b NoMemory settled (λ f g same. same) (λ f. refl)
 
-  usage_status : (answer : Answer) → Settled salt words a b answer → answer_status answer ≡ 2 → IsUsage words
-  usage_status Usage settled two = by settled.of_words
+  settled-usage : (answer : Answer) → Settled salt words a b answer → answer_status answer ≡ 2 → IsUsage words
+  settled-usage Usage settled two = by settled.of_words
     where
       by : IsOfWords words Usage → IsUsage words
       by (inl asks) = absurd (asks.1 refl)
       by (inr (inl more)) = absurd (let e = more.1 in cc)
       by (inr (inr usage)) = usage.0
-  usage_status (Ended Done) settled two = absurd (omega (arith, two))
-  usage_status (Ended (KeyPresent table id)) settled two = absurd (omega (arith, two))
-  usage_status (Ended (Refused refusal)) settled two = absurd (omega (arith, two))
-  usage_status (Fault file call) settled two = absurd (omega (arith, two))
-  usage_status NoMemory settled two = absurd (omega (arith, two))
+  settled-usage (Ended Done) settled two = absurd (omega (arith, two))
+  settled-usage (Ended (KeyPresent table id)) settled two = absurd (omega (arith, two))
+  settled-usage (Ended (Refused refusal)) settled two = absurd (omega (arith, two))
+  settled-usage (Fault file call) settled two = absurd (omega (arith, two))
+  settled-usage NoMemory settled two = absurd (omega (arith, two))
 
-  outcome_status_of : (answer : Answer) (outcome : Outcome) (status : ℕ) → IsOutcome outcome answer → status ≡ answer_status answer → (status ≡ outcome_status outcome) ⊎ IsHalted status
-  outcome_status_of Usage outcome status is told = absurd is
-  outcome_status_of (Ended other) outcome status is told = inl (told ∙ ap outcome_status (sym is))
-  outcome_status_of (Fault file call) outcome status is told = inr (omega (arith, told), omega (arith, told))
-  outcome_status_of NoMemory outcome status is told = inr (omega (arith, told), omega (arith, told))
+  status-of_outcome : (answer : Answer) (outcome : Outcome) (status : ℕ) → IsOutcome outcome answer → status ≡ answer_status answer → (status ≡ outcome_status outcome) ⊎ IsHalted status
+  status-of_outcome Usage outcome status is told = absurd is
+  status-of_outcome (Ended other) outcome status is told = inl (told ∙ ap outcome_status (sym is))
+  status-of_outcome (Fault file call) outcome status is told = inr (omega (arith, told), omega (arith, told))
+  status-of_outcome NoMemory outcome status is told = inr (omega (arith, told), omega (arith, told))
 
   module _ {O : Type 0} {o : sink.Ghosts O} (x y : O) (answer : Answer) (status : ℕ) (settled : Settled salt words a b answer) (told : IsTold o answer x y status) where
-    pub at_status : {Q : Type 0} (n : ℕ) → n ≢ 8 → (answer_status answer ≡ n → Q) → status ≡ n → Q
-    at_status {Q} n other q is = by told
+    pub told-at_status : {Q : Type 0} (n : ℕ) → n ≢ 8 → (answer_status answer ≡ n → Q) → status ≡ n → Q
+    told-at_status {Q} n other q is = by told
       where
         by : IsTold o answer x y status → Q
         by (inl line) = q (sym line.0 ∙ is)
         by (inr failed) = absurd (other (sym is ∙ failed.0))
 
-    pub done : status ≡ 0 → AsksUpdate words × Leads IsFinished a b
-    done = at_status 0 (λ e. omega (arith, e)) (done_status answer settled)
+    pub told-done : status ≡ 0 → AsksUpdate words × Leads IsFinished a b
+    told-done = told-at_status 0 (λ e. omega (arith, e)) (settled-done answer settled)
 
-    pub constraint : status ≡ 3 → AsksUpdate words × Leads KeepsOnFault a b
-    constraint = at_status 3 (λ e. omega (arith, e)) (fault_status answer settled)
+    pub told-constraint : status ≡ 3 → AsksUpdate words × Leads KeepsOnFault a b
+    told-constraint = told-at_status 3 (λ e. omega (arith, e)) (settled-constraint answer settled)
 
-    pub refused : status ≡ 4 → AsksMore words ⊎ (AsksUpdate words × Leads KeepsOnRefusal a b)
-    refused = at_status 4 (λ e. omega (arith, e)) (refused_status answer settled)
+    pub told-refused : status ≡ 4 → AsksMore words ⊎ (AsksUpdate words × Leads KeepsOnRefusal a b)
+    told-refused = told-at_status 4 (λ e. omega (arith, e)) (settled-refused answer settled)
 
-    pub memory : status ≡ 7 → Leads (λ f g. g ≡ f) a b
-    memory = at_status 7 (λ e. omega (arith, e)) (short_status answer settled)
+    pub told-memory : status ≡ 7 → Leads (λ f g. g ≡ f) a b
+    told-memory = told-at_status 7 (λ e. omega (arith, e)) (settled-memory answer settled)
 
-    pub usage : status ≡ 2 → IsUsage words
-    usage = at_status 2 (λ e. omega (arith, e)) (usage_status answer settled)
+    pub told-usage : status ≡ 2 → IsUsage words
+    told-usage = told-at_status 2 (λ e. omega (arith, e)) (settled-usage answer settled)
 
     -- words that ask for no update have one answer
-    pub only_one : (other : Answer) → answer ≡ other → (status ≡ answer_status other) ⊎ (status ≡ 8)
-    only_one other same = by told
+    pub told-only_one : (other : Answer) → answer ≡ other → (status ≡ answer_status other) ⊎ (status ≡ 8)
+    told-only_one other same = by told
       where
         by : IsTold o answer x y status → (status ≡ answer_status other) ⊎ (status ≡ 8)
         by (inl line) = inl (line.0 ∙ ap answer_status same)
         by (inr failed) = inr failed.0
 
-    pub not_built : AsksMore words → (status ≡ 4) ⊎ (status ≡ 8)
-    not_built more = by settled.of_words
+    pub told-not_built : AsksMore words → (status ≡ 4) ⊎ (status ≡ 8)
+    told-not_built more = by settled.of_words
       where
         by : IsOfWords words answer → (status ≡ 4) ⊎ (status ≡ 8)
         by (inl asks) = absurd (more.0 asks.0)
-        by (inr (inl is)) = only_one (Ended (Refused (NotYet part.Words))) is.1
+        by (inr (inl is)) = told-only_one (Ended (Refused (NotYet part.Words))) is.1
         by (inr (inr usage)) = absurd (usage.0 more.1.0 more.1.1)
 
-    pub usage_only : IsUsage words → (status ≡ 2) ⊎ (status ≡ 8)
-    usage_only usage = by settled.of_words
+    pub told-usage_only : IsUsage words → (status ≡ 2) ⊎ (status ≡ 8)
+    told-usage_only usage = by settled.of_words
       where
         by : IsOfWords words answer → (status ≡ 2) ⊎ (status ≡ 8)
-        by (inl asks) = absurd (not_asked words usage asks.0)
+        by (inl asks) = absurd (usage-asks_no_update words usage asks.0)
         by (inr (inl more)) = absurd (usage more.0.1.0 more.0.1.1)
-        by (inr (inr is)) = only_one Usage is.1
+        by (inr (inr is)) = told-only_one Usage is.1
 
     -- the status is that of the files' outcome unless the call was halted
-    pub complete : AsksUpdate words → Leads (λ f _. HasStatusOf status f) a b
-    complete asks = Leads-weaken (settled.files asks) (λ f g ends outcome has. by outcome (outcome-ends salt answer f g ends outcome has) told)
+    pub told-complete : AsksUpdate words → Leads (λ f _. HasStatusOf status f) a b
+    told-complete asks = Leads-weaken (settled.files asks) (λ f g ends outcome has. by outcome (outcome-ends salt answer f g ends outcome has) told)
       where
         by : (outcome : Outcome) → IsOutcome outcome answer → IsTold o answer x y status → (status ≡ outcome_status outcome) ⊎ IsHalted status
-        by outcome is (inl line) = outcome_status_of answer outcome status is line.0
+        by outcome is (inl line) = status-of_outcome answer outcome status is line.0
         by outcome is (inr failed) = inr (omega (arith, failed.0), omega (arith, failed.0))
 
 -- the statuses of answers
@@ -223,52 +223,52 @@ pub status-told : {O : Type 0} {o : sink.Ghosts O} (x y : O) (answer : Answer) (
 status-told x y answer status (inl line) = subst IsStatus (sym line.0) (status-answer answer)
 status-told x y answer status (inr failed) = subst IsStatus (sym failed.0) (omega arith, λ e. omega (arith, e), λ e. omega (arith, e))
 
-below_eight : (answer : Answer) → answer_status answer ≤ 7
-below_eight Usage = omega arith
-below_eight (Ended Done) = omega arith
-below_eight (Ended (KeyPresent table id)) = omega arith
-below_eight (Ended (Refused refusal)) = omega arith
-below_eight (Fault file call) = omega arith
-below_eight NoMemory = omega arith
+answer_status-below_eight : (answer : Answer) → answer_status answer ≤ 7
+answer_status-below_eight Usage = omega arith
+answer_status-below_eight (Ended Done) = omega arith
+answer_status-below_eight (Ended (KeyPresent table id)) = omega arith
+answer_status-below_eight (Ended (Refused refusal)) = omega arith
+answer_status-below_eight (Fault file call) = omega arith
+answer_status-below_eight NoMemory = omega arith
 
-pub writes : {O : Type 0} {o : sink.Ghosts O} (x y : O) (answer : Answer) (status : ℕ) → IsTold o answer x y status → CountsWrites o x y status
-writes x y answer status (inl line) = record {
+pub told-counts_writes : {O : Type 0} {o : sink.Ghosts O} (x y : O) (answer : Answer) (status : ℕ) → IsTold o answer x y status → CountsWrites o x y status
+told-counts_writes x y answer status (inl line) = record {
   later = omega (arith, line.1.still);
   none = λ other. line.1.still;
-  rose = λ eight. absurd (omega (arith, below_eight answer, line.0, eight));
+  rose = λ eight. absurd (omega (arith, answer_status-below_eight answer, line.0, eight));
 }
-writes x y answer status (inr failed) = record { later = failed.1.later; none = λ other. absurd (other failed.0); rose = λ eight. failed.1.rose }
+told-counts_writes x y answer status (inr failed) = record { later = failed.1.later; none = λ other. absurd (other failed.0); rose = λ eight. failed.1.rose }
 
-pub owed : {D : Type 0} {d : disk.Ghosts D} (salt : ℕ × ℕ) (words : List (List ℕ)) (before after : D) (answer : Answer) → Settled salt words (d.shown before) (d.shown after) answer →
+pub settled-owed : {D : Type 0} {d : disk.Ghosts D} (salt : ℕ × ℕ) (words : List (List ℕ)) (before after : D) (answer : Answer) → Settled salt words (d.shown before) (d.shown after) answer →
     IsCounted d before after answer → IsOwed d words before after answer
-owed {d = d} salt words before after answer settled counted = record {
-  answers = answers salt words (d.shown before) (d.shown after) answer settled;
+settled-owed {d = d} salt words before after answer settled counted = record {
+  answers = settled-answers salt words (d.shown before) (d.shown after) answer settled;
   outcome = λ asks. Leads-weaken (settled.files asks) (outcome-ends salt answer);
   calls = counted;
 }
 
 -- the disk and the output of a call
 module _ {D O : Type 0} {d : disk.Ghosts D} {o : sink.Ghosts O} (salt : ℕ × ℕ) (words : List (List ℕ)) (before after : D) (x y : O) where
-  named : (answer : Answer) (status : ℕ) → Settled salt words (d.shown before) (d.shown after) answer → IsCounted d before after answer → IsTold o answer x y status →
+  settled-fault : (answer : Answer) (status : ℕ) → Settled salt words (d.shown before) (d.shown after) answer → IsCounted d before after answer → IsTold o answer x y status →
       answer_status answer ≡ 6 → TellsFault d o before after x y status
-  named Usage status settled counted told six = absurd (omega (arith, six))
-  named (Ended Done) status settled counted told six = absurd (omega (arith, six))
-  named (Ended (KeyPresent table id)) status settled counted told six = absurd (omega (arith, six))
-  named (Ended (Refused refusal)) status settled counted told six = absurd (omega (arith, six))
-  named (Fault file call) status settled counted told six =
-      (file, call, counted.cause, however salt words (d.shown before) (d.shown after) (Fault file call) settled (fault-ends salt file call) (λ f. inl refl), told)
-  named NoMemory status settled counted told six = absurd (omega (arith, six))
+  settled-fault Usage status settled counted told six = absurd (omega (arith, six))
+  settled-fault (Ended Done) status settled counted told six = absurd (omega (arith, six))
+  settled-fault (Ended (KeyPresent table id)) status settled counted told six = absurd (omega (arith, six))
+  settled-fault (Ended (Refused refusal)) status settled counted told six = absurd (omega (arith, six))
+  settled-fault (Fault file call) status settled counted told six =
+      (file, call, counted.cause, settled-however salt words (d.shown before) (d.shown after) (Fault file call) settled (fault-ends salt file call) (λ f. inl refl), told)
+  settled-fault NoMemory status settled counted told six = absurd (omega (arith, six))
 
   -- status 6 names the last call on the disk that failed
-  pub fault : (answer : Answer) (status : ℕ) → Settled salt words (d.shown before) (d.shown after) answer → IsCounted d before after answer → IsTold o answer x y status →
+  pub told-fault : (answer : Answer) (status : ℕ) → Settled salt words (d.shown before) (d.shown after) answer → IsCounted d before after answer → IsTold o answer x y status →
       status ≡ 6 → TellsFault d o before after x y status
-  fault answer status settled counted told =
-      at_status salt words (d.shown before) (d.shown after) x y answer status settled told 6 (λ e. omega (arith, e)) (named answer status settled counted told)
+  told-fault answer status settled counted told =
+      told-at_status salt words (d.shown before) (d.shown after) x y answer status settled told 6 (λ e. omega (arith, e)) (settled-fault answer status settled counted told)
 
   -- no other status passes over a call that failed
-  pub calls : (answer : Answer) (status : ℕ) → IsCounted d before after answer → IsTold o answer x y status → CountsCalls d before after status
-  calls answer status counted (inr failed) = record { later = counted.later; none = λ six eight. absurd (eight failed.0) }
-  calls Usage status counted (inl line) = record { later = counted.later; none = λ six eight. counted.cause }
-  calls (Ended outcome) status counted (inl line) = record { later = counted.later; none = λ six eight. counted.cause }
-  calls (Fault file call) status counted (inl line) = record { later = counted.later; none = λ six eight. absurd (six line.0) }
-  calls NoMemory status counted (inl line) = record { later = counted.later; none = λ six eight. counted.cause }
+  pub told-counts_calls : (answer : Answer) (status : ℕ) → IsCounted d before after answer → IsTold o answer x y status → CountsCalls d before after status
+  told-counts_calls answer status counted (inr failed) = record { later = counted.later; none = λ six eight. absurd (eight failed.0) }
+  told-counts_calls Usage status counted (inl line) = record { later = counted.later; none = λ six eight. counted.cause }
+  told-counts_calls (Ended outcome) status counted (inl line) = record { later = counted.later; none = λ six eight. counted.cause }
+  told-counts_calls (Fault file call) status counted (inl line) = record { later = counted.later; none = λ six eight. absurd (six line.0) }
+  told-counts_calls NoMemory status counted (inl line) = record { later = counted.later; none = λ six eight. counted.cause }

@@ -18,7 +18,7 @@ use Rattle.rbu_disk.specs.declared.sink.Sink as sink
 use Rattle.rbu_run.specs.Crash.{MomentsShow, IsStableAnswer, Survives}
 use Rattle.rbu_run.specs.Status.{HasEnded, IsOfWords}
 use Rattle.rbu_run.specs.Told.{IsTold}
-use Rattle.rbu_run.proofs.Answering.{IsTellable, not_asked}
+use Rattle.rbu_run.proofs.Answering.{IsTellable, usage-asks_no_update}
 use Rattle.rbu_run.proofs.Moments.{Leads-after}
 
 -- what a crash may leave behind an answer of the words
@@ -34,62 +34,62 @@ survives-told a b answer told survives (inr short) =
     subst (λ (x : Answer). Leads (Survives (IsStableAnswer x)) a b) (sym short.0) (Leads-weaken survives (λ x y s. record { moments = s.moments; end = tt }))
 
 -- each image since the start
-since : (a b : Trail) → MomentsShow a b → LeavesOldOrNew small_inserts a b
-since a b shows keeps left image =
+MomentsShow-old_or_new : (a b : Trail) → MomentsShow a b → LeavesOldOrNew small_inserts a b
+MomentsShow-old_or_new a b shows keeps left image =
     images-since (SeesOldOrNew small_inserts (shown_files a.now.at)) a b (λ files here. inl (keeps files here)) (shows keeps) left image
 
 -- the words ask for the update, or for something else
-asks_or_not : (words : List (List ℕ)) (answer : Answer) → IsOfWords words answer → AsksUpdate words ⊎ (¬ AsksUpdate words)
-asks_or_not words answer (inl asks) = inl asks.0
-asks_or_not words answer (inr (inl more)) = inr more.0.0
-asks_or_not words answer (inr (inr usage)) = inr (not_asked words usage.0)
+words-ask_or_not : (words : List (List ℕ)) (answer : Answer) → IsOfWords words answer → AsksUpdate words ⊎ (¬ AsksUpdate words)
+words-ask_or_not words answer (inl asks) = inl asks.0
+words-ask_or_not words answer (inr (inl more)) = inr more.0.0
+words-ask_or_not words answer (inr (inr usage)) = inr (usage-asks_no_update words usage.0)
 
-pub images : (words : List (List ℕ)) (a b : Option Trail) (answer : Answer) → Crashes words a b answer → Leads (LeavesOldOrNew small_inserts) a b
-images words a b answer crashes = by (asks_or_not words answer crashes.of_words)
+pub Crashes-old_or_new : (words : List (List ℕ)) (a b : Option Trail) (answer : Answer) → Crashes words a b answer → Leads (LeavesOldOrNew small_inserts) a b
+Crashes-old_or_new words a b answer crashes = by (words-ask_or_not words answer crashes.of_words)
   where
     by : AsksUpdate words ⊎ (¬ AsksUpdate words) → Leads (LeavesOldOrNew small_inserts) a b
-    by (inl asks) = Leads-weaken (crashes.survives asks) (λ x y s. since x y s.moments)
-    by (inr other) = Leads-same (crashes.idle other) (λ x. since x x (λ keeps. Passes-none (Every (SeesOldOrNew small_inserts (shown_files x.now.at))) x))
+    by (inl asks) = Leads-weaken (crashes.survives asks) (λ x y s. MomentsShow-old_or_new x y s.moments)
+    by (inr other) = Leads-same (crashes.idle other) (λ x. MomentsShow-old_or_new x x (λ keeps. Passes-none (Every (SeesOldOrNew small_inserts (shown_files x.now.at))) x))
 
 -- behind an outcome the names are stable, and behind a done update the target
-ended_names : (answer : Answer) (r : Record) → HasEnded (answer_status answer) → IsStableAnswer answer r → HasShownNames r
-ended_names Usage r (inl e) stable = absurd (omega (arith, e))
-ended_names Usage r (inr (inl e)) stable = absurd (omega (arith, e))
-ended_names Usage r (inr (inr e)) stable = absurd (omega (arith, e))
-ended_names (Ended Done) r ended stable = stable.0
-ended_names (Ended (KeyPresent table id)) r ended stable = stable
-ended_names (Ended (Refused refusal)) r ended stable = stable
-ended_names (Fault file call) r (inl e) stable = absurd (omega (arith, e))
-ended_names (Fault file call) r (inr (inl e)) stable = absurd (omega (arith, e))
-ended_names (Fault file call) r (inr (inr e)) stable = absurd (omega (arith, e))
-ended_names NoMemory r (inl e) stable = absurd (omega (arith, e))
-ended_names NoMemory r (inr (inl e)) stable = absurd (omega (arith, e))
-ended_names NoMemory r (inr (inr e)) stable = absurd (omega (arith, e))
+ended-shown_names : (answer : Answer) (r : Record) → HasEnded (answer_status answer) → IsStableAnswer answer r → HasShownNames r
+ended-shown_names Usage r (inl e) stable = absurd (omega (arith, e))
+ended-shown_names Usage r (inr (inl e)) stable = absurd (omega (arith, e))
+ended-shown_names Usage r (inr (inr e)) stable = absurd (omega (arith, e))
+ended-shown_names (Ended Done) r ended stable = stable.0
+ended-shown_names (Ended (KeyPresent table id)) r ended stable = stable
+ended-shown_names (Ended (Refused refusal)) r ended stable = stable
+ended-shown_names (Fault file call) r (inl e) stable = absurd (omega (arith, e))
+ended-shown_names (Fault file call) r (inr (inl e)) stable = absurd (omega (arith, e))
+ended-shown_names (Fault file call) r (inr (inr e)) stable = absurd (omega (arith, e))
+ended-shown_names NoMemory r (inl e) stable = absurd (omega (arith, e))
+ended-shown_names NoMemory r (inr (inl e)) stable = absurd (omega (arith, e))
+ended-shown_names NoMemory r (inr (inr e)) stable = absurd (omega (arith, e))
 
-done_target : (answer : Answer) (r : Record) → answer_status answer ≡ 0 → IsStableAnswer answer r → HasShownFile Target r
-done_target Usage r zero stable = absurd (omega (arith, zero))
-done_target (Ended Done) r zero stable = stable.1
-done_target (Ended (KeyPresent table id)) r zero stable = absurd (omega (arith, zero))
-done_target (Ended (Refused refusal)) r zero stable = absurd (omega (arith, zero))
-done_target (Fault file call) r zero stable = absurd (omega (arith, zero))
-done_target NoMemory r zero stable = absurd (omega (arith, zero))
+done-shown_target : (answer : Answer) (r : Record) → answer_status answer ≡ 0 → IsStableAnswer answer r → HasShownFile Target r
+done-shown_target Usage r zero stable = absurd (omega (arith, zero))
+done-shown_target (Ended Done) r zero stable = stable.1
+done-shown_target (Ended (KeyPresent table id)) r zero stable = absurd (omega (arith, zero))
+done-shown_target (Ended (Refused refusal)) r zero stable = absurd (omega (arith, zero))
+done-shown_target (Fault file call) r zero stable = absurd (omega (arith, zero))
+done-shown_target NoMemory r zero stable = absurd (omega (arith, zero))
 
 module _ {O : Type 0} {o : sink.Ghosts O} (x y : O) (answer : Answer) (status : ℕ) (told : IsTold o answer x y status) where
   -- a status below 8 is the answer's
-  told_status : status ≢ 8 → status ≡ answer_status answer
-  told_status other = by told
+  told-answer_status : status ≢ 8 → status ≡ answer_status answer
+  told-answer_status other = by told
     where
       by : IsTold o answer x y status → status ≡ answer_status answer
       by (inl line) = line.0
       by (inr failed) = absurd (other failed.0)
 
-  below : HasEnded status → status ≢ 8
-  below (inl e) eight = omega (arith, e, eight)
-  below (inr (inl e)) eight = omega (arith, e, eight)
-  below (inr (inr e)) eight = omega (arith, e, eight)
+  ended-not_eight : HasEnded status → status ≢ 8
+  ended-not_eight (inl e) eight = omega (arith, e, eight)
+  ended-not_eight (inr (inl e)) eight = omega (arith, e, eight)
+  ended-not_eight (inr (inr e)) eight = omega (arith, e, eight)
 
-  pub names : {a b : Option Trail} → Leads (Survives (IsStableAnswer answer)) a b → HasEnded status → IfSome b (λ t. HasShownNames t.now.at)
-  names survives ended = Leads-after survives (λ s t end. ended_names answer t.now.at (subst HasEnded (told_status (below ended)) ended) end.end)
+  pub survives-names : {a b : Option Trail} → Leads (Survives (IsStableAnswer answer)) a b → HasEnded status → IfSome b (λ t. HasShownNames t.now.at)
+  survives-names survives ended = Leads-after survives (λ s t end. ended-shown_names answer t.now.at (subst HasEnded (told-answer_status (ended-not_eight ended)) ended) end.end)
 
-  pub target : {a b : Option Trail} → Leads (Survives (IsStableAnswer answer)) a b → status ≡ 0 → IfSome b (λ t. HasShownFile Target t.now.at)
-  target survives zero = Leads-after survives (λ s t end. done_target answer t.now.at (sym (told_status (λ eight. omega (arith, zero, eight))) ∙ zero) end.end)
+  pub survives-target : {a b : Option Trail} → Leads (Survives (IsStableAnswer answer)) a b → status ≡ 0 → IfSome b (λ t. HasShownFile Target t.now.at)
+  survives-target survives zero = Leads-after survives (λ s t end. done-shown_target answer t.now.at (sym (told-answer_status (λ eight. omega (arith, zero, eight))) ∙ zero) end.end)

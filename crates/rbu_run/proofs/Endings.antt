@@ -26,8 +26,8 @@ none-there None h = refl
 none-there (Some x) h = absurd (h refl)
 
 -- a change under one name is none under another
-elsewhere : (changed name : FileName) → is_name changed name ≡ false → (f : Files) (bytes : Option (List ℕ)) → with_file f changed bytes name ≡ f name
-elsewhere changed name e f bytes = ap (λ there. if there then bytes else f name) e
+with_file-elsewhere : (changed name : FileName) → is_name changed name ≡ false → (f : Files) (bytes : Option (List ℕ)) → with_file f changed bytes name ≡ f name
+with_file-elsewhere changed name e f bytes = ap (λ there. if there then bytes else f name) e
 
 module _ (salt : ℕ × ℕ) where
   -- a reader sees the pages where they are in the write-ahead log, whatever the target holds
@@ -45,8 +45,8 @@ module _ (salt : ℕ × ℕ) where
       rw wal (4096, page_frames pages, log-of_frames true 4096 0 salt (page_frames pages) (lit< tt) (lit< tt) words (front, (back, tt)), seen)
 
   -- the log of a handover that stopped, from files whose update was due
-  no_wal : (f : Files) (bytes : List ℕ) → AreNewBytes f bytes → f Wal ≡ None
-  no_wal f bytes new = none-there (f Wal) (λ there. new.new_rows.can_insert.small.alone (inr (inr (inl there))))
+  AreNewBytes-no_wal : (f : Files) (bytes : List ℕ) → AreNewBytes f bytes → f Wal ≡ None
+  AreNewBytes-no_wal f bytes new = none-there (f Wal) (λ there. new.new_rows.can_insert.small.alone (inr (inr (inl there))))
 
   sees-midway : (f g : Files) (bytes : List ℕ) → AreWords salt → AreNewBytes f bytes → IsMidway salt bytes f g → SeesOldOrNew small_inserts f g
   sees-midway f g bytes words new (inl hidden) = inl (subst (KeepsView f) (sym hidden.1) (KeepsView-same f f refl))
@@ -54,13 +54,13 @@ module _ (salt : ℕ × ℕ) where
       inr (sees_new-bytes f g bytes new (view-logged g bytes words new.holds_rows.file.long (ap (λ (files : Files). files Wal) logged.1)))
   sees-midway f g bytes words new (inr (inr copied)) =
       inr (sees_new-bytes f g bytes new (view-small g bytes new.holds_rows.file.header
-      (ap (λ (files : Files). files Target) copied) (ap (λ (files : Files). files Wal) copied ∙ no_wal f bytes new)))
+      (ap (λ (files : Files). files Target) copied) (ap (λ (files : Files). files Wal) copied ∙ AreNewBytes-no_wal f bytes new)))
 
   others-midway : (f g : Files) (bytes : List ℕ) → IsMidway salt bytes f g → KeepsOthers f g
-  others-midway f g bytes (inl hidden) name x y z = ap (λ (files : Files). files name) hidden.1 ∙ elsewhere Oal name y f hidden.0
+  others-midway f g bytes (inl hidden) name x y z = ap (λ (files : Files). files name) hidden.1 ∙ with_file-elsewhere Oal name y f hidden.0
   others-midway f g bytes (inr (inl logged)) name x y z =
-      ap (λ (files : Files). files name) logged.1 ∙ elsewhere Target name x (with_file f Wal (Some (log_of salt bytes))) logged.0 ∙ elsewhere Wal name z f (Some (log_of salt bytes))
-  others-midway f g bytes (inr (inr copied)) name x y z = ap (λ (files : Files). files name) copied ∙ elsewhere Target name x f (Some bytes)
+      ap (λ (files : Files). files name) logged.1 ∙ with_file-elsewhere Target name x (with_file f Wal (Some (log_of salt bytes))) logged.0 ∙ with_file-elsewhere Wal name z f (Some (log_of salt bytes))
+  others-midway f g bytes (inr (inr copied)) name x y z = ap (λ (files : Files). files name) copied ∙ with_file-elsewhere Target name x f (Some bytes)
 
   log-midway : (f g : Files) (bytes : List ℕ) → AreNewBytes f bytes → IsMidway salt bytes f g → LeavesLog salt f g
   log-midway f g bytes new (inl hidden) = inl (ap (λ (files : Files). files Wal) hidden.1)
@@ -90,7 +90,7 @@ module _ (salt : ℕ × ℕ) where
   -- a log that is left is whole, and has the new bytes
   pub log-ends : (answer : Answer) (f g : Files) → EndsAs salt answer f g → LeavesLog salt f g
   log-ends Usage f g ends = absurd ends
-  log-ends (Ended Done) f g ends = inl (ends.0.no_wal ∙ sym (no_wal f ends.0.bytes ends.0.new_bytes))
+  log-ends (Ended Done) f g ends = inl (ends.0.no_wal ∙ sym (AreNewBytes-no_wal f ends.0.bytes ends.0.new_bytes))
   log-ends (Ended (KeyPresent table id)) f g ends = inl (ap (λ (files : Files). files Wal) ends.0.1)
   log-ends (Ended (Refused refusal)) f g ends = inl (ap (λ (files : Files). files Wal) ends.0.1)
   log-ends (Fault file call) f g (inl same) = inl (ap (λ (files : Files). files Wal) same)

@@ -17,9 +17,9 @@ read-resized bytes zeros read n are long bound copied rest =
     sym (take-append-drop n read) ∙ ap₂ (λ (a b : List ℕ). a ++ b) copied (missing-zeros zeros read n are rest ∙ ap (λ (k : ℕ). replicate k 0) left)
 
 -- nothing is found where nothing has P
-only_none : {A : Type 0} {P : A → Type 0} → ((x : A) → ¬ P x) → (other : Option A) → OrNone P other → None ≡ other
-only_none none None has = refl
-only_none none (Some x) has = absurd (none x has)
+OrNone-only_none : {A : Type 0} {P : A → Type 0} → ((x : A) → ¬ P x) → (other : Option A) → OrNone P other → None ≡ other
+OrNone-only_none none None has = refl
+OrNone-only_none none (Some x) has = absurd (none x has)
 
 pub none-read : {A : Type 0} {P : A → Type 0} → ((x : A) → ¬ P x) → Reads (OrNone P) None
-none-read none = record { holds = none; only = only_none none }
+none-read none = record { holds = none; only = OrNone-only_none none }

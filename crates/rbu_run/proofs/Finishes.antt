@@ -27,7 +27,7 @@ use Rattle.rbu_run.specs.Handover.{IsAlone, HasPages, IsMidway}
 use Rattle.rbu_run.specs.Ending.{AfterHalt, Ends}
 use Rattle.rbu_run.specs.Inspection.{IsSmallWith}
 use Rattle.rbu_run.proofs.Endings.{none-there}
-use Rattle.rbu_run.proofs.Outcomes.{only_decided}
+use Rattle.rbu_run.proofs.Outcomes.{HasOnly-decided}
 
 -- want of memory changes nothing
 pub memory-ends : (salt : ℕ × ℕ) (result : Result Outcome Halt) → IsErrAnd result (λ halt. halt ≡ Memory) → (f : Files) → Ends salt result f f
@@ -41,24 +41,24 @@ memory-cause (Err halt) h failures = subst (λ (x : Halt). IsCause (fault_in x) 
 
 module _ (salt : ℕ × ℕ) (target : List ℕ) (old : List TargetRow) (prepared : List PreparedRow) where
   pub shared-ends : Decides old prepared decision.SharedKey → (f : Files) → IsSmallWith target old prepared f → Ends salt (Ok (Refused (NotYet part.Rows))) f f
-  shared-ends decides f known = (((old, prepared, known.small, decides), refl), only_decided f target old prepared known decision.SharedKey decides)
+  shared-ends decides f known = (((old, prepared, known.small, decides), refl), HasOnly-decided f target old prepared known decision.SharedKey decides)
 
   pub room-ends : Decides old prepared decision.NoRoom → (f : Files) → IsSmallWith target old prepared f → Ends salt (Ok (Refused (NotYet part.Room))) f f
-  room-ends decides f known = (((old, prepared, known.small, decides.0, decides.1), refl), only_decided f target old prepared known decision.NoRoom decides)
+  room-ends decides f known = (((old, prepared, known.small, decides.0, decides.1), refl), HasOnly-decided f target old prepared known decision.NoRoom decides)
 
   -- small files whose prepared rows can be inserted
-  can_insert : (f : Files) → IsSmallWith target old prepared f → HasDistinctKeys prepared → page_room (all_rows old prepared) ≤ 4096 → CanInsert f old prepared
-  can_insert f known keys room = record { small = known.small; keys = keys; room = room }
+  IsSmallWith-can_insert : (f : Files) → IsSmallWith target old prepared f → HasDistinctKeys prepared → page_room (all_rows old prepared) ≤ 4096 → CanInsert f old prepared
+  IsSmallWith-can_insert f known keys room = record { small = known.small; keys = keys; room = room }
 
   pub present-ends : (table : List ℕ) (id : ℤ) → Decides old prepared (decision.KeyPresent table id) → (f : Files) → IsSmallWith target old prepared f →
       Ends salt (Ok (KeyPresent table id)) f f
   present-ends table id decides f known = (
-    ((old, prepared, decides.2.0, can_insert f known decides.0 decides.1, decides.2.1, decides.2.2, decides.2.3), refl),
-    only_decided f target old prepared known (decision.KeyPresent table id) decides,
+    ((old, prepared, decides.2.0, IsSmallWith-can_insert f known decides.0 decides.1, decides.2.1, decides.2.2, decides.2.3), refl),
+    HasOnly-decided f target old prepared known (decision.KeyPresent table id) decides,
   )
 
-  pub alone : (f : Files) → IsSmallWith target old prepared f → IsAlone f
-  alone f known = record {
+  pub IsSmallWith-alone : (f : Files) → IsSmallWith target old prepared f → IsAlone f
+  IsSmallWith-alone f known = record {
     no_oal = none-there (f Oal) (λ there. known.small.alone (inr (inr (inr (inl there)))));
     no_wal = none-there (f Wal) (λ there. known.small.alone (inr (inr (inl there))));
     two_pages_long = known.small.target.file.long;
@@ -66,10 +66,10 @@ module _ (salt : ℕ × ℕ) (target : List ℕ) (old : List TargetRow) (prepare
 
   module _ (law : UpdateLeavesSmallTarget) (rows : Vec TargetRow Global) (decides : Decides old prepared (decision.Merged rows)) where
     -- the new database's bytes
-    pub new_bytes : (f : Files) → IsSmallWith target old prepared f → AreNewBytes f (new_pages target rows.items)
-    new_bytes f known = record {
+    pub IsSmallWith-new_bytes : (f : Files) → IsSmallWith target old prepared f → AreNewBytes f (new_pages target rows.items)
+    IsSmallWith-new_bytes f known = record {
       rows = rows.items;
-      new_rows = record { old = old; prepared = prepared; can_insert = can_insert f known decides.0 decides.1; none_present = decides.2; merged = decides.3 };
+      new_rows = record { old = old; prepared = prepared; can_insert = IsSmallWith-can_insert f known decides.0 decides.1; none_present = decides.2; merged = decides.3 };
       pages_are = ap (λ (bytes : List ℕ). new_pages bytes rows.items) known.target_is;
       holds_rows = law target (content f Rbu) old rows.items prepared (subst (λ (bytes : List ℕ). IsSmallTarget bytes old) (sym known.target_is) known.small.target)
           known.small.rbu decides.3 decides.4;
@@ -77,16 +77,16 @@ module _ (salt : ℕ × ℕ) (target : List ℕ) (old : List TargetRow) (prepare
 
     pub done-ends : (f g : Files) → (IsAlone f → HasPages (new_pages target rows.items) f g) → IsSmallWith target old prepared f → Ends salt (Ok Done) f g
     done-ends f g hands known =
-        let same : g ≡ with_file f Target (Some (new_pages target rows.items)) = hands (alone f known) in (
+        let same : g ≡ with_file f Target (Some (new_pages target rows.items)) = hands (IsSmallWith-alone f known) in (
           record {
             bytes = new_pages target rows.items;
-            new_bytes = new_bytes f known;
+            new_bytes = IsSmallWith-new_bytes f known;
             target = ap (λ (files : Files). files Target) same;
-            no_oal = ap (λ (files : Files). files Oal) same ∙ (alone f known).no_oal;
-            no_wal = ap (λ (files : Files). files Wal) same ∙ (alone f known).no_wal;
+            no_oal = ap (λ (files : Files). files Oal) same ∙ (IsSmallWith-alone f known).no_oal;
+            no_wal = ap (λ (files : Files). files Wal) same ∙ (IsSmallWith-alone f known).no_wal;
             others = λ name other. ap (λ (files : Files). files name) same ∙ elsewhere name other f (new_pages target rows.items);
           },
-          only_decided f target old prepared known (decision.Merged rows) decides,
+          HasOnly-decided f target old prepared known (decision.Merged rows) decides,
         )
       where
         elsewhere : (name : FileName) → is_name Target name ≡ false → (f : Files) (bytes : List ℕ) → with_file f Target (Some bytes) name ≡ f name
@@ -101,4 +101,4 @@ module _ (salt : ℕ × ℕ) (target : List ℕ) (old : List TargetRow) (prepare
     pub fault-stops : (fault : DiskFault) → (¬ IsLook fault.call) → AreWords salt → (f g : Files) → (IsAlone f → IsMidway salt (new_pages target rows.items) f g) →
         IsSmallWith target old prepared f → Ends salt (Err (Fault fault)) f g
     fault-stops fault change words f g stops known =
-        inr (change, record { salt_fits = words; bytes = new_pages target rows.items; new_bytes = new_bytes f known; midway = stops (alone f known) })
+        inr (change, record { salt_fits = words; bytes = new_pages target rows.items; new_bytes = IsSmallWith-new_bytes f known; midway = stops (IsSmallWith-alone f known) })

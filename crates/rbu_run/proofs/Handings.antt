@@ -17,16 +17,16 @@ use Rattle.rbu_run.proofs.Moments.{Leads-both}
 use Rattle.rbu_run.proofs.PhaseSteps.{IsUnlogged, building-whole, building-image, between-image, logged-image, logged-copied}
 
 -- a name that shows no file has none
-unnamed : (r : Record) (name : FileName) → shown_files r name ≡ None → r.names name ≡ None
-unnamed r name = at (r.names name)
+names-of_no_file : (r : Record) (name : FileName) → shown_files r name ≡ None → r.names name ≡ None
+names-of_no_file r name = at (r.names name)
   where
     at : (number : Option ℕ) → option_map (λ id. (r.stored id).shown) number ≡ None → number ≡ None
     at None e = refl
     at (Some id) e = absurd (let lost = e in cc)
 
 -- and one that shows bytes has one
-named : (r : Record) (name : FileName) → length (content (shown_files r) name) ≡ 8192 → (id : ℕ) × (r.names name ≡ Some id)
-named r name = at (r.names name)
+names-of_two_pages : (r : Record) (name : FileName) → length (content (shown_files r) name) ≡ 8192 → (id : ℕ) × (r.names name ≡ Some id)
+names-of_two_pages r name = at (r.names name)
   where
     at : (number : Option ℕ) → length (unwrap_or (option_map (λ id. (r.stored id).shown) number) []) ≡ 8192 → (id : ℕ) × (number ≡ Some id)
     at None long = absurd (omega (arith, long))
@@ -48,20 +48,20 @@ pub record Starts (r : Record) : Type 0 where
 
 module _ (r : Record) (starts : Starts r) where
   pub target-number : (id : ℕ) × (r.names Target ≡ Some id)
-  target-number = named r Target starts.alone.two_pages_long
+  target-number = names-of_two_pages r Target starts.alone.two_pages_long
 
-  pub begins : (id : ℕ) → r.names Target ≡ Some id → Building id (r.stored id) r
-  begins id is = record {
+  pub Starts-building : (id : ℕ) → r.names Target ≡ Some id → Building id (r.stored id) r
+  Starts-building id is = record {
     named = λ n may.
         let same : n ≡ r.names = only-shown r starts.firm n may in
-        (ap (λ (m : Names). m Target) same ∙ is, ap (λ (m : Names). m Wal) same ∙ unnamed r Wal starts.alone.no_wal);
+        (ap (λ (m : Names). m Target) same ∙ is, ap (λ (m : Names). m Wal) same ∙ names-of_no_file r Wal starts.alone.no_wal);
     still = refl;
-    apart = λ one. let lost : None ≡ Some id = sym (unnamed r Oal starts.alone.no_oal) ∙ one in absurd (cc);
+    apart = λ one. let lost : None ≡ Some id = sym (names-of_no_file r Oal starts.alone.no_oal) ∙ one in absurd (cc);
   }
 
-  shows : (number : Option ℕ) → HoldsAt r.stored number (option_map (λ id. (r.stored id).shown) number)
-  shows None = refl
-  shows (Some id) = ((r.stored id).shown, refl, starts.sound.shows id)
+  HoldsAt-shown : (number : Option ℕ) → HoldsAt r.stored number (option_map (λ id. (r.stored id).shown) number)
+  HoldsAt-shown None = refl
+  HoldsAt-shown (Some id) = ((r.stored id).shown, refl, starts.sound.shows id)
 
   -- an image without a log has the target of one from before
   pub unlogged-before : (id : ℕ) → r.names Target ≡ Some id → (left : Files) → IsUnlogged (r.stored id) left → LooksAsBefore r left
@@ -69,12 +69,12 @@ module _ (r : Record) (starts : Starts r) where
     where
       holds : (name : FileName) → HoldsAt r.stored (r.names name) (with_file (shown_files r) Target (Some image.bytes) name)
       holds Target = subst (λ number. HoldsAt r.stored number (Some image.bytes)) (sym is) (image.bytes, refl, image.may)
-      holds Oal = shows (r.names Oal)
-      holds Wal = shows (r.names Wal)
-      holds Journal = shows (r.names Journal)
-      holds Rbu = shows (r.names Rbu)
-      holds State = shows (r.names State)
-      holds StateTemp = shows (r.names StateTemp)
+      holds Oal = HoldsAt-shown (r.names Oal)
+      holds Wal = HoldsAt-shown (r.names Wal)
+      holds Journal = HoldsAt-shown (r.names Journal)
+      holds Rbu = HoldsAt-shown (r.names Rbu)
+      holds State = HoldsAt-shown (r.names State)
+      holds StateTemp = HoldsAt-shown (r.names StateTemp)
 
 module _ (salt : ℕ × ℕ) (pages : List ℕ) where
   -- each image of the moments that came is one of those that a handover may leave
@@ -108,12 +108,12 @@ module _ (salt : ℕ × ℕ) (pages : List ℕ) where
     pub between : Between target (stable pages) log (log_of salt pages) b.now.at
 
   -- the moments of each phase
-  building : (a b : Trail) → KeepsBuilding a b → Starts a.now.at → Midway a b
-  building a b keeps starts =
+  building-midway : (a b : Trail) → KeepsBuilding a b → Starts a.now.at → Midway a b
+  building-midway a b keeps starts =
       let t = target-number a.now.at starts in
       Passes-weaken (Building t.0 (a.now.at.stored t.0)) (Every (IsImageMidway salt pages a.now.at)) a b
       (λ r b left image. inl (unlogged-before a.now.at starts t.0 t.1 left (building-image t.0 (a.now.at.stored t.0) r left b image)))
-      (keeps t.0 (a.now.at.stored t.0) (begins a.now.at starts t.0 t.1))
+      (keeps t.0 (a.now.at.stored t.0) (Starts-building a.now.at starts t.0 t.1))
 
   old-or-logged : (a : Trail) → Starts a.now.at → (target log : ℕ) → a.now.at.names Target ≡ Some target →
       (r : Record) → Between target (a.now.at.stored target) log (log_of salt pages) r → Every (IsImageMidway salt pages a.now.at) r
@@ -132,17 +132,17 @@ module _ (salt : ℕ × ℕ) (pages : List ℕ) where
 
   -- the log is written
   pub stopped-log : {x y : Option Trail} → Leads KeepsBuilding x y → Leads Stopped x y
-  stopped-log keeps = Leads-weaken keeps building
+  stopped-log keeps = Leads-weaken keeps building-midway
 
   pub log-whole : {x y : Option Trail} → Leads KeepsBuilding x y → Leads (λ a b. shown_files a.now.at Oal ≡ None → HasStable Oal (log_of salt pages) b.now.at) x y →
       Leads (λ a b. Starts a.now.at → Whole a b) x y
   log-whole keeps stands = Leads-weaken (Leads-both keeps stands) (λ a b both starts.
       let t = target-number a.now.at starts in
       let whole = both.1 starts.alone.no_oal in
-      let begun = begins a.now.at starts t.0 t.1 in
+      let begun = Starts-building a.now.at starts t.0 t.1 in
       let now = Passes-now (Building t.0 (a.now.at.stored t.0)) a b begun (both.0 t.0 (a.now.at.stored t.0) begun) in
       record {
-        midway = building a b both.0 starts;
+        midway = building-midway a b both.0 starts;
         target = t.0;
         log = whole.0;
         target_is = t.1;
@@ -151,36 +151,36 @@ module _ (salt : ℕ × ℕ) (pages : List ℕ) where
       })
 
   -- it takes its name
-  moving : (a b c : Trail) → Starts a.now.at → Whole a b → MovesLog b c → Midway a c
-  moving a b c starts whole moves =
+  moving-midway : (a b c : Trail) → Starts a.now.at → Whole a b → MovesLog b c → Midway a c
+  moving-midway a b c starts whole moves =
       Passes-then (Every (IsImageMidway salt pages a.now.at)) a b c whole.midway
       (Passes-weaken (Between whole.target (a.now.at.stored whole.target) whole.log (log_of salt pages)) (Every (IsImageMidway salt pages a.now.at)) b c
       (old-or-logged a starts whole.target whole.log whole.target_is)
       (moves whole.target (a.now.at.stored whole.target) whole.log (log_of salt pages) whole.between whole.log_is))
 
   pub stopped-move : {x y z : Option Trail} → Leads (λ a b. Starts a.now.at → Whole a b) x y → Leads MovesLog y z → Leads Stopped x z
-  stopped-move wrote moves = Leads-then wrote moves (λ a b c whole m starts. moving a b c starts (whole starts) m)
+  stopped-move wrote moves = Leads-then wrote moves (λ a b c whole m starts. moving-midway a b c starts (whole starts) m)
 
   pub log-moved : {x y z : Option Trail} → Leads (λ a b. Starts a.now.at → Whole a b) x y → Leads MovesLog y z → Leads HasMovedLog y z → Leads (λ a c. Starts a.now.at → Moved a c) x z
   log-moved wrote moves moved = Leads-then wrote (Leads-both moves moved) (λ a b c whole both starts.
       let w = whole starts in
       record {
-        midway = moving a b c starts w both.0;
+        midway = moving-midway a b c starts w both.0;
         target = w.target;
         log = w.log;
         logged = both.1 w.target (a.now.at.stored w.target) w.log (log_of salt pages) w.between w.log_is;
       })
 
   -- the pages are copied
-  copying : (a b c : Trail) → Moved a b → KeepsLogged b c → Midway a c
-  copying a b c moved keeps =
+  copying-midway : (a b c : Trail) → Moved a b → KeepsLogged b c → Midway a c
+  copying-midway a b c moved keeps =
       Passes-then (Every (IsImageMidway salt pages a.now.at)) a b c moved.midway
       (Passes-weaken (Logged moved.target moved.log (log_of salt pages)) (Every (IsImageMidway salt pages a.now.at)) b c
       (λ r l left image. inr (inl (logged-image moved.target moved.log (log_of salt pages) r left l image)))
       (keeps moved.target moved.log (log_of salt pages) moved.logged))
 
   pub stopped-copy : {x y z : Option Trail} → Leads (λ a c. Starts a.now.at → Moved a c) x y → Leads KeepsLogged y z → Leads Stopped x z
-  stopped-copy moved keeps = Leads-then moved keeps (λ a b c m k starts. copying a b c (m starts) k)
+  stopped-copy moved keeps = Leads-then moved keeps (λ a b c m k starts. copying-midway a b c (m starts) k)
 
   pub pages-copied : {x y z : Option Trail} → Leads (λ a b. Starts a.now.at → Moved a b) x y → Leads KeepsLogged y z →
       Leads (λ a c. IsAlone (shown_files a.now.at) → HasStable Target pages c.now.at) x z → Leads (λ a c. Starts a.now.at → Copied a c) x z
@@ -199,7 +199,7 @@ module _ (salt : ℕ × ℕ) (pages : List ℕ) where
       copied a b c m k starts =
           let there = m starts in
           record {
-            midway = copying a b c there k;
+            midway = copying-midway a b c there k;
             target = there.target;
             log = there.log;
             logged = Passes-now (Logged there.target there.log (log_of salt pages)) b c there.logged (k there.target there.log (log_of salt pages) there.logged);
@@ -228,5 +228,5 @@ module _ (salt : ℕ × ℕ) (pages : List ℕ) where
   target-settled stands settles = Leads-then stands settles (λ a b c s shows alone. shows pages (s alone))
 
   -- every record of a disk is sound
-  pub midway : {x y : Option Trail} → IfSome x (λ t. IsSound t.now.at) → Leads Stopped x y → Leads (CrashesMidway salt pages) x y
-  midway sound stopped = Leads-known sound (Leads-weaken stopped (λ a b s is firm alone. s (record { firm = firm; alone = alone; sound = is })))
+  pub stopped-midway : {x y : Option Trail} → IfSome x (λ t. IsSound t.now.at) → Leads Stopped x y → Leads (CrashesMidway salt pages) x y
+  stopped-midway sound stopped = Leads-known sound (Leads-weaken stopped (λ a b s is firm alone. s (record { firm = firm; alone = alone; sound = is })))

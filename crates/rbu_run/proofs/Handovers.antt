@@ -29,8 +29,8 @@ module _ (salt : ℕ × ℕ) (pages : List ℕ) where
   abbrev pub Stopped : Files → Files → Type 0
   Stopped f g = IsAlone f → IsMidway salt pages f g
 
-  renamed : (f : Files) → IsAlone f → after_rename (with_file f Oal (Some (log_of salt pages))) Oal Wal ≡ with_file f Wal (Some (log_of salt pages))
-  renamed f alone = fun_ext at
+  after_rename-alone : (f : Files) → IsAlone f → after_rename (with_file f Oal (Some (log_of salt pages))) Oal Wal ≡ with_file f Wal (Some (log_of salt pages))
+  after_rename-alone f alone = fun_ext at
     where
       at : (name : FileName) → after_rename (with_file f Oal (Some (log_of salt pages))) Oal Wal name ≡ with_file f Wal (Some (log_of salt pages)) name
       at Target = refl
@@ -41,8 +41,8 @@ module _ (salt : ℕ × ℕ) (pages : List ℕ) where
       at State = refl
       at StateTemp = refl
 
-  removed : (f : Files) → IsAlone f → after_remove (with_file (with_file f Wal (Some (log_of salt pages))) Target (Some pages)) Wal ≡ with_file f Target (Some pages)
-  removed f alone = fun_ext at
+  after_remove-alone : (f : Files) → IsAlone f → after_remove (with_file (with_file f Wal (Some (log_of salt pages))) Target (Some pages)) Wal ≡ with_file f Target (Some pages)
+  after_remove-alone f alone = fun_ext at
     where
       at : (name : FileName) → after_remove (with_file (with_file f Wal (Some (log_of salt pages))) Target (Some pages)) Wal name ≡ with_file f Target (Some pages) name
       at Target = refl
@@ -55,7 +55,7 @@ module _ (salt : ℕ × ℕ) (pages : List ℕ) where
 
   pub log-moved : {a b c : Option Files} → Leads LogWritten a b → Leads (λ f g. g ≡ after_rename f Oal Wal) b c → Leads LogMoved a c
   log-moved wrote rename =
-      Leads-then wrote rename (λ f g h written moved alone. moved ∙ ap (λ (files : Files). after_rename files Oal Wal) (written alone.no_oal) ∙ renamed f alone)
+      Leads-then wrote rename (λ f g h written moved alone. moved ∙ ap (λ (files : Files). after_rename files Oal Wal) (written alone.no_oal) ∙ after_rename-alone f alone)
 
   pub pages-copied : {a b c : Option Files} → Leads LogMoved a b → Leads (λ f g. length (content f Target) ≡ 8192 → HasPages pages f g) b c → Leads PagesCopied a c
   pages-copied moved copy =
@@ -65,31 +65,31 @@ module _ (salt : ℕ × ℕ) (pages : List ℕ) where
 
   pub handed-over : {a b c : Option Files} → Leads PagesCopied a b → Leads (λ f g. g ≡ after_remove f Wal) b c → Leads HandedOver a c
   handed-over copied remove =
-      Leads-then copied remove (λ f g h is gone alone. gone ∙ ap (λ (files : Files). after_remove files Wal) (is alone) ∙ removed f alone)
+      Leads-then copied remove (λ f g h is gone alone. gone ∙ ap (λ (files : Files). after_remove files Wal) (is alone) ∙ after_remove-alone f alone)
 
   -- a fault while the log is written
   pub stopped-log : {a b : Option Files} → Leads (OnlyChanges Oal) a b → Leads Stopped a b
   stopped-log only = Leads-weaken only (λ f g changed alone. inl changed)
 
-  at_move : (f g h : Files) → LogWritten f g → (h ≡ g) ⊎ (h ≡ after_rename g Oal Wal) → Stopped f h
-  at_move f g h written (inl same) alone = inl (Some (log_of salt pages), same ∙ written alone.no_oal)
-  at_move f g h written (inr moved) alone =
-      let is : h ≡ with_file f Wal (Some (log_of salt pages)) = moved ∙ ap (λ (files : Files). after_rename files Oal Wal) (written alone.no_oal) ∙ renamed f alone in
+  move-stops : (f g h : Files) → LogWritten f g → (h ≡ g) ⊎ (h ≡ after_rename g Oal Wal) → Stopped f h
+  move-stops f g h written (inl same) alone = inl (Some (log_of salt pages), same ∙ written alone.no_oal)
+  move-stops f g h written (inr moved) alone =
+      let is : h ≡ with_file f Wal (Some (log_of salt pages)) = moved ∙ ap (λ (files : Files). after_rename files Oal Wal) (written alone.no_oal) ∙ after_rename-alone f alone in
       inr (inl (subst (OnlyChanges Target (with_file f Wal (Some (log_of salt pages)))) (sym is) (OnlyChanges-none Target (with_file f Wal (Some (log_of salt pages))))))
 
   -- a fault of the rename, or of the sync behind it
   pub stopped-move : {a b c : Option Files} → Leads LogWritten a b → Leads (λ f g. (g ≡ f) ⊎ (g ≡ after_rename f Oal Wal)) b c → Leads Stopped a c
-  stopped-move wrote move = Leads-then wrote move at_move
+  stopped-move wrote move = Leads-then wrote move move-stops
 
   -- a fault of the copying
   pub stopped-copy : {a b c : Option Files} → Leads LogMoved a b → Leads (OnlyChanges Target) b c → Leads Stopped a c
   stopped-copy moved only =
       Leads-then moved only (λ f g h is changed alone. inr (inl (subst (λ (files : Files). OnlyChanges Target files h) (is alone) changed)))
 
-  at_drop : (f g h : Files) → PagesCopied f g → (h ≡ g) ⊎ (h ≡ after_remove g Wal) → Stopped f h
-  at_drop f g h copied (inl same) alone = inr (inl (Some pages, same ∙ copied alone))
-  at_drop f g h copied (inr gone) alone = inr (inr (gone ∙ ap (λ (files : Files). after_remove files Wal) (copied alone) ∙ removed f alone))
+  drop-stops : (f g h : Files) → PagesCopied f g → (h ≡ g) ⊎ (h ≡ after_remove g Wal) → Stopped f h
+  drop-stops f g h copied (inl same) alone = inr (inl (Some pages, same ∙ copied alone))
+  drop-stops f g h copied (inr gone) alone = inr (inr (gone ∙ ap (λ (files : Files). after_remove files Wal) (copied alone) ∙ after_remove-alone f alone))
 
   -- a fault of the removal, or of the sync behind it
   pub stopped-drop : {a b c : Option Files} → Leads PagesCopied a b → Leads (λ f g. (g ≡ f) ⊎ (g ≡ after_remove f Wal)) b c → Leads Stopped a c
-  stopped-drop copied drop = Leads-then copied drop at_drop
+  stopped-drop copied drop = Leads-then copied drop drop-stops

@@ -36,8 +36,8 @@ Wrote-made written create wrote =
     more holds ∙ ap (λ (files : Files). with_file files Oal (Some written)) empty ∙ with_file-again f Oal (Some []) (Some written))
 
 -- the parts of the log of both pages, each with the checksum of the one before
-pub log_parts : (salt s1 s2 : ℕ × ℕ) (pages h f1 p1 f2 p2 : List ℕ) →
+pub log_of-parts : (salt s1 s2 : ℕ × ℕ) (pages h f1 p1 f2 p2 : List ℕ) →
     h ≡ log_header true 4096 0 salt → s1 ≡ log_sums true 4096 0 salt → f1 ≡ frame_header true salt s1 1 0 p1 →
     s2 ≡ frame_sums true s1 1 0 p1 → f2 ≡ frame_header true salt s2 2 2 p2 → p1 ≡ take 4096 pages → p2 ≡ drop 4096 pages →
     h ++ (f1 ++ (p1 ++ (f2 ++ (p2 ++ [])))) ≡ log_of salt pages
-log_parts salt s1 s2 pages h f1 p1 f2 p2 eh e1 ef1 e2 ef2 ep1 ep2 = rw (eh, ef1, ef2, e2, e1, ep1, ep2) (simp append_assoc)
+log_of-parts salt s1 s2 pages h f1 p1 f2 p2 eh e1 ef1 e2 ef2 ep1 ep2 = rw (eh, ef1, ef2, e2, e1, ep1, ep2) (simp append_assoc)

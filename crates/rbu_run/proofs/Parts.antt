@@ -25,9 +25,9 @@ on-ok (Ok x) p = p
 on-ok (Err e) p = tt
 
 -- the parts of a log are short
-pub five_short : (a b c d e : List ℕ) → length a ≡ 32 → length b ≡ 24 → length c ≡ 4096 → length d ≡ 24 → length e ≡ 4096 →
+pub length-five_parts : (a b c d e : List ℕ) → length a ≡ 32 → length b ≡ 24 → length c ≡ 4096 → length d ≡ 24 → length e ≡ 4096 →
     length (a ++ (b ++ (c ++ (d ++ (e ++ []))))) < 18446744073709551616
-five_short a b c d e la lb lc ld le =
+length-five_parts a b c d e la lb lc ld le =
     let total : length (a ++ (b ++ (c ++ (d ++ (e ++ []))))) ≡ 8272 = simp length-append (omega (arith, la, lb, lc, ld, le)) in
     omega (arith, total)
 

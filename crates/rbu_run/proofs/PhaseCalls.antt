@@ -18,8 +18,8 @@ use Rattle.rbu_run.proofs.Moments.{Leads-after, led-by, adds-keeps, fails-keeps}
 use Rattle.rbu_run.proofs.PhaseSteps.{synced-stable, building-changes, building-synced, between-renamed, renamed-log, between-settled, between-logged, between-removed, logged-changes, logged-synced}
 
 -- the record that a call left
-now_of : (file : FileName) (which : DiskCall) (R : Record → Record → Type 0) (a b : Trail) → Adds file which R a b → R a.now.at b.now.at
-now_of file which R a b adds = subst (R a.now.at) (sym (ap (λ (t : Trail). t.now.at) adds.is)) adds.step
+Adds-now : (file : FileName) (which : DiskCall) (R : Record → Record → Type 0) (a b : Trail) → Adds file which R a b → R a.now.at b.now.at
+Adds-now file which R a b adds = subst (R a.now.at) (sym (ap (λ (t : Trail). t.now.at) adds.is)) adds.step
 
 -- while the log is built
 pub building-none : {x : Option Trail} → Leads KeepsBuilding x x
@@ -51,7 +51,7 @@ pub shown-stable : (If : Record → Type 0) (name : FileName) (bytes : List ℕ)
     Leads (AfterSync name) y z → Leads (λ a c. If a.now.at → HasStable name bytes c.now.at) x z
 shown-stable If name bytes shown synced =
     Leads-then shown synced (λ a b c is adds holds.
-    subst (HasStable name bytes) (sym (now_of name call.Sync (λ r after. after ≡ synced_at r (r.names name)) b c adds)) (synced-stable b.now.at name bytes (is holds)))
+    subst (HasStable name bytes) (sym (Adds-now name call.Sync (λ r after. after ≡ synced_at r (r.names name)) b c adds)) (synced-stable b.now.at name bytes (is holds)))
 
 -- while the log takes its name, or loses it
 pub between-then : {x y z : Option Trail} → Leads KeepsBetween x y → Leads KeepsBetween y z → Leads KeepsBetween x z
@@ -88,8 +88,8 @@ between-gone {x = x} {y = y} result led =
 -- a rename and a sync of the folder leave the log to every image
 pub moved-log : {x y z : Option Trail} → Leads (AfterRename Oal Wal) x y → Leads AfterFolderSync y z → Leads HasMovedLog x z
 moved-log rename folder = Leads-then rename folder (λ a b c ren fol t held log bytes here is.
-    let renamed = now_of Oal call.Rename (λ r after. after ≡ renamed_at r Oal Wal (r.names Oal)) a b ren in
-    let settled = now_of Target call.SyncFolder (λ r after. after ≡ folder_synced r) b c fol in
+    let renamed = Adds-now Oal call.Rename (λ r after. after ≡ renamed_at r Oal Wal (r.names Oal)) a b ren in
+    let settled = Adds-now Target call.SyncFolder (λ r after. after ≡ folder_synced r) b c fol in
     subst (Logged t log bytes) (sym settled)
     (between-logged t held log bytes b.now.at (subst (Between t held log bytes) (sym renamed) (between-renamed t held log bytes a.now.at here is))
     (ap (λ (r : Record). r.names Wal) renamed ∙ renamed-log t held log bytes a.now.at is)))
@@ -115,14 +115,14 @@ logged-stable {x = x} {y = y} result led =
 -- what a sync of the folder leaves
 pub folder-names : {x y : Option Trail} → Leads AfterFolderSync x y → IfSome y (λ t. HasShownNames t.now.at)
 folder-names folder = Leads-after folder (λ a b fol.
-    subst HasShownNames (sym (now_of Target call.SyncFolder (λ r after. after ≡ folder_synced r) a b fol)) (λ left image. settled-names a.now.at left image))
+    subst HasShownNames (sym (Adds-now Target call.SyncFolder (λ r after. after ≡ folder_synced r) a b fol)) (λ left image. settled-names a.now.at left image))
 
-removed_stable : (r : Record) (number : Option ℕ) (bytes : List ℕ) → HasStable Target bytes r → HasStable Target bytes (removed_at r Wal number)
-removed_stable r None bytes stands = stands
-removed_stable r (Some id) bytes stands = stands
+HasStable-removed : (r : Record) (number : Option ℕ) (bytes : List ℕ) → HasStable Target bytes r → HasStable Target bytes (removed_at r Wal number)
+HasStable-removed r None bytes stands = stands
+HasStable-removed r (Some id) bytes stands = stands
 
-settled_stable : (r : Record) (bytes : List ℕ) → HasStable Target bytes r → HasShownFile Target (folder_synced r)
-settled_stable r bytes stands left image =
+HasStable-settled : (r : Record) (bytes : List ℕ) → HasStable Target bytes r → HasShownFile Target (folder_synced r)
+HasStable-settled r bytes stands left image =
     let there : HoldsAt r.stored (Some stands.0) (left Target) = subst (λ number. HoldsAt r.stored number (left Target)) stands.1 (settled-images r left image Target) in
     let held : there.0 ≡ bytes = stable-only bytes there.0 (subst (λ (s : Stored). MayHold s there.0) stands.2 there.2) in
     let shown : shown_files r Target ≡ Some bytes = ap (option_map (λ i. (r.stored i).shown)) stands.1 ∙ ap (λ (s : Stored). Some s.shown) stands.2 in
@@ -131,6 +131,6 @@ settled_stable r bytes stands left image =
 pub gone-target : {x y z : Option Trail} → Leads (AfterRemove Wal) x y → Leads AfterFolderSync y z →
     Leads (λ a c. (bytes : List ℕ) → HasStable Target bytes a.now.at → HasShownFile Target c.now.at) x z
 gone-target gone folder = Leads-then gone folder (λ a b c rem fol bytes stands.
-    let removed = now_of Wal call.Remove (λ r after. after ≡ removed_at r Wal (r.names Wal)) a b rem in
-    let settled = now_of Target call.SyncFolder (λ r after. after ≡ folder_synced r) b c fol in
-    subst (HasShownFile Target) (sym settled) (settled_stable b.now.at bytes (subst (HasStable Target bytes) (sym removed) (removed_stable a.now.at (a.now.at.names Wal) bytes stands))))
+    let removed = Adds-now Wal call.Remove (λ r after. after ≡ removed_at r Wal (r.names Wal)) a b rem in
+    let settled = Adds-now Target call.SyncFolder (λ r after. after ≡ folder_synced r) b c fol in
+    subst (HasShownFile Target) (sym settled) (HasStable-settled b.now.at bytes (subst (HasStable Target bytes) (sym removed) (HasStable-removed a.now.at (a.now.at.names Wal) bytes stands))))

@@ -104,24 +104,24 @@ module _ (t : ℕ) (held : Stored) (log : ℕ) (bytes : List ℕ) where
           named n (inr there) = b.named n there
 
 module _ (t log : ℕ) (bytes : List ℕ) where
-  here : (r : Record) → Logged t log bytes r → r.names Target ≡ Some t
-  here r b = (b.named r.names (inl refl)).0
+  logged-target : (r : Record) → Logged t log bytes r → r.names Target ≡ Some t
+  logged-target r b = (b.named r.names (inl refl)).0
 
   -- a change of the target
   pub logged-changes : (R : Stored → Stored → Type 0) (r q : Record) → Logged t log bytes r → Changes R Target r q → Logged t log bytes q
-  logged-changes R r q b changes = at (subst (λ number. ChangesAt R Target number r q) (here r b) changes)
+  logged-changes R r q b changes = at (subst (λ number. ChangesAt R Target number r q) (logged-target r b) changes)
     where
       at : ChangesAt R Target (Some t) r q → Logged t log bytes q
       at (s, step, is) = subst (Logged t log bytes) (sym is) (record { named = b.named; whole = stored-other r t log s b.apart ∙ b.whole; apart = b.apart })
 
   pub logged-synced : (r : Record) → Logged t log bytes r → Logged t log bytes (synced_at r (r.names Target))
-  logged-synced r b = subst (λ number. Logged t log bytes (synced_at r number)) (sym (here r b))
+  logged-synced r b = subst (λ number. Logged t log bytes (synced_at r number)) (sym (logged-target r b))
       (record { named = b.named; whole = stored-other r t log (stable (r.stored t).shown) b.apart ∙ b.whole; apart = b.apart })
 
   -- the target is stable too
   pub logged-copied : (r : Record) (pages : List ℕ) → Logged t log bytes r → HasStable Target pages r → Between t (stable pages) log bytes r
   logged-copied r pages b copied =
-      let same : Some copied.0 ≡ Some t = sym copied.1 ∙ here r b in
+      let same : Some copied.0 ≡ Some t = sym copied.1 ∙ logged-target r b in
       let one : copied.0 ≡ t = cc in
       record {
         named = λ n may. ((b.named n may).0, inr (b.named n may).1);
@@ -137,25 +137,25 @@ pub record IsUnlogged (held : Stored) (left : Files) : Type 0 where
   pub may : MayHold held bytes
   pub no_log : left Wal ≡ None
 
-unlogged : (r : Record) (n : Names) (left : Files) (t : ℕ) (held : Stored) → HoldsAll r.stored n left → n Target ≡ Some t → r.stored t ≡ held → n Wal ≡ None → IsUnlogged held left
-unlogged r n left t held holds target still none =
+HoldsAll-unlogged : (r : Record) (n : Names) (left : Files) (t : ℕ) (held : Stored) → HoldsAll r.stored n left → n Target ≡ Some t → r.stored t ≡ held → n Wal ≡ None → IsUnlogged held left
+HoldsAll-unlogged r n left t held holds target still none =
     let there : HoldsAt r.stored (Some t) (left Target) = subst (λ number. HoldsAt r.stored number (left Target)) target (holds Target) in
     record { bytes = there.0; target = there.1; may = subst (λ (s : Stored). MayHold s there.0) still there.2; no_log = subst (λ number. HoldsAt r.stored number (left Wal)) none (holds Wal) }
 
-logged : (r : Record) (n : Names) (left : Files) (log : ℕ) (bytes : List ℕ) → HoldsAll r.stored n left → r.stored log ≡ stable bytes → n Wal ≡ Some log → left Wal ≡ Some bytes
-logged r n left log bytes holds whole is =
+HoldsAll-logged : (r : Record) (n : Names) (left : Files) (log : ℕ) (bytes : List ℕ) → HoldsAll r.stored n left → r.stored log ≡ stable bytes → n Wal ≡ Some log → left Wal ≡ Some bytes
+HoldsAll-logged r n left log bytes holds whole is =
     let there : HoldsAt r.stored (Some log) (left Wal) = subst (λ number. HoldsAt r.stored number (left Wal)) is (holds Wal) in
     there.1 ∙ ap Some (stable-only bytes there.0 (subst (λ (s : Stored). MayHold s there.0) whole there.2))
 
 pub building-image : (t : ℕ) (held : Stored) (r : Record) (left : Files) → Building t held r → IsImage r left → IsUnlogged held left
-building-image t held r left b image = unlogged r image.0 left t held image.2 (b.named image.0 image.1).0 b.still (b.named image.0 image.1).1
+building-image t held r left b image = HoldsAll-unlogged r image.0 left t held image.2 (b.named image.0 image.1).0 b.still (b.named image.0 image.1).1
 
 pub between-image : (t : ℕ) (held : Stored) (log : ℕ) (bytes : List ℕ) (r : Record) (left : Files) → Between t held log bytes r → IsImage r left → IsUnlogged held left ⊎ (left Wal ≡ Some bytes)
 between-image t held log bytes r left b image = at (b.named image.0 image.1).1
   where
     at : (image.0 Wal ≡ None) ⊎ (image.0 Wal ≡ Some log) → IsUnlogged held left ⊎ (left Wal ≡ Some bytes)
-    at (inl none) = inl (unlogged r image.0 left t held image.2 (b.named image.0 image.1).0 b.still none)
-    at (inr is) = inr (logged r image.0 left log bytes image.2 b.whole is)
+    at (inl none) = inl (HoldsAll-unlogged r image.0 left t held image.2 (b.named image.0 image.1).0 b.still none)
+    at (inr is) = inr (HoldsAll-logged r image.0 left log bytes image.2 b.whole is)
 
 pub logged-image : (t log : ℕ) (bytes : List ℕ) (r : Record) (left : Files) → Logged t log bytes r → IsImage r left → left Wal ≡ Some bytes
-logged-image t log bytes r left b image = logged r image.0 left log bytes image.2 b.whole (b.named image.0 image.1).1
+logged-image t log bytes r left b image = HoldsAll-logged r image.0 left log bytes image.2 b.whole (b.named image.0 image.1).1

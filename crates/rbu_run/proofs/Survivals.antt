@@ -47,8 +47,8 @@ firm-names r firm =
     subst HasShownNames (sym settled) (λ left image. settled-names r left image)
 
 -- nothing changed
-pub kept : (IsEnd : Record → Type 0) (a : Trail) → IsEnd a.now.at → Survives IsEnd a a
-kept IsEnd a ends = record { moments = λ keeps. Passes-none (Every (SeesOldOrNew small_inserts (shown_files a.now.at))) a; end = ends }
+pub Survives-unchanged : (IsEnd : Record → Type 0) (a : Trail) → IsEnd a.now.at → Survives IsEnd a a
+Survives-unchanged IsEnd a ends = record { moments = λ keeps. Passes-none (Every (SeesOldOrNew small_inserts (shown_files a.now.at))) a; end = ends }
 
 -- nothing is said behind a halt
 pub halted-end : (P : Halt → Type 0) (result : Result Outcome Halt) (r : Record) → IsErrAnd result P → IsStableEnd result r
@@ -56,8 +56,8 @@ halted-end P (Ok outcome) r h = absurd h
 halted-end P (Err halt) r h = tt
 
 -- the folder's sync, with which the update begins
-synced : (a b : Trail) → AfterFolderSync a b → b.now.at ≡ folder_synced a.now.at
-synced a b adds = ap (λ (t : Trail). t.now.at) adds.is ∙ adds.step
+AfterFolderSync-now : (a b : Trail) → AfterFolderSync a b → b.now.at ≡ folder_synced a.now.at
+AfterFolderSync-now a b adds = ap (λ (t : Trail). t.now.at) adds.is ∙ adds.step
 
 settled-keeps : (r : Record) → ImagesKeepView r → ImagesKeepView (folder_synced r)
 settled-keeps r keeps left image = keeps left (settled-fewer r left image)
@@ -68,7 +68,7 @@ settled-shows a b adds keeps =
     (λ r step. subst (Every (SeesOldOrNew small_inserts (shown_files a.now.at))) (sym step) (λ left image. inl (settled-keeps a.now.at keeps left image))) adds
 
 pub settled-kept : (IsEnd : Record → Type 0) {x y : Option Trail} → ((r : Record) → IsEnd (folder_synced r)) → Leads AfterFolderSync x y → Leads (Survives IsEnd) x y
-settled-kept IsEnd ends folder = Leads-weaken folder (λ a b adds. record { moments = settled-shows a b adds; end = subst IsEnd (sym (synced a b adds)) (ends a.now.at) })
+settled-kept IsEnd ends folder = Leads-weaken folder (λ a b adds. record { moments = settled-shows a b adds; end = subst IsEnd (sym (AfterFolderSync-now a b adds)) (ends a.now.at) })
 
 pub settled-names-end : (r : Record) → HasShownNames (folder_synced r)
 settled-names-end r left image = settled-names r left image
@@ -86,7 +86,7 @@ settled-then IsEnd Known {y = y} {z = z} folder known rest =
     let from_firm : Leads (λ a b. Known (shown_files a.now.at) → HasFirmNames a.now.at → Survives IsEnd a b) y z = Leads-weaken rest (λ a b s k firm. s firm k) in
     let behind : Leads (λ a b. HasFirmNames a.now.at → Survives IsEnd a b) y z = Leads-known known from_firm in
     Leads-then folder behind (λ a b c adds s.
-    let is : b.now.at ≡ folder_synced a.now.at = synced a b adds in
+    let is : b.now.at ≡ folder_synced a.now.at = AfterFolderSync-now a b adds in
     let shown : shown_files b.now.at ≡ shown_files a.now.at = ap shown_files is in
     let survives = s (ap (λ (r : Record). r.older) is) in
     record {
@@ -116,4 +116,4 @@ module _ (salt : ℕ × ℕ) (bytes : List ℕ) (words : AreWords salt) (Known :
 -- a decision that changes nothing
 pub decided-survives : (IsEnd : Record → Type 0) (Known : Files → Type 0) {x : Option Trail} → ((r : Record) → HasFirmNames r → IsEnd r) →
     Leads (λ a b. HasFirmNames a.now.at → Known (shown_files a.now.at) → Survives IsEnd a b) x x
-decided-survives IsEnd Known ends = Leads-here (λ a firm known. kept IsEnd a (ends a.now.at firm))
+decided-survives IsEnd Known ends = Leads-here (λ a firm known. Survives-unchanged IsEnd a (ends a.now.at firm))

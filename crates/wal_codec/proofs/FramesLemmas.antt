@@ -18,8 +18,8 @@ use Rattle.wal_codec.specs.LogReadingLaws.{committed-one_more, last_commit-one_m
 use Rattle.wal_codec.specs.FramesRead.{HasReadHead, HasReadFrame, frame_of, counts_after, counts_of, HaveFrames, HaveReadFrames, log_kept}
 
 -- powers of two rise
-power_le : (j k : ℕ) → j ≤ k → 2 ^ j ≤ 2 ^ k
-power_le j k le = pow-le-pow_right (omega arith) le
+power-rises : (j k : ℕ) → j ≤ k → 2 ^ j ≤ 2 ^ k
+power-rises j k le = pow-le-pow_right (omega arith) le
 
 -- pages have whole pairs of words
 pub page_size-whole : (size : ℕ) → IsPageSize size → size % 8 ≡ 0
@@ -28,7 +28,7 @@ page_size-whole size is =
     let same : size ≡ 2 ^ k = is.power.1 in
     let least : 512 ≤ size = is.least in
     elim (cases_lt k 3) [
-      | inl below ↦ let low : 2 ^ k ≤ 2 ^ 3 = power_le k 3 (omega arith) in absurd (omega arith)
+      | inl below ↦ let low : 2 ^ k ≤ 2 ^ 3 = power-rises k 3 (omega arith) in absurd (omega arith)
       | inr above ↦
           let j : ℕ = k - 3 in
           let exponent : k ≡ 3 + j = omega arith in

@@ -4,7 +4,7 @@ use Rattle.std.proofs.lemmas.List.{length_push}
 use Rattle.format_spec.specs.declared.CellView.{CellView}
 use Rattle.format_spec.specs.Page.{cell_place}
 use Rattle.page_layout.specs.Views.{IsViewAt, AreViews}
-use Rattle.page_layout.proofs.Marking.{AreMarked, one_more_marked, one_more_view, overlaps, outside}
+use Rattle.page_layout.proofs.Marking.{AreMarked, AreMarked-one_more, AreViews-one_more, AreViews-no_overlap, outside-same_span}
 use Rattle.page_layout.proofs.reading.read_views.Goals as goal
 
 pub returns-in_default-clause-none : goal.returns-in_default-clause-none
@@ -17,7 +17,7 @@ returns-then-not-mark-clause-none c views many are =
     let inv = c.loop-index.invariant in
     let w = c.mark.ensures.taken c.if-not-mark.true in
     let cell = c.in-Some.cell in
-    overlaps a.page.now a.number a.kind c.loop-index.views.items cell.view c.loop-index.marks inv.marked a.usable a.count c.requires.whole inv.first c.loop-index.index inv.many cell.view c.in-Some.ensures.found
+    AreViews-no_overlap a.page.now a.number a.kind c.loop-index.views.items cell.view c.loop-index.marks inv.marked a.usable a.count c.requires.whole inv.first c.loop-index.index inv.many cell.view c.in-Some.ensures.found
     (w.0, omega (arith, w.1, c.in-Some.ensures.place), omega (arith, w.2, c.room.ensures, c.in-Some.ensures.place), w.3) views (omega (arith, many, c.loop-index-test.true)) are
 
 pub loop-index-preserved : goal.loop-index-preserved
@@ -34,10 +34,10 @@ loop-index-preserved c =
       many = ap length items ∙ length_push views cell.view ∙ ap (λ (n : ℕ). n + 1) inv.many;
       long = omega (arith, c.mark.auto.marks, inv.long);
       first = subst⁻¹ (AreViews a.page.now a.number a.usable a.kind a.count) items
-          (one_more_view a.page.now a.number a.kind views cell.view c.loop-index.marks inv.marked a.usable a.count inv.first found
+          (AreViews-one_more a.page.now a.number a.kind views cell.view c.loop-index.marks inv.marked a.usable a.count inv.first found
           (λ b low high. c.mark.ensures.free c.if-not-mark.false b (omega (arith, low, place)) (omega (arith, high, c.room.ensures, place))));
       marked = subst⁻¹ (λ (s : List CellView). AreMarked a.page.now a.number a.kind s c.mark.new.marks) items
-          (one_more_marked a.page.now a.number a.kind views cell.view c.loop-index.marks inv.marked c.mark.new.marks
+          (AreMarked-one_more a.page.now a.number a.kind views cell.view c.loop-index.marks inv.marked c.mark.new.marks
           (λ b low high. c.mark.ensures.set c.if-not-mark.false b (omega (arith, low, place)) (omega (arith, high, c.room.ensures, place)))
-          (λ b apart. c.mark.ensures.kept c.if-not-mark.false b (outside cell.place _ _ _ b place c.room.ensures apart)));
+          (λ b apart. c.mark.ensures.kept c.if-not-mark.false b (outside-same_span cell.place _ _ _ b place c.room.ensures apart)));
     }

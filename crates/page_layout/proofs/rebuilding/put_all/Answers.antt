@@ -8,7 +8,7 @@ use Rattle.page_spec.specs.Rooms.{IsOneCell, KeepsRest, rooms}
 use Rattle.page_layout.specs.declared.put.Layout.{Layout}
 use Rattle.page_layout.specs.Written.{IsLaid, laid_more}
 use Rattle.page_layout.proofs.Inserting.{packed-laid}
-use Rattle.page_layout.proofs.Packing.{as_known, put_more, rooms_more}
+use Rattle.page_layout.proofs.Packing.{layout-to_known, IsLaid-one_more, rooms-one_more}
 use Rattle.page_layout.proofs.rebuilding.put_all.Goals as goal
 
 pub put_cell-requires-clause-cell : goal.put_cell-requires-clause-cell
@@ -29,7 +29,7 @@ loop-cell-preserved c =
     let x = c.as_slice.result.now in
     let is : x ≡ get_or cells i x = c.as_slice.ensures ∙ get_or_read cells i c.cell-item.result c.loop-cell-test.true c.cell-item.is x in
     let laid_on : c.put_cell.new.layout ≡ laid_more c.loop-cell.layout (cell_room x) = c.put_cell.ensures.layout in
-    let front : rooms (take (i + 1) cells) ≡ rooms (take i cells) + cell_room x = rooms_more cells i x c.loop-cell-test.true is in
+    let front : rooms (take (i + 1) cells) ≡ rooms (take i cells) + cell_room x = rooms-one_more cells i x c.loop-cell-test.true is in
     let within : rooms (take (i + 1) cells) ≤ rooms cells = sum_by-take-le cell_room cells (i + 1) in
     record {
       on = record {
@@ -41,10 +41,10 @@ loop-cell-preserved c =
       };
       laid = λ before right was.
           let mid = inv.laid before right was in
-          put_more c.put_cell.new.page c.put_cell.new.layout before cells right i x c.loop-cell.layout.count c.loop-cell-test.true is mid.count
+          IsLaid-one_more c.put_cell.new.page c.put_cell.new.layout before cells right i x c.loop-cell.layout.count c.loop-cell-test.true is mid.count
           (c.put_cell.ensures.cells (before ++ take i cells) right (packed-laid mid));
       rest = λ k apart.
-          as_known (λ (n u : ℕ) (kind : PageKind). KeepsRest n u c.loop-cell.page c.put_cell.new.page) c.loop-cell.layout c.args.layout.now.number c.args.layout.now.usable c.args.layout.now.kind
+          layout-to_known (λ (n u : ℕ) (kind : PageKind). KeepsRest n u c.loop-cell.page c.put_cell.new.page) c.loop-cell.layout c.args.layout.now.number c.args.layout.now.usable c.args.layout.now.kind
           inv.on.number inv.on.usable inv.on.kind c.put_cell.ensures.rest k apart
           ∙ inv.rest k apart;
     }

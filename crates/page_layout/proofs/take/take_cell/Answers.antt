@@ -1,7 +1,7 @@
 use Rattle.std.proofs.Common.{◌≡◌, ◌-◌, ◌<◌, length, max, ap, ◌∙◌, inl, inr, arith}
 use Rattle.page_spec.specs.Rooms.{rooms}
 use Rattle.page_spec.specs.RoomsLaws.{rooms-fit}
-use Rattle.page_layout.proofs.Taking.{taken, takes_as}
+use Rattle.page_layout.proofs.Taking.{IsWritten-taken, TakesCell-same_numbers}
 use Rattle.page_layout.proofs.take.take_cell.Goals as goal
 
 pub span_of-cell-requires : goal.span_of-cell-requires
@@ -41,9 +41,9 @@ returns-clause-written c cells right packed =
     let inside : a.at < length cells = omega (arith, c.requires.at, packed.count) in
     let size = c.span_of-cell.ensures.size cells right is in
     let bottom : l.bottom ≡ l.usable - rooms cells = omega (arith, packed.bottom) in
-    taken a.page.now c.take_at.new.page l.number l.usable l.kind cells right a.at c.requires.whole is packed.no_hole inside
+    IsWritten-taken a.page.now c.take_at.new.page l.number l.usable l.kind cells right a.at c.requires.whole is packed.no_hole inside
     (rooms-fit a.page.now l.number l.usable l.kind cells right c.requires.usable is)
-    (takes_as a.page.now c.take_at.new.page a.at _ _ _ _ _ _ _ _ _ _ _ _ c.header_place-header.ensures.value c.header_length.ensures.value packed.count bottom
+    (TakesCell-same_numbers a.page.now c.take_at.new.page a.at _ _ _ _ _ _ _ _ _ _ _ _ c.header_place-header.ensures.value c.header_length.ensures.value packed.count bottom
     c.span_of-cell.ensures.place (c.room.ensures ∙ ap (max 4) size) c.take_at.ensures)
 
 pub returns-clause-rest : goal.returns-clause-rest

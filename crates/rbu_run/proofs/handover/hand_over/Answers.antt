@@ -65,17 +65,17 @@ returns-clause-failed g c = on-err-map c.drop_log.result c.drop_log.ensures.fail
 -- what a crash may leave at each end
 pub returns-in_err-write_log-clause-moments : goal.returns-in_err-write_log-clause-moments
 returns-in_err-write_log-clause-moments g c =
-    handing.midway (pair_of c.args.salt) c.args.pages.now (g.met.D.Disk.sound c.args.disk.now) (handing.stopped-log (pair_of c.args.salt) c.args.pages.now c.write_log.ensures.moments)
+    handing.stopped-midway (pair_of c.args.salt) c.args.pages.now (g.met.D.Disk.sound c.args.disk.now) (handing.stopped-log (pair_of c.args.salt) c.args.pages.now c.write_log.ensures.moments)
 
 pub returns-in_err-move_log-clause-moments : goal.returns-in_err-move_log-clause-moments
 returns-in_err-move_log-clause-moments g c =
-    handing.midway (pair_of c.args.salt) c.args.pages.now (g.met.D.Disk.sound c.args.disk.now)
+    handing.stopped-midway (pair_of c.args.salt) c.args.pages.now (g.met.D.Disk.sound c.args.disk.now)
     (handing.stopped-move (pair_of c.args.salt) c.args.pages.now
     (handing.log-whole (pair_of c.args.salt) c.args.pages.now c.write_log.ensures.moments c.in_ok-write_log.ensures.stable) c.move_log.ensures.moments)
 
 pub returns-in_err-copy_back-clause-moments : goal.returns-in_err-copy_back-clause-moments
 returns-in_err-copy_back-clause-moments g c =
-    handing.midway (pair_of c.args.salt) c.args.pages.now (g.met.D.Disk.sound c.args.disk.now)
+    handing.stopped-midway (pair_of c.args.salt) c.args.pages.now (g.met.D.Disk.sound c.args.disk.now)
     (handing.stopped-copy (pair_of c.args.salt) c.args.pages.now
     (handing.log-moved (pair_of c.args.salt) c.args.pages.now
     (handing.log-whole (pair_of c.args.salt) c.args.pages.now c.write_log.ensures.moments c.in_ok-write_log.ensures.stable)
@@ -93,7 +93,7 @@ stands g c =
 
 pub returns-clause-moments : goal.returns-clause-moments
 returns-clause-moments g c =
-    handing.midway (pair_of c.args.salt) c.args.pages.now (g.met.D.Disk.sound c.args.disk.now)
+    handing.stopped-midway (pair_of c.args.salt) c.args.pages.now (g.met.D.Disk.sound c.args.disk.now)
     (handing.stopped-drop (pair_of c.args.salt) c.args.pages.now
     (handing.pages-copied (pair_of c.args.salt) c.args.pages.now
     (handing.log-moved (pair_of c.args.salt) c.args.pages.now

@@ -8,8 +8,8 @@ use Rattle.file_spec.specs.Records.{shown_files}
 use Rattle.file_spec.specs.Steps.{AfterSync, AfterFailedSync}
 use Rattle.format_spec.specs.Log.{pair_of}
 use Rattle.rbu_run.specs.Handover.{log_of}
-use Rattle.rbu_run.proofs.Parts.{on-ok, on-ok-map, five_short}
-use Rattle.rbu_run.proofs.LogWrites.{log_parts, Wrote-made}
+use Rattle.rbu_run.proofs.Parts.{on-ok, on-ok-map, length-five_parts}
+use Rattle.rbu_run.proofs.LogWrites.{log_of-parts, Wrote-made}
 use Rattle.rbu_run.proofs.Moments.{records-go, led-ok}
 use Rattle.rbu_run.proofs.PhaseCalls.{building-then, building-created, building-stable, shown-stable}
 use Rattle.rbu_run.proofs.handover.write_log.Given as given
@@ -20,7 +20,7 @@ returns-in_err-create-clause-only g c = only-same Oal c.in_err-create.ensures.fa
 
 pub write_parts-requires-clause-short : goal.write_parts-requires-clause-short
 write_parts-requires-clause-short g c =
-    five_short c.header_bytes-sums.new.into c.frame_bytes-sums.new.into c.split_at.result.0.now c.frame_bytes-sums-2.new.into c.split_at.result.1.now
+    length-five_parts c.header_bytes-sums.new.into c.frame_bytes-sums.new.into c.split_at.result.0.now c.frame_bytes-sums-2.new.into c.split_at.result.1.now
     (omega (arith, c.header_bytes-sums.array_long)) (omega (arith, c.frame_bytes-sums.array_long)) (omega (arith, c.split_at.ensures.front_len)) (omega (arith, c.frame_bytes-sums-2.array_long)) (omega (arith, c.split_at.ensures.back_len, c.requires.long))
 
 pub returns-in_err-write_parts-clause-only : goal.returns-in_err-write_parts-clause-only
@@ -29,7 +29,7 @@ returns-in_err-write_parts-clause-only g c = only-then Oal (only-created Oal c.i
 -- the parts are those of the log
 written : (g : given.Over) (c : goal.After-sync g) → c.header_bytes-sums.new.into ++ (c.frame_bytes-sums.new.into ++ (c.split_at.result.0.now ++ (c.frame_bytes-sums-2.new.into ++ (c.split_at.result.1.now ++ [])))) ≡ log_of (pair_of c.args.salt) c.args.pages.now
 written g c =
-    log_parts (pair_of c.args.salt) (pair_of c.header_bytes-sums.result) (pair_of c.frame_bytes-sums.result) c.args.pages.now
+    log_of-parts (pair_of c.args.salt) (pair_of c.header_bytes-sums.result) (pair_of c.frame_bytes-sums.result) c.args.pages.now
     c.header_bytes-sums.new.into c.frame_bytes-sums.new.into c.split_at.result.0.now c.frame_bytes-sums-2.new.into c.split_at.result.1.now
     c.header_bytes-sums.ensures.header c.header_bytes-sums.ensures.sums c.frame_bytes-sums.ensures.header c.frame_bytes-sums.ensures.sums c.frame_bytes-sums-2.ensures.header
     c.split_at.ensures.front c.split_at.ensures.back

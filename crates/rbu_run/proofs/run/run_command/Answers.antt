@@ -5,7 +5,7 @@ use Rattle.update_spec.specs.Words.{AsksUpdate}
 use Rattle.rbu_run.specs.Status.{IsCounted}
 use Rattle.rbu_run.proofs.Endings.{sees-ends, others-ends, log-ends}
 use Rattle.rbu_run.proofs.Answering as answering
-use Rattle.rbu_run.proofs.Answering.{Settled, settled-told, counted-told, however, owed}
+use Rattle.rbu_run.proofs.Answering.{Settled, settled-told, counted-told, settled-however, settled-owed}
 use Rattle.rbu_run.proofs.CrashAnswers as crash
 use Rattle.rbu_run.proofs.CrashAnswers.{Crashes, survives-told}
 use Rattle.rbu_run.proofs.run.run_command.Given as given
@@ -43,94 +43,94 @@ crashes g c = record {
 
 pub returns-clause-images : goal.returns-clause-images
 returns-clause-images g c =
-    crash.images (map string_bytes c.args.words.now) (g.D.Disk.trail c.args.disk) (g.D.Disk.trail c.answer_of-answer.new.disk) c.tellable-answer.result.0 (crashes g c)
+    crash.Crashes-old_or_new (map string_bytes c.args.words.now) (g.D.Disk.trail c.args.disk) (g.D.Disk.trail c.answer_of-answer.new.disk) c.tellable-answer.result.0 (crashes g c)
 
 pub returns-clause-names : goal.returns-clause-names
 returns-clause-names g c asks ended =
-    crash.names c.args.out.now c.write_line-status.new.out c.tellable-answer.result.0 c.write_line-status.result c.write_line-status.ensures ((crashes g c).survives asks) ended
+    crash.survives-names c.args.out.now c.write_line-status.new.out c.tellable-answer.result.0 c.write_line-status.result c.write_line-status.ensures ((crashes g c).survives asks) ended
 
 pub returns-clause-target : goal.returns-clause-target
 returns-clause-target g c zero =
     let asks : AsksUpdate (map string_bytes c.args.words.now) =
-    (answering.done (pair_of c.args.salt) (map string_bytes c.args.words.now) (g.D.Disk.shown c.args.disk) (g.D.Disk.shown c.answer_of-answer.new.disk)
+    (answering.told-done (pair_of c.args.salt) (map string_bytes c.args.words.now) (g.D.Disk.shown c.args.disk) (g.D.Disk.shown c.answer_of-answer.new.disk)
     c.args.out.now c.write_line-status.new.out c.tellable-answer.result.0 c.write_line-status.result (settled g c) c.write_line-status.ensures zero).0 in
-    crash.target c.args.out.now c.write_line-status.new.out c.tellable-answer.result.0 c.write_line-status.result c.write_line-status.ensures ((crashes g c).survives asks) zero
+    crash.survives-target c.args.out.now c.write_line-status.new.out c.tellable-answer.result.0 c.write_line-status.result c.write_line-status.ensures ((crashes g c).survives asks) zero
 
 pub returns-clause-headline : goal.returns-clause-headline
 returns-clause-headline g c =
-    however (pair_of c.args.salt) (map string_bytes c.args.words.now) (g.D.Disk.shown c.args.disk) (g.D.Disk.shown c.answer_of-answer.new.disk) c.tellable-answer.result.0
+    settled-however (pair_of c.args.salt) (map string_bytes c.args.words.now) (g.D.Disk.shown c.args.disk) (g.D.Disk.shown c.answer_of-answer.new.disk) c.tellable-answer.result.0
     (settled g c) (sees-ends (pair_of c.args.salt) c.tellable-answer.result.0) (λ f. inl (KeepsView-same f f refl))
 
 pub returns-clause-others : goal.returns-clause-others
 returns-clause-others g c =
-    however (pair_of c.args.salt) (map string_bytes c.args.words.now) (g.D.Disk.shown c.args.disk) (g.D.Disk.shown c.answer_of-answer.new.disk) c.tellable-answer.result.0
+    settled-however (pair_of c.args.salt) (map string_bytes c.args.words.now) (g.D.Disk.shown c.args.disk) (g.D.Disk.shown c.answer_of-answer.new.disk) c.tellable-answer.result.0
     (settled g c) (others-ends (pair_of c.args.salt) c.tellable-answer.result.0) (λ f name x y z. refl)
 
 pub returns-clause-log : goal.returns-clause-log
 returns-clause-log g c =
-    however (pair_of c.args.salt) (map string_bytes c.args.words.now) (g.D.Disk.shown c.args.disk) (g.D.Disk.shown c.answer_of-answer.new.disk) c.tellable-answer.result.0
+    settled-however (pair_of c.args.salt) (map string_bytes c.args.words.now) (g.D.Disk.shown c.args.disk) (g.D.Disk.shown c.answer_of-answer.new.disk) c.tellable-answer.result.0
     (settled g c) (log-ends (pair_of c.args.salt) c.tellable-answer.result.0) (λ f. inl refl)
 
 pub returns-clause-finished : goal.returns-clause-finished
 returns-clause-finished g c =
-    answering.done (pair_of c.args.salt) (map string_bytes c.args.words.now) (g.D.Disk.shown c.args.disk) (g.D.Disk.shown c.answer_of-answer.new.disk)
+    answering.told-done (pair_of c.args.salt) (map string_bytes c.args.words.now) (g.D.Disk.shown c.args.disk) (g.D.Disk.shown c.answer_of-answer.new.disk)
     c.args.out.now c.write_line-status.new.out c.tellable-answer.result.0 c.write_line-status.result (settled g c) c.write_line-status.ensures
 
 pub returns-clause-constraint : goal.returns-clause-constraint
 returns-clause-constraint g c =
-    answering.constraint (pair_of c.args.salt) (map string_bytes c.args.words.now) (g.D.Disk.shown c.args.disk) (g.D.Disk.shown c.answer_of-answer.new.disk)
+    answering.told-constraint (pair_of c.args.salt) (map string_bytes c.args.words.now) (g.D.Disk.shown c.args.disk) (g.D.Disk.shown c.answer_of-answer.new.disk)
     c.args.out.now c.write_line-status.new.out c.tellable-answer.result.0 c.write_line-status.result (settled g c) c.write_line-status.ensures
 
 pub returns-clause-refused : goal.returns-clause-refused
 returns-clause-refused g c =
-    answering.refused (pair_of c.args.salt) (map string_bytes c.args.words.now) (g.D.Disk.shown c.args.disk) (g.D.Disk.shown c.answer_of-answer.new.disk)
+    answering.told-refused (pair_of c.args.salt) (map string_bytes c.args.words.now) (g.D.Disk.shown c.args.disk) (g.D.Disk.shown c.answer_of-answer.new.disk)
     c.args.out.now c.write_line-status.new.out c.tellable-answer.result.0 c.write_line-status.result (settled g c) c.write_line-status.ensures
 
 pub returns-clause-memory : goal.returns-clause-memory
 returns-clause-memory g c =
-    answering.memory (pair_of c.args.salt) (map string_bytes c.args.words.now) (g.D.Disk.shown c.args.disk) (g.D.Disk.shown c.answer_of-answer.new.disk)
+    answering.told-memory (pair_of c.args.salt) (map string_bytes c.args.words.now) (g.D.Disk.shown c.args.disk) (g.D.Disk.shown c.answer_of-answer.new.disk)
     c.args.out.now c.write_line-status.new.out c.tellable-answer.result.0 c.write_line-status.result (settled g c) c.write_line-status.ensures
 
 pub returns-clause-usage : goal.returns-clause-usage
 returns-clause-usage g c =
-    answering.usage (pair_of c.args.salt) (map string_bytes c.args.words.now) (g.D.Disk.shown c.args.disk) (g.D.Disk.shown c.answer_of-answer.new.disk)
+    answering.told-usage (pair_of c.args.salt) (map string_bytes c.args.words.now) (g.D.Disk.shown c.args.disk) (g.D.Disk.shown c.answer_of-answer.new.disk)
     c.args.out.now c.write_line-status.new.out c.tellable-answer.result.0 c.write_line-status.result (settled g c) c.write_line-status.ensures
 
 pub returns-clause-not_built : goal.returns-clause-not_built
 returns-clause-not_built g c =
-    answering.not_built (pair_of c.args.salt) (map string_bytes c.args.words.now) (g.D.Disk.shown c.args.disk) (g.D.Disk.shown c.answer_of-answer.new.disk)
+    answering.told-not_built (pair_of c.args.salt) (map string_bytes c.args.words.now) (g.D.Disk.shown c.args.disk) (g.D.Disk.shown c.answer_of-answer.new.disk)
     c.args.out.now c.write_line-status.new.out c.tellable-answer.result.0 c.write_line-status.result (settled g c) c.write_line-status.ensures
 
 pub returns-clause-usage_only : goal.returns-clause-usage_only
 returns-clause-usage_only g c =
-    answering.usage_only (pair_of c.args.salt) (map string_bytes c.args.words.now) (g.D.Disk.shown c.args.disk) (g.D.Disk.shown c.answer_of-answer.new.disk)
+    answering.told-usage_only (pair_of c.args.salt) (map string_bytes c.args.words.now) (g.D.Disk.shown c.args.disk) (g.D.Disk.shown c.answer_of-answer.new.disk)
     c.args.out.now c.write_line-status.new.out c.tellable-answer.result.0 c.write_line-status.result (settled g c) c.write_line-status.ensures
 
 pub returns-clause-complete : goal.returns-clause-complete
 returns-clause-complete g c =
-    answering.complete (pair_of c.args.salt) (map string_bytes c.args.words.now) (g.D.Disk.shown c.args.disk) (g.D.Disk.shown c.answer_of-answer.new.disk)
+    answering.told-complete (pair_of c.args.salt) (map string_bytes c.args.words.now) (g.D.Disk.shown c.args.disk) (g.D.Disk.shown c.answer_of-answer.new.disk)
     c.args.out.now c.write_line-status.new.out c.tellable-answer.result.0 c.write_line-status.result (settled g c) c.write_line-status.ensures
 
 pub returns-clause-told : goal.returns-clause-told
 returns-clause-told g c = (
   c.tellable-answer.result.0,
-  owed (pair_of c.args.salt) (map string_bytes c.args.words.now) c.args.disk c.answer_of-answer.new.disk c.tellable-answer.result.0 (settled g c) (counted g c),
+  settled-owed (pair_of c.args.salt) (map string_bytes c.args.words.now) c.args.disk c.answer_of-answer.new.disk c.tellable-answer.result.0 (settled g c) (counted g c),
   c.write_line-status.ensures,
 )
 
 pub returns-clause-fault : goal.returns-clause-fault
 returns-clause-fault g c =
-    answering.fault (pair_of c.args.salt) (map string_bytes c.args.words.now) c.args.disk c.answer_of-answer.new.disk
+    answering.told-fault (pair_of c.args.salt) (map string_bytes c.args.words.now) c.args.disk c.answer_of-answer.new.disk
     c.args.out.now c.write_line-status.new.out c.tellable-answer.result.0 c.write_line-status.result (settled g c) (counted g c) c.write_line-status.ensures
 
 pub returns-clause-calls : goal.returns-clause-calls
 returns-clause-calls g c =
-    answering.calls (pair_of c.args.salt) (map string_bytes c.args.words.now) c.args.disk c.answer_of-answer.new.disk
+    answering.told-counts_calls (pair_of c.args.salt) (map string_bytes c.args.words.now) c.args.disk c.answer_of-answer.new.disk
     c.args.out.now c.write_line-status.new.out c.tellable-answer.result.0 c.write_line-status.result (counted g c) c.write_line-status.ensures
 
 pub returns-clause-writes : goal.returns-clause-writes
 returns-clause-writes g c =
-    answering.writes c.args.out.now c.write_line-status.new.out c.tellable-answer.result.0 c.write_line-status.result c.write_line-status.ensures
+    answering.told-counts_writes c.args.out.now c.write_line-status.new.out c.tellable-answer.result.0 c.write_line-status.result c.write_line-status.ensures
 
 pub returns-clause-status : goal.returns-clause-status
 returns-clause-status g c =

@@ -15,7 +15,7 @@ use Rattle.small_update.specs.Decision.{Decides}
 use Rattle.small_update.specs.declared.Decision.TheVariants as decision
 use Rattle.rbu_run.specs.Handover.{HasPages, IsAlone, IsMidway}
 use Rattle.rbu_run.proofs.Parts.{on-ok}
-use Rattle.rbu_run.proofs.Finishes.{alone, new_bytes, memory-cause, memory-ends, shared-ends, room-ends, present-ends, done-ends, fault-stops}
+use Rattle.rbu_run.proofs.Finishes.{IsSmallWith-alone, IsSmallWith-new_bytes, memory-cause, memory-ends, shared-ends, room-ends, present-ends, done-ends, fault-stops}
 use Rattle.rbu_run.specs.Crash.{CrashesMidway, IsStableEnd}
 use Rattle.rbu_run.specs.Inspection.{IsSmallWith}
 use Rattle.rbu_run.proofs.Survivals.{decided-survives, done-survives, fault-survives, firm-names, halted-end}
@@ -86,8 +86,8 @@ returns-in-Ok-clause-crash g c =
     let midway : Leads (CrashesMidway (pair_of c.args.salt) (new_pages c.args.target.items c.in-Merged.rows.items)) (g.D.Disk.trail c.args.disk.now) (g.D.Disk.trail c.install.new.disk) =
     rw (c.deref_mut.ensures.value, c.deref.ensures.value) at c.install.ensures.moments in
     done-survives (pair_of c.args.salt) (new_pages c.args.target.items c.in-Merged.rows.items) c.install.ensures.words (IsSmallWith c.args.target.items c.args.old.items c.args.prepared.items)
-    (alone (pair_of c.args.salt) c.args.target.items c.args.old.items c.args.prepared.items)
-    (new_bytes (pair_of c.args.salt) c.args.target.items c.args.old.items c.args.prepared.items c.update_leaves_small_target.ensures c.in-Merged.rows decides)
+    (IsSmallWith-alone (pair_of c.args.salt) c.args.target.items c.args.old.items c.args.prepared.items)
+    (IsSmallWith-new_bytes (pair_of c.args.salt) c.args.target.items c.args.old.items c.args.prepared.items c.update_leaves_small_target.ensures c.in-Merged.rows decides)
     midway c.in-Ok.ensures.target c.in-Ok.ensures.names
 
 pub returns-clause-crash : goal.returns-clause-crash
@@ -96,6 +96,6 @@ returns-clause-crash g c =
     let midway : Leads (CrashesMidway (pair_of c.args.salt) (new_pages c.args.target.items c.in-Merged.rows.items)) (g.D.Disk.trail c.args.disk.now) (g.D.Disk.trail c.install.new.disk) =
     rw (c.deref_mut.ensures.value, c.deref.ensures.value) at c.install.ensures.moments in
     fault-survives (pair_of c.args.salt) (new_pages c.args.target.items c.in-Merged.rows.items) c.install.ensures.words (IsSmallWith c.args.target.items c.args.old.items c.args.prepared.items)
-    (alone (pair_of c.args.salt) c.args.target.items c.args.old.items c.args.prepared.items)
-    (new_bytes (pair_of c.args.salt) c.args.target.items c.args.old.items c.args.prepared.items c.update_leaves_small_target.ensures c.in-Merged.rows decides)
+    (IsSmallWith-alone (pair_of c.args.salt) c.args.target.items c.args.old.items c.args.prepared.items)
+    (IsSmallWith-new_bytes (pair_of c.args.salt) c.args.target.items c.args.old.items c.args.prepared.items c.update_leaves_small_target.ensures c.in-Merged.rows decides)
     (Fault c.in-Err.fault) midway

@@ -19,8 +19,8 @@ fn first_of(pages: &[u32]) -> u32
     }
 }
 
-// Makes a page an overflow page.
-fn fill(page: &mut [u8], next: u32, content: &[u8])
+/// Makes a page an overflow page: the number of the next one, its content, and zeros. Takes no memory.
+pub fn fill(page: &mut [u8], next: u32, content: &[u8])
     requires { 4 + length content.now ≤ length page.old }
     ensures { page.new ≡ overflow_page (length page.old) next content.now }
 {

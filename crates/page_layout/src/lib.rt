@@ -15,4 +15,4 @@ mod take;
 pub use change::{insert_cell, remove_cell};
 pub use places::{place_of, right_child};
 pub use reading::{PageFault, cells, page_kind};
-pub use rebuilding::{NoRoom, rebuild};
+pub use rebuilding::{NoRoom, needs, rebuild};

@@ -76,8 +76,8 @@ pub fn clear(page: &mut [u8], number: u32, usable: u32, kind: PageKind, right: u
     }
 }
 
-// The bytes that cells need: their room, and two bytes for the place of each.
-fn needs(cells: &[Bytes]) -> u64
+/// The bytes that cells need: their room, and two bytes for the place of each; at most 2^64 - 1.
+pub fn needs(cells: &[Bytes]) -> u64
     ensures { result ≡ min (bytes_needed cells.now) (2 ^ 64 - 1) }
 {
     let mut total = 0u64;

@@ -22,8 +22,8 @@ fn numbers(alloc: Global, last: u32) -> Result<Vec<u32>, AllocError>
     Ok(pages)
 }
 
-// So many bytes, which repeat after 251 of them.
-fn bytes_of(alloc: Global, size: u32) -> Result<Vec<u8>, AllocError> {
+/// So many bytes, which repeat after 251 of them.
+pub fn bytes_of(alloc: Global, size: u32) -> Result<Vec<u8>, AllocError> {
     let mut bytes = Vec::new(alloc);
     for at in 0..size {
         bytes.push((at % 251) as u8)?;

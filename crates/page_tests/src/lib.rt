@@ -1,4 +1,4 @@
-//! Tests of pages as lists of cells, of page stores, overflow chains and the freelist, over pages in memory.
+//! Tests of pages as lists of cells, of page stores, overflow chains and the freelist, and of the pages that a writer of trees takes, over pages in memory.
 //!
 //! They stand in a crate of their own, over the crates that they call, since a crate with tests is proved twice.
 #![tactic(auto)]
@@ -9,5 +9,7 @@ mod chains;
 mod free_lists;
 #[cfg(test)]
 mod layouts;
+#[cfg(test)]
+mod overflow;
 #[cfg(test)]
 mod stores;

@@ -1,5 +1,5 @@
 -- One level of a put: what became of a child makes the parent, a page is cut, a page is written, and a root gets a new level. Crates above cite these facts in their proofs.
-use Rattle.std.proofs.Common.{◌≡◌, ℕ, ℤ, zero, suc, ◌+◌, ◌-◌, ◌<◌, ◌≤◌, ◌<ℤ◌, ◌≤ℤ◌, List, [], ◌∷◌, ◌++◌, length, map, drop, refl, sym, ap, ◌∙◌, subst, arith, append_assoc}
+use Rattle.std.proofs.Common.{◌≡◌, ◌≢◌, ℕ, ℤ, zero, suc, ◌+◌, ◌-◌, ◌<◌, ◌≤◌, ◌<ℤ◌, ◌≤ℤ◌, List, [], ◌∷◌, ◌++◌, length, map, drop, refl, sym, ap, ◌∙◌, subst, arith, append_assoc}
 use Rattle.std.proofs.Math.Path.{subst⁻¹}
 use Rattle.std.specs.List.{flat_map, AllByRecursion}
 use Rattle.std.proofs.lemmas.Int.{ints}
@@ -353,13 +353,12 @@ module _ (sizes : Sizes) (kind : TreeKind) where
   cells-some [] some = absurd (omega arith)
   cells-some (child ∷ children) some = omega arith
 
-  -- What a root's page had is put on a page that was taken, and then the root is written with the cells between the siblings.
-  pub put-deepens : (levels : ℕ) (before : Before levels) (after : After levels) (fresh : ℕ) (between_them new : Paged) (trunks : List Trunk) → IsPut sizes kind levels before after
+  -- What a root's page is to have is put on a page that was taken, and then the root is written with the cells between the siblings. Page 1 may be left without a cell.
+  pub put-rises : (levels : ℕ) (before : Before levels) (after : After levels) (fresh : ℕ) (between_them new : Paged) (trunks : List Trunk) → IsOpened sizes kind levels before after
       → Turns sizes after.base [] after.trunks between_them (fresh ∷ []) trunks → IsNumber sizes between_them fresh → HasOwnPage sizes between_them kind levels (moved levels fresh after.home)
-      → Writes (page_of levels after.home) between_them new → HasOwnPage sizes new kind (suc levels) (deeper levels after fresh) → 0 < length after.siblings
-      → IsRootPut sizes kind levels before new (record { kind = kind; levels = suc levels; tree = deeper levels after fresh }) after.first after.bytes after.chain trunks
-  put-deepens levels before after fresh mid new trunks put taken number own writes root some =
-      let o = put.opened in
+      → Writes (page_of levels after.home) between_them new → HasOwnPage sizes new kind (suc levels) (deeper levels after fresh) → 0 < length (own_cells levels after.home)
+      → (page_of levels after.home ≢ 1 → 0 < length after.siblings) → IsRootPut sizes kind levels before new (record { kind = kind; levels = suc levels; tree = deeper levels after fresh }) after.first after.bytes after.chain trunks
+  put-rises levels before after fresh mid new trunks o taken number own writes root filled some =
       let page = page_of levels after.home in
       let home = moved levels fresh after.home in
       let within = Turns-within sizes before.base after.base (hand_before before) (hand_after after) before.trunks after.trunks o.within o.turns in
@@ -410,7 +409,15 @@ module _ (sizes : Sizes) (kind : TreeKind) where
         full = λ full.
             let grown = o.full full.below in
             record {
-              below = (grown.0, moved-full levels fresh after.home (o.some (omega arith), grown.1));
-              root = λ deep other. omega (arith, cells-some after.siblings some);
+              below = (grown.0, moved-full levels fresh after.home (filled, grown.1));
+              root = λ deep other. omega (arith, cells-some after.siblings (some other));
             };
       }
+
+  -- the same of what a root's page had
+  pub put-deepens : (levels : ℕ) (before : Before levels) (after : After levels) (fresh : ℕ) (between_them new : Paged) (trunks : List Trunk) → IsPut sizes kind levels before after
+      → Turns sizes after.base [] after.trunks between_them (fresh ∷ []) trunks → IsNumber sizes between_them fresh → HasOwnPage sizes between_them kind levels (moved levels fresh after.home)
+      → Writes (page_of levels after.home) between_them new → HasOwnPage sizes new kind (suc levels) (deeper levels after fresh) → 0 < length after.siblings
+      → IsRootPut sizes kind levels before new (record { kind = kind; levels = suc levels; tree = deeper levels after fresh }) after.first after.bytes after.chain trunks
+  put-deepens levels before after fresh mid new trunks put taken number own writes root some =
+      put-rises levels before after fresh mid new trunks put.opened taken number own writes root (put.opened.some (omega arith)) (λ other. some)

@@ -538,17 +538,17 @@ module _ (sizes : Sizes) (kind : TreeKind) where
 
 -- A leaf.
 
-insert-map : {A B : Type 0} (f : A → B) (xs : List A) (i : ℕ) (x : A) → i ≤ length xs → insert (map f xs) i (f x) ≡ map f (insert xs i x)
+pub insert-map : {A B : Type 0} (f : A → B) (xs : List A) (i : ℕ) (x : A) → i ≤ length xs → insert (map f xs) i (f x) ≡ map f (insert xs i x)
 insert-map f xs zero x within = refl
 insert-map f [] (suc i) x within = absurd (omega arith)
 insert-map f (y ∷ ys) (suc i) x within = ap (λ l. f y ∷ l) (insert-map f ys i x (omega arith))
 
-set-map : {A B : Type 0} (f : A → B) (xs : List A) (i : ℕ) (x : A) → set (map f xs) i (f x) ≡ map f (set xs i x)
+pub set-map : {A B : Type 0} (f : A → B) (xs : List A) (i : ℕ) (x : A) → set (map f xs) i (f x) ≡ map f (set xs i x)
 set-map f [] i x = refl
 set-map f (y ∷ ys) zero x = refl
 set-map f (y ∷ ys) (suc i) x = ap (λ l. f y ∷ l) (set-map f ys i x)
 
-index-map : {A B : Type 0} (f : A → B) (xs : List A) (i : ℕ) (d : A) → slice_index_or (map f xs) i (f d) ≡ f (slice_index_or xs i d)
+pub index-map : {A B : Type 0} (f : A → B) (xs : List A) (i : ℕ) (d : A) → slice_index_or (map f xs) i (f d) ≡ f (slice_index_or xs i d)
 index-map f [] i d = refl
 index-map f (y ∷ ys) zero d = refl
 index-map f (y ∷ ys) (suc i) d = index-map f ys i d

@@ -54,6 +54,16 @@ pub fn root_gets_a_level()
         → IsRootPut sizes kind levels before new (record { kind = kind; levels = suc levels; tree = deeper levels after fresh }) after.first after.bytes after.chain trunks }
 {}
 
+/// A root whose page has no room for what it is to have gives that to a page that was taken, and gets a level. In page 1, which has less room than others, it may be left without a cell.
+pub fn root_moves_out()
+    ensures { (sizes : Sizes) (kind : TreeKind) (levels : ℕ) (before : Before levels) (after : After levels) (fresh : ℕ) (between new : Paged) (trunks : List Trunk)
+        → IsOpened sizes kind levels before after → Turns sizes after.base [] after.trunks between (fresh ∷ []) trunks
+        → IsNumber sizes between fresh → HasOwnPage sizes between kind levels (moved levels fresh after.home)
+        → Writes (page_of levels after.home) between new → HasOwnPage sizes new kind (suc levels) (deeper levels after fresh)
+        → 0 < length (own_cells levels after.home) → (page_of levels after.home ≢ 1 → 0 < length after.siblings)
+        → IsRootPut sizes kind levels before new (record { kind = kind; levels = suc levels; tree = deeper levels after fresh }) after.first after.bytes after.chain trunks }
+{}
+
 /// A cell is put among the cells of a leaf that has none of its rowid.
 pub fn cell_is_put_in_a_leaf()
     ensures { (sizes : Sizes) (kind : TreeKind) (before : Before zero) (i : ℕ) → IsReady sizes kind zero before → i ≤ length before.tree.cells

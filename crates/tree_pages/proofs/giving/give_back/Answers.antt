@@ -1,0 +1,51 @@
+use Rattle.std.proofs.Common.{◌≡◌, ◌+◌, ◌-◌, ℕ, suc, ap, ◌∙◌, subst, arith}
+use Rattle.page_spec.specs.Chains.{pages_for}
+use Rattle.tree_spec.specs.Standing.{Sizes}
+use Rattle.tree_pages.specs.Writers.{Releases, paged, sizes_of}
+use Rattle.tree_pages.specs.WritersLaws.{sizes-same}
+use Rattle.tree_pages.proofs.Given.{Giving, one-given, all-given}
+use Rattle.tree_pages.proofs.giving.give_back.Goals as goal
+
+pub loop-preserved : goal.loop-preserved
+loop-preserved g c =
+    let S = g.S.PageRead in
+    let a = c.args.store.now in
+    let at = c.loop.store in
+    let inv = c.loop.invariant in
+    let e = c.in_ok-next.ensures in
+    let all = pages_for (S.usable a) c.args.bytes in
+    let end : c.pages_for-end.result ≡ all = c.pages_for-end.ensures ∙ ap (λ (u : ℕ). pages_for u c.args.bytes) c.usable.ensures in
+    let many : all - c.loop.counter ≡ suc (all - (c.loop.counter + 1)) = omega (arith, end, c.loop-test.true) in
+    record {
+      stays = record { size = e.owes.stays.size ∙ inv.stays.size; usable = e.owes.stays.usable ∙ inv.stays.usable; fixed = e.owes.stays.fixed ∙ inv.stays.fixed };
+      faults = e.owes.faults.still ∙ inv.faults;
+      count = e.count ∙ inv.count;
+      whole = c.give_next.auto.page ∙ inv.whole;
+      given = λ old told.
+          let b = inv.given old told in
+          let n = e.released b.0 b.1 in
+          let x = paged S at b.0 in
+          let y = paged S c.give_next.new.store n.0 in (
+            n.0,
+            n.1,
+            λ chain trunks is free within.
+                one-given (sizes_of S a) (paged S a old) chain trunks c.loop.number c.in_ok-next.next (all - (c.loop.counter + 1)) x y c.requires.sizes.usable.least within free n.2.0
+                (subst (λ (s : Sizes). Releases s c.loop.number x y) (sizes-same S a at inv.stays) n.2.1)
+                (subst (λ (m : ℕ). Giving (sizes_of S a) (paged S a old) chain trunks c.loop.number m x) many (b.2 chain trunks is free within)),
+          );
+    }
+
+pub returns-clause-given : goal.returns-clause-given
+returns-clause-given g c = λ old told.
+    let S = g.S.PageRead in
+    let a = c.args.store.now in
+    let b = c.loop.invariant.given old told in
+    let all = pages_for (S.usable a) c.args.bytes in
+    let end : c.pages_for-end.result ≡ all = c.pages_for-end.ensures ∙ ap (λ (u : ℕ). pages_for u c.args.bytes) c.usable.ensures in
+    let none : all - c.loop.counter ≡ 0 = omega (arith, end, c.loop-test.false) in (
+      b.0,
+      b.1,
+      λ chain trunks is free within.
+          all-given (sizes_of S a) (paged S a old) chain trunks c.loop.number (paged S c.loop.store b.0)
+          (subst (λ (m : ℕ). Giving (sizes_of S a) (paged S a old) chain trunks c.loop.number m (paged S c.loop.store b.0)) none (b.2 chain trunks is free within)),
+    )

@@ -1,0 +1,78 @@
+// Gives pages back.
+ghost use Rattle.std.specs.Prelude.{◌≡◌, ◌≤◌, IfOk, OnOk, length};
+ghost use Rattle.page_spec.specs.Chains.{pages_for as pages_of_bytes};
+ghost use Rattle.page_spec.specs.Pages.{next_page};
+ghost use Rattle.page_store.specs.Store.{HasSizes, IsNumber, OwesBy};
+ghost use Rattle.put_spec.specs.Steps.{GivesBack};
+ghost use Rattle.tree_pages.specs.Faults.{fault_in};
+ghost use Rattle.tree_pages.specs.Writers.{Becomes, Releases, sizes_of};
+
+use crate::fault::TreeFault;
+use crate::taking::of_freelist;
+use byte_fields::u32_at;
+use free_list::release;
+use overflow_chain::pages_for;
+use page_store::{PageWrite, is_in_range, page_buffer};
+use refusal::Rule;
+use std::alloc::Global;
+
+// Gives a page of a chain back, and answers the number of the next.
+fn give_next<S: PageWrite>(
+    alloc: Global,
+    store: &mut S,
+    number: u32,
+    page: &mut [u8],
+) -> Result<u32, TreeFault<S::Fault>>
+    requires sizes { HasSizes S.PageRead store.old }
+    requires number { IsNumber S.PageRead store.old number }
+    requires whole { length page.old ≡ S.size store.old }
+    ensures released { IfOk result (λ next. Becomes S.PageRead store.old store.new (λ a b. (next ≡ next_page (a.pages number)) × Releases (sizes_of S.PageRead store.old) number a b)) }
+    ensures count { OnOk result (S.count store.new ≡ S.count store.old) }
+    ensures owes { OwesBy S.PageRead fault_in store.old store.new result }
+{
+    if let Err(fault) = store.page(number, page) {
+        return Err(TreeFault::Store(fault));
+    }
+    match release(alloc, store, number) {
+        Ok(()) => Ok(u32_at(page, 0)),
+        Err(fault) => Err(of_freelist(fault)),
+    }
+}
+
+/// Gives back the pages of the overflow chain of so many bytes, in one pass. Refuses [55] with `chain` where it does not end after as many pages as the bytes fill, or a number is out of range.
+///
+/// After a fault a part of the chain may be free.
+pub fn give_back<S: PageWrite>(
+    alloc: Global,
+    store: &mut S,
+    first: u32,
+    bytes: u64,
+) -> Result<(), TreeFault<S::Fault>>
+    requires sizes { HasSizes S.PageRead store.old }
+    ensures given { OnOk result (Becomes S.PageRead store.old store.new (GivesBack (sizes_of S.PageRead store.old) first bytes)) }
+    ensures count { OnOk result (S.count store.new ≡ S.count store.old) }
+    ensures owes { OwesBy S.PageRead fault_in store.old store.new result }
+{
+    let mut buffer = page_buffer(alloc, store.page_size())?;
+    let page = buffer.as_mut_slice();
+    let mut number = first;
+    let mut holder = first;
+    for _ in 0..pages_for(store.usable(), bytes) {
+        if !is_in_range(store.page_size(), store.count(), number) {
+            return Err(TreeFault::TreeDamaged {
+                page: u64::from(holder),
+                rule: Rule::Chain,
+            });
+        }
+        let next = give_next(alloc, store, number, page)?;
+        holder = number;
+        number = next;
+    }
+    if number != 0 {
+        return Err(TreeFault::TreeDamaged {
+            page: u64::from(holder),
+            rule: Rule::Chain,
+        });
+    }
+    Ok(())
+}

@@ -1,0 +1,3 @@
+pub mod Folders
+pub mod OpenFiles
+pub mod Paths

@@ -66,3 +66,14 @@ pub enum SqlFault {
     /// There is no memory.
     Memory(AllocError),
 }
+
+impl From<AllocError> for SqlFault {
+    ghost use Rattle.std.specs.Prelude.{◌≡◌};
+    ghost use Rattle.schema_spec.specs.declared.schema.SqlFault.{SqlFault};
+
+    ghost from_gives = { λ error fault. fault ≡ SqlFault.Memory error };
+
+    fn from(error: AllocError) -> SqlFault {
+        SqlFault::Memory(error)
+    }
+}

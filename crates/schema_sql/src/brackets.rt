@@ -1,7 +1,7 @@
 // What the grammar skips.
-ghost use Rattle.std.specs.Prelude.{◌≡◌, ◌<◌, ◌+◌, ◌^◌, IfOk, length};
-ghost use Rattle.schema_spec.specs.Brackets.{bracketed, to_close, open_behind};
-ghost use Rattle.schema_sql.specs.Parses.{Parses};
+ghost use Rattle.std.specs.Prelude.{◌≡◌, ◌<◌, ◌≤◌, ◌+◌, ◌^◌, IfOk, length};
+ghost use Rattle.schema_spec.specs.Brackets.{bracketed, to_close, open_behind, to_end, some_to_end};
+ghost use Rattle.schema_sql.specs.Parses.{Parses, Skips};
 
 use crate::fronts::{misfit, sign};
 use crate::words::{is_sign, is_sql};
@@ -40,9 +40,10 @@ fn to_close<'a>(text: &[u8], tokens: &'a [Token]) -> Result<(Token, &'a [Token])
 }
 
 // How many brackets are open behind a token.
-fn open_behind(depth: usize, text: &[u8], token: Token) -> usize
+pub(crate) fn open_behind(depth: usize, text: &[u8], token: Token) -> usize
     requires { depth + 1 < 2 ^ 64 }
-    ensures { result ≡ open_behind text.now depth token }
+    ensures opens { result ≡ open_behind text.now depth token }
+    ensures bound { result ≤ depth + 1 }
 {
     if is_sign(b'(', text, token) {
         depth + 1
@@ -50,5 +51,29 @@ fn open_behind(depth: usize, text: &[u8], token: Token) -> usize
         depth.saturating_sub(1)
     } else {
         depth
+    }
+}
+
+// Any tokens to the end of the text.
+fn to_end<'a>(text: &[u8], tokens: &'a [Token]) -> Result<&'a [Token], SqlFault>
+    ensures skips { Skips text.now (to_end text.now tokens.now) result }
+{
+    let mut left = tokens;
+    while let [token, rest @ ..] = left {
+        if !is_sql(text, *token) {
+            return Err(misfit(text, left));
+        }
+        left = rest;
+    }
+    Ok(left)
+}
+
+// At least one token, and any to the end of the text.
+pub(crate) fn some_to_end<'a>(text: &[u8], tokens: &'a [Token]) -> Result<&'a [Token], SqlFault>
+    ensures skips { Skips text.now (some_to_end text.now tokens.now) result }
+{
+    match tokens {
+        [token, rest @ ..] if is_sql(text, *token) => to_end(text, rest),
+        _ => Err(misfit(text, tokens)),
     }
 }

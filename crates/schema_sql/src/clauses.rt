@@ -1,12 +1,12 @@
 // The value of DEFAULT, and what REFERENCES does.
-ghost use Rattle.std.specs.Prelude.{◌≡◌, ◌<◌, ◌||◌, true, IfOk, length};
+ghost use Rattle.std.specs.Prelude.{◌≡◌, ◌<◌, ◌≤◌, ◌||◌, true, IfOk, length};
 ghost use Rattle.schema_spec.specs.Fronts.{one, begins};
 ghost use Rattle.schema_spec.specs.Words.{is_literal, is_sign};
-ghost use Rattle.schema_spec.specs.ColumnGrammar.{at_blob, default_value, foreign_action, foreign_clause, at_deferral};
+ghost use Rattle.schema_spec.specs.ColumnGrammar.{at_blob, default_value, foreign_action, foreign_clause, at_deferral, deferral};
 ghost use Rattle.schema_sql.specs.Parses.{Parses};
 
 use crate::brackets::bracketed;
-use crate::fronts::{at_sign, at_word, at_words, misfit, name, one_of, word};
+use crate::fronts::{at_sign, at_word, at_words, misfit, name, one_of, optional_word, word};
 use crate::types::signed_number;
 use crate::words::{is_blob, is_literal, is_sign};
 use schema_spec::{SqlFault, Token};
@@ -14,6 +14,8 @@ use schema_spec::{SqlFault, Token};
 const NULL_OR_DEFAULT: [&[u8]; 2] = [b"NULL", b"DEFAULT"];
 
 const CASCADE_OR_RESTRICT: [&[u8]; 2] = [b"CASCADE", b"RESTRICT"];
+
+const DEFERRED_OR_IMMEDIATE: [&[u8]; 2] = [b"DEFERRED", b"IMMEDIATE"];
 
 const CHANGES: [&[u8]; 3] = [b"DELETE", b"UPDATE", b"INSERT"];
 
@@ -97,7 +99,10 @@ fn foreign_action<'a>(text: &[u8], tokens: &'a [Token]) -> Result<(Token, &'a [T
 }
 
 // MATCH and a name, or ON and what is done.
-fn foreign_clause<'a>(text: &[u8], tokens: &'a [Token]) -> Result<(Token, &'a [Token]), SqlFault>
+pub(crate) fn foreign_clause<'a>(
+    text: &[u8],
+    tokens: &'a [Token],
+) -> Result<(Token, &'a [Token]), SqlFault>
     ensures parses { Parses text.now (foreign_clause text.now tokens.now) result }
     ensures shorter { IfOk result (λ read. length read.1.now < length tokens.now) }
 {
@@ -122,4 +127,26 @@ fn at_deferral(in_column: bool, text: &[u8], tokens: &[Token]) -> bool
     } else {
         at_word(b"NOT", text, tokens)
     }
+}
+
+// When a reference is looked at, or nothing: the last word of it.
+pub(crate) fn deferral<'a>(
+    in_column: bool,
+    text: &[u8],
+    tokens: &'a [Token],
+) -> Result<(Option<Token>, &'a [Token]), SqlFault>
+    ensures parses { Parses text.now (deferral text.now in_column tokens.now) result }
+    ensures shorter { IfOk result (λ read. length read.1.now ≤ length tokens.now) }
+{
+    if !at_deferral(in_column, text, tokens) {
+        return Ok((None, tokens));
+    }
+    let (_not, rest) = optional_word(b"NOT", text, tokens);
+    let (deferrable, rest) = word(b"DEFERRABLE", text, rest)?;
+    if !at_word(b"INITIALLY", text, rest) {
+        return Ok((Some(deferrable), rest));
+    }
+    let (_initially, rest) = word(b"INITIALLY", text, rest)?;
+    let (when, rest) = one_of(&DEFERRED_OR_IMMEDIATE, text, rest)?;
+    Ok((Some(when), rest))
 }

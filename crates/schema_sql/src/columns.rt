@@ -8,6 +8,8 @@ use crate::fronts::{at_word, name, one_of, word};
 use crate::words::{is_keyword, is_word_of};
 use schema_spec::{ListedColumn, SqlFault, Token};
 
+pub(crate) const ASC_OR_DESC: [&[u8]; 2] = [b"ASC", b"DESC"];
+
 const CONFLICT_ACTIONS: [&[u8]; 5] = [b"ROLLBACK", b"ABORT", b"FAIL", b"IGNORE", b"REPLACE"];
 
 // A name behind COLLATE, or nothing.
@@ -24,7 +26,7 @@ fn collation<'a>(text: &[u8], tokens: &'a [Token]) -> Result<(Option<Token>, &'a
 }
 
 // A name behind CONSTRAINT, or nothing.
-fn constraint_name<'a>(
+pub(crate) fn constraint_name<'a>(
     text: &[u8],
     tokens: &'a [Token],
 ) -> Result<(Option<Token>, &'a [Token]), SqlFault>
@@ -40,7 +42,7 @@ fn constraint_name<'a>(
 }
 
 // One of these words for an order, or none: whether it is DESC.
-fn order<'a>(words: &[&[u8]], text: &[u8], tokens: &'a [Token]) -> (bool, &'a [Token])
+pub(crate) fn order<'a>(words: &[&[u8]], text: &[u8], tokens: &'a [Token]) -> (bool, &'a [Token])
     ensures order { order text.now (map (λ word. word.now) words.now) tokens.now ≡ Behind result.0 result.1.now }
     ensures shorter { length result.1.now ≤ length tokens.now }
 {
@@ -53,7 +55,7 @@ fn order<'a>(words: &[&[u8]], text: &[u8], tokens: &'a [Token]) -> (bool, &'a [T
 }
 
 // A column in a list: a name, its collation and one of these words for its order.
-fn listed_column<'a>(
+pub(crate) fn listed_column<'a>(
     orders: &[&[u8]],
     text: &[u8],
     tokens: &'a [Token],
@@ -73,7 +75,10 @@ fn listed_column<'a>(
 }
 
 // ON CONFLICT with what is done, or nothing: whether it stands there.
-fn on_conflict<'a>(text: &[u8], tokens: &'a [Token]) -> Result<(bool, &'a [Token]), SqlFault>
+pub(crate) fn on_conflict<'a>(
+    text: &[u8],
+    tokens: &'a [Token],
+) -> Result<(bool, &'a [Token]), SqlFault>
     ensures parses { Parses text.now (on_conflict text.now tokens.now) result }
     ensures shorter { IfOk result (λ read. length read.1.now ≤ length tokens.now) }
 {

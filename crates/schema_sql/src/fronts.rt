@@ -1,6 +1,6 @@
 // What stands at the front of some tokens.
-ghost use Rattle.std.specs.Prelude.{◌≡◌, ◌<◌, IfOk, map, length};
-ghost use Rattle.schema_spec.specs.Fronts.{one};
+ghost use Rattle.std.specs.Prelude.{◌≡◌, ◌<◌, ◌≤◌, IfOk, map, length};
+ghost use Rattle.schema_spec.specs.Fronts.{Behind, ended, one, optional};
 ghost use Rattle.schema_spec.specs.Words.{is_keyword, is_word_of, is_sign};
 ghost use Rattle.schema_spec.specs.Texts.{offset_of};
 ghost use Rattle.schema_spec.specs.ColumnGrammar.{word, sign, name, at_word, at_sign, at_words};
@@ -103,5 +103,49 @@ pub(crate) fn name<'a>(text: &[u8], tokens: &'a [Token]) -> Result<(Token, &'a [
     match tokens {
         [token, rest @ ..] if is_name(text, *token) => Ok((*token, rest)),
         _ => Err(misfit(text, tokens)),
+    }
+}
+
+// The word, or nothing.
+pub(crate) fn optional_word<'a>(
+    bytes: &[u8],
+    text: &[u8],
+    tokens: &'a [Token],
+) -> (Option<Token>, &'a [Token])
+    ensures word { optional (is_keyword bytes.now text.now) tokens.now ≡ Behind result.0 result.1.now }
+    ensures shorter { length result.1.now ≤ length tokens.now }
+{
+    match tokens {
+        [token, rest @ ..] if is_keyword(bytes, text, *token) => (Some(*token), rest),
+        _ => (None, tokens),
+    }
+}
+
+// One of the words, or nothing.
+pub(crate) fn optional_of<'a>(
+    words: &[&[u8]],
+    text: &[u8],
+    tokens: &'a [Token],
+) -> (Option<Token>, &'a [Token])
+    ensures word { optional (is_word_of (map (λ word. word.now) words.now) text.now) tokens.now ≡ Behind result.0 result.1.now }
+    ensures shorter { length result.1.now ≤ length tokens.now }
+{
+    match tokens {
+        [token, rest @ ..] if is_word_of(words, text, *token) => (Some(*token), rest),
+        _ => (None, tokens),
+    }
+}
+
+// What was read, where no token is left.
+pub(crate) fn ended<'a, T: Drop>(
+    read: T,
+    text: &[u8],
+    tokens: &'a [Token],
+) -> Result<(T, &'a [Token]), SqlFault>
+    ensures parses { Parses text.now (ended read tokens.now) result }
+{
+    match tokens {
+        [] => Ok((read, tokens)),
+        [_, ..] => Err(misfit(text, tokens)),
     }
 }

@@ -6,7 +6,13 @@
 mod brackets;
 mod clauses;
 mod columns;
+mod constraints;
+mod definitions;
 mod fronts;
+mod indexes;
+mod items;
+mod references;
+mod tables;
 mod tokenizer;
 mod types;
 mod words;

@@ -158,10 +158,20 @@ const CONSTRAINT_WORDS: [&[u8]; 11] = [
 ];
 
 // A constraint of a column begins with the word.
-fn begins_constraint(text: &[u8]) -> bool
+fn is_constraint_word(text: &[u8]) -> bool
     ensures { result ≡ is_one_of constraint_words text.now }
 {
     is_one_of(&CONSTRAINT_WORDS, text)
+}
+
+// The token is a word with which a constraint of a column begins.
+pub(crate) fn begins_constraint(text: &[u8], token: Token) -> bool
+    ensures { result ≡ is_word_of constraint_words text.now token }
+{
+    match token.kind {
+        TokenKind::Word => is_constraint_word(spelling(text, token)),
+        _ => false,
+    }
 }
 
 // The token is a word of a type.
@@ -169,7 +179,7 @@ pub(crate) fn is_type_word(text: &[u8], token: Token) -> bool
     ensures { result ≡ is_type_word text.now token }
 {
     match token.kind {
-        TokenKind::Word => !begins_constraint(spelling(text, token)),
+        TokenKind::Word => !is_constraint_word(spelling(text, token)),
         _ => false,
     }
 }

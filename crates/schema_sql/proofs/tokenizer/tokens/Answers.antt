@@ -1,4 +1,4 @@
-use Rattle.std.proofs.Common.{◌≡◌, ◌≢◌, ◌-◌, ◌==◌, ℕ, Bool, true, false, if◌then◌else◌, List, [], ◌∷◌, ◌++◌, length, filter, refl, sym, ap, subst, ◌∙◌, append_assoc, append-nil, arith, eqb-true, zero, suc, ◌<◌}
+use Rattle.std.proofs.Common.{◌≡◌, ◌≢◌, ◌-◌, ◌==◌, ℕ, Bool, true, false, if◌then◌else◌, List, [], ◌∷◌, ◌++◌, length, filter, refl, sym, ap, subst, ◌∙◌, append_assoc, append-nil, arith, eqb-true, zero, suc, ◌<◌, ◌≤◌}
 use Rattle.schema_spec.specs.declared.token.TokenKind.{TokenKind}
 use Rattle.schema_spec.specs.declared.token.Token.{Token}
 use Rattle.schema_spec.specs.Tokens.{AreTokens, AreParts, first_part, is_token}
@@ -33,35 +33,44 @@ returns c =
     let whole = c.loop-left.invariant.completes [] (empty c.loop-left.left.now (sym c.is_empty.ensures ∙ c.loop-left-test.false)) in
     Reads-one (AreTokens c.args.text.now) _ (λ a b p q. tokens-one c.args.text.now a b p q) (whole.0, whole.1, sym (whole.2 ∙ append-nil c.loop-left.tokens.items))
 
+-- the part of this kind at the front of what is left of a text of so many bytes
+abbrev part_at : ℕ → TokenKind → List ℕ → List ℕ → Token
+part_at size kind left behind = record { kind = kind; start = size - length left; end = size - length behind }
+
+abbrev tokens_among : List Token → List Token
+tokens_among parts = filter (λ part. is_token part.kind) parts
+
+-- the parts of what is left complete those of the text
+abbrev Completes : List ℕ → List ℕ → List Token → Type 0
+Completes text left items =
+    (rest : List Token) → AreParts (length text) left rest → (parts : List Token) × AreParts (length text) text parts × (tokens_among parts ≡ items ++ tokens_among rest)
+
+completes-more : (text left behind : List ℕ) (kind : TokenKind) (items more : List Token) → (length left == 0) ≡ false → kind ≡ (first_part left).0 → behind ≡ (first_part left).1
+    → ((rest : List Token) → items ++ tokens_among (part_at (length text) kind left behind ∷ rest) ≡ more ++ tokens_among rest) → Completes text left items → Completes text behind more
+completes-more text left behind kind items more n k b moves completes rest h =
+    let whole = completes (part_at (length text) kind left behind ∷ rest) (parts-next (length text) left behind kind (not_empty left n) k b rest h) in
+    (whole.0, whole.1, whole.2 ∙ moves rest)
+
+shorter-more : (text left behind : List ℕ) → (length left == 0) ≡ false → (0 < length left → length behind < length left) → length left ≤ length text → length behind ≤ length text
+shorter-more text left behind e less h = let s = less (positive (length left) e) in omega (arith, h, s)
+
 pub loop-left-preserved : goal.loop-left-preserved
-loop-left-preserved c = record {
-  completes = λ rest h.
-      let kind = c.first_part-kind.result.0 in
-      let behind = c.first_part-kind.result.1.now in
-      let left = c.loop-left.left.now in
-      let size = length c.args.text.now in
-      let part : Token = record { kind = kind; start = size - length left; end = size - length behind } in
-      let whole = c.loop-left.invariant.completes (part ∷ rest)
-      (parts-next size left behind kind (not_empty left (sym c.is_empty.ensures ∙ c.loop-left-test.true)) c.first_part-kind.ensures.kind c.first_part-kind.ensures.behind rest h) in
-      (whole.0, whole.1, whole.2 ∙ ap (λ x. c.loop-left.tokens.items ++ x) (filter-out part rest (sym c.is_token.ensures ∙ c.if-is_token.false)));
-  shorter = let n = positive (length c.loop-left.left.now) (sym c.is_empty.ensures ∙ c.loop-left-test.true) in let s = c.first_part-kind.ensures.shorter n in omega (arith, c.loop-left.invariant.shorter, s);
-}
+loop-left-preserved c =
+    let left = sym c.is_empty.ensures ∙ c.loop-left-test.true in
+    let items = c.loop-left.tokens.items in record {
+      completes = completes-more c.args.text.now _ _ _ items items left c.first_part-kind.ensures.kind c.first_part-kind.ensures.behind
+          (λ rest. ap (λ x. items ++ x) (filter-out _ rest (sym c.is_token.ensures ∙ c.if-is_token.false))) c.loop-left.invariant.completes;
+      shorter = shorter-more _ _ _ left c.first_part-kind.ensures.shorter c.loop-left.invariant.shorter;
+    }
 
 pub loop-left-preserved-in_ok-push : goal.loop-left-preserved-in_ok-push
-loop-left-preserved-in_ok-push c = record {
-  completes = λ rest h.
-      let kind = c.first_part-kind.result.0 in
-      let behind = c.first_part-kind.result.1.now in
-      let left = c.loop-left.left.now in
-      let size = length c.args.text.now in
-      let part : Token = record { kind = kind; start = size - length left; end = size - length behind } in
-      let whole = c.loop-left.invariant.completes (part ∷ rest)
-      (parts-next size left behind kind (not_empty left (sym c.is_empty.ensures ∙ c.loop-left-test.true)) c.first_part-kind.ensures.kind c.first_part-kind.ensures.behind rest h) in (
-        whole.0,
-        whole.1,
-        whole.2 ∙ ap (λ x. c.loop-left.tokens.items ++ x) (filter-in part rest (sym c.is_token.ensures ∙ c.if-is_token.true))
-            ∙ sym (append_assoc c.loop-left.tokens.items (part ∷ []) (filter (λ part. is_token part.kind) rest))
-            ∙ ap (λ x. x ++ filter (λ part. is_token part.kind) rest) (sym c.in_ok-push.ensures.items),
-      );
-  shorter = let n = positive (length c.loop-left.left.now) (sym c.is_empty.ensures ∙ c.loop-left-test.true) in let s = c.first_part-kind.ensures.shorter n in omega (arith, c.loop-left.invariant.shorter, s);
-}
+loop-left-preserved-in_ok-push c =
+    let left = sym c.is_empty.ensures ∙ c.loop-left-test.true in
+    let items = c.loop-left.tokens.items in record {
+      completes = completes-more c.args.text.now _ _ _ items _ left c.first_part-kind.ensures.kind c.first_part-kind.ensures.behind
+          (λ rest.
+          ap (λ x. items ++ x) (filter-in _ rest (sym c.is_token.ensures ∙ c.if-is_token.true)) ∙ sym (append_assoc items _ (tokens_among rest))
+          ∙ ap (λ x. x ++ tokens_among rest) (sym c.in_ok-push.ensures.items))
+          c.loop-left.invariant.completes;
+      shorter = shorter-more _ _ _ left c.first_part-kind.ensures.shorter c.loop-left.invariant.shorter;
+    }

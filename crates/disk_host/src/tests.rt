@@ -42,7 +42,7 @@ fn disk_at(
 }
 
 // No call fails because a name is missing, and those that only look make no file.
-fn try_missing<D: Disk>(disk: &mut D) -> Result<bool, DiskFault> {
+fn try_missing(disk: &mut HostDisk<HostRuntime>) -> Result<bool, DiskFault> {
     let mut buffer = [b'-'; 2];
     let found = disk.exists(FileName::Oal)?;
     let len = disk.len(FileName::Oal)?;

@@ -20,5 +20,5 @@ returns-in-Ok-clause-released g c =
     (ap₂ (λ (size usable : ℕ). let s : Sizes = record { size = size; usable = usable } in s) read.size read.usable) read.count read.pages.same
     (λ old told.
     let is : c.page.new.into ≡ old number = IfSome-told (λ m. c.page.new.into ≡ m number) old (sym read.pages.same ∙ told) read.pages.answer in
-    let r = released (sizes_of S b) number (S.count b) (S.count c.release.new.store) old (S.pages c.release.new.store) e.count (e.few old told) (λ trunks free apart. e.gives old trunks 0 told free apart) in
+    let r = released (sizes_of S b) number (S.count b) (S.count c.release.new.store) old (S.pages c.release.new.store) e.count (e.changes old told) (λ trunks free apart. e.gives old trunks 0 told free apart) in
     (r.0, r.1, (c.u32_at.ensures ∙ ap next_page is, r.2)))

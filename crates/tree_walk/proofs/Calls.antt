@@ -1,0 +1,188 @@
+-- What follows for a cursor from what the calls that it makes say.
+use Rattle.std.proofs.Common.{◌≡◌, ◌≢◌, ℕ, ℤ, ◌<◌, ◌≤◌, ◌⊎◌, ◌↔◌, Bool, true, false, not, IsTrue, List, [], ◌∷◌, length, drop, Option, Some, None, IfSome, IfErr, Result, Ok, Err, refl, sym, ap, ◌∙◌, subst, inl, inr, arith}
+use Rattle.std.proofs.Math.Path.{subst⁻¹}
+use Rattle.common_spec.specs.Reading.{OrFault}
+use Rattle.format_spec.specs.declared.PageKind.{PageKind}
+use Rattle.format_spec.specs.declared.PageKind.TheVariants.{IndexInterior, TableInterior, IndexLeaf, TableLeaf}
+use Rattle.page_spec.specs.Pages.{Pages, IsInRange}
+use Rattle.page_store.specs.declared.store.PageRead.{Ghosts}
+use Rattle.page_store.specs.Store.{Stays, OwesBy, IsCause}
+use Rattle.overflow_chain.specs.declared.fault.ChainFault.{ChainFault}
+use Rattle.overflow_chain.specs.declared.fault.ChainFault.TheVariants as chain
+use Rattle.overflow_chain.specs.Chain.{fault_in as chain_fault_in}
+use Rattle.tree_walk.specs.Payloads.{tree_fault}
+use Rattle.refusal.specs.declared.Rule.{Rule}
+use Rattle.refusal.specs.declared.Rule.TheVariants as broken
+use Rattle.tree_spec.specs.declared.TreeKind.{TreeKind}
+use Rattle.tree_spec.specs.Trees.{Rooted, Member, page_of, list_in, root_of, depth_of}
+use Rattle.tree_spec.specs.Bounds.{greatest_rowid}
+use Rattle.tree_spec.specs.Standing.{Sizes, Paged, IsRoot, IsTree}
+use Rattle.tree_walk.specs.declared.fault.TreeFault.{TreeFault}
+use Rattle.tree_walk.specs.declared.fault.TreeFault.TheVariants.{TreeDamaged, Store, Memory}
+use Rattle.tree_walk.specs.declared.page.TreePage.{TreePage}
+use Rattle.tree_walk.specs.declared.place.Place.{Place}
+use Rattle.tree_walk.specs.declared.cursor.Cursor.{Cursor}
+use Rattle.tree_walk.specs.Pages.{IsDecoded, IsOther, IsReadFault, fault_in, has_dividers, is_leaf, tree_kind}
+use Rattle.tree_walk.specs.Places.{Rises, child_at, low_at, high_at, IsBadNumber, IsBadPage, IsBounded, IsEntered, IsBelow, IsChild, IsBadRoot, IsBadStep, OutOfOrder, EntersPage, EntersRoot, IsOutOfPlace}
+use Rattle.tree_walk.specs.Walks.{IsPast, IsAbove, StandsAt, Leaves}
+use Rattle.tree_walk.proofs.Steps.{landed, root_above, root_bad}
+
+-- what is said of a store's sizes and count after a call that leaves them
+pub at-sizes : {P F : Type 0} (g : Ghosts P F) {before after : P} → Stays g before after → g.count after ≡ g.count before → (Q : ℕ → ℕ → ℕ → Type 0)
+    → Q (g.size after) (g.usable after) (g.count after) → Q (g.size before) (g.usable before) (g.count before)
+at-sizes g {before} {after} stays count Q q =
+    subst (λ (s : ℕ). Q s (g.usable before) (g.count before)) stays.size
+    (subst (λ (u : ℕ). Q (g.size after) u (g.count before)) stays.usable (subst (λ (n : ℕ). Q (g.size after) (g.usable after) n) count q))
+
+-- what holds of every state holds of the one that is told
+pub some-all : {S : Type 0} (told : Option S) {P : S → Type 0} → ((f : S) → P f) → IfSome told P
+some-all None all = tt
+some-all (Some f) all = all f
+
+-- what a call owes whose error is no fault of the store
+pub owes-free : {P F T : Type 0} (g : Ghosts P F) {before after : P} (result : Result T (TreeFault F)) → Stays g before after → g.faults after ≡ g.faults before → IfErr result (λ fault. fault_in fault ≡ None)
+    → OwesBy g fault_in before after result
+owes-free g {before} {after} (Ok done) stays same none = record { stays = stays; faults = record { later = omega (arith, same); still = same; cause = tt } }
+owes-free {P} {F} {T} g {before} {after} (Err fault) stays same none = record {
+  stays = stays;
+  faults = record { later = omega (arith, same); still = tt; cause = subst⁻¹ (λ (o : Option F). IsCause g.wants_memory o (g.faults before) (g.faults after)) none same };
+}
+
+-- what a walk over a chain owes, its error being told of the tree
+pub owes-chain : {P F T R : Type 0} (g : Ghosts P F) {before after : P} (fault : ChainFault F) (told : TreeFault F) → told ≡ tree_fault fault
+    → (let one : Result T (ChainFault F) = Err fault in OwesBy g chain_fault_in before after one) → (let other : Result R (TreeFault F) = Err told in OwesBy g fault_in before after other)
+owes-chain {P} {F} {T} {R} g {before} {after} fault told is owes =
+    subst⁻¹ (λ (t : TreeFault F). let other : Result R (TreeFault F) = Err t in OwesBy g fault_in before after other) is (by fault owes)
+  where
+    by : (f : ChainFault F) → (let one : Result T (ChainFault F) = Err f in OwesBy g chain_fault_in before after one) → (let other : Result R (TreeFault F) = Err (tree_fault f) in OwesBy g fault_in before after other)
+    by (chain.ChainBroken page) o = record { stays = o.stays; faults = record { later = o.faults.later; still = tt; cause = o.faults.cause } }
+    by (chain.Store f) o = record { stays = o.stays; faults = record { later = o.faults.later; still = tt; cause = o.faults.cause } }
+    by (chain.Memory error) o = record { stays = o.stays; faults = record { later = o.faults.later; still = tt; cause = o.faults.cause } }
+
+-- nothing is taken from nothing
+pub none_popped : {A : Type 0} (old new : List A) → new ≡ old → (0 < length old → ⊥) → new ≡ []
+none_popped [] new same none = same
+none_popped (x ∷ old) new same none = absurd (none (omega arith))
+
+module _ (bytes : List ℕ) (number usable : ℕ) where
+  -- a page that was read, stood at with bounds
+  pub entered-place : (page : TreePage) (low : Option ℤ) (high : ℤ) (place : Place) → IsDecoded bytes number usable page → IsBounded page low high place → IsEntered bytes number usable low high place
+  entered-place page low high place decoded bounded = record {
+    decoded = subst⁻¹ (IsDecoded bytes number usable) bounded.page_is decoded;
+    low_is = bounded.low_is;
+    high_is = bounded.high_is;
+    first = bounded.first;
+    rises = subst⁻¹ (λ (p : TreePage). Rises (tree_kind p.kind) low high p.views) bounded.page_is bounded.rises;
+  }
+
+  pub refused-page : {F : Type 0} (kind : TreeKind) (low : Option ℤ) (high : ℤ) (fault : TreeFault F) → IsReadFault bytes number usable fault → IsBadPage bytes number usable kind low high fault
+  refused-page kind low high (TreeDamaged page r) bad = (bad.0, inl bad.1)
+  refused-page kind low high (Store fault) bad = tt
+  refused-page kind low high (Memory error) bad = tt
+
+  pub refused-root : {F : Type 0} (fault : TreeFault F) → IsReadFault bytes number usable fault → IsBadRoot bytes number usable fault
+  refused-root (TreeDamaged page r) bad = (bad.0, inl bad.1)
+  refused-root (Store fault) bad = tt
+  refused-root (Memory error) bad = tt
+
+  -- a page out of its place
+  pub misplaced : {F : Type 0} (kind : TreeKind) (low : Option ℤ) (high : ℤ) (read : TreePage) (r : Rule) (fault : TreeFault F) → fault ≡ TreeDamaged read.number r → IsDecoded bytes number usable read
+      → IsOutOfPlace kind low high read r → IsBadPage bytes number usable kind low high fault
+  misplaced {F} kind low high read r fault is decoded out =
+      subst⁻¹ (IsBadPage bytes number usable kind low high) is (decoded.number_is, inr (read, decoded, out))
+
+  unordered-page : {F : Type 0} (kind : TreeKind) (low : Option ℤ) (high : ℤ) (read : TreePage) (fault : TreeFault F) → IsDecoded bytes number usable read → OutOfOrder read low high fault
+      → IsBadPage bytes number usable kind low high fault
+  unordered-page kind low high read (TreeDamaged page r) decoded bad =
+      (bad.0 ∙ decoded.number_is, inr (read, decoded, subst⁻¹ (IsOutOfPlace kind low high read) bad.1 bad.2))
+  unordered-page kind low high read (Store fault) decoded bad = absurd bad
+  unordered-page kind low high read (Memory error) decoded bad = absurd bad
+
+  unordered-root : {F : Type 0} (read : TreePage) (fault : TreeFault F) → IsDecoded bytes number usable read → OutOfOrder read None greatest_rowid fault → IsBadRoot bytes number usable fault
+  unordered-root read (TreeDamaged page r) decoded bad = (bad.0 ∙ decoded.number_is, inr (read, decoded, bad.1, bad.2))
+  unordered-root read (Store fault) decoded bad = absurd bad
+  unordered-root read (Memory error) decoded bad = absurd bad
+
+  -- what `stand` answers of a page that was read
+  pub stands-below : {F : Type 0} (parent : Place) (low : Option ℤ) (high : ℤ) (read : TreePage) (result : Result Place (TreeFault F)) → low ≡ low_at parent → high ≡ high_at parent
+      → tree_kind read.kind ≡ tree_kind parent.page.kind → read.views ≢ [] → OrFault (IsBounded read low high) (OutOfOrder read low high) result
+      → IsDecoded bytes number usable read → EntersPage bytes number usable parent result
+  stands-below parent low high read (Ok place) low_is high_is kind some bounded decoded =
+      let entered = entered-place read low high place decoded bounded in
+      record {
+        entered = subst (λ (l : Option ℤ). IsEntered bytes number usable l (high_at parent) place) low_is (subst (λ (h : ℤ). IsEntered bytes number usable low h place) high_is entered);
+        kind_is = ap (λ (p : TreePage). tree_kind p.kind) bounded.page_is ∙ kind;
+        some = λ none. some (sym (ap (λ (p : TreePage). p.views) bounded.page_is) ∙ none);
+      }
+  stands-below parent low high read (Err fault) low_is high_is kind some bad decoded =
+      subst (λ (l : Option ℤ). IsBadPage bytes number usable (tree_kind parent.page.kind) l (high_at parent) fault) low_is
+      (subst (λ (h : ℤ). IsBadPage bytes number usable (tree_kind parent.page.kind) low h fault) high_is (unordered-page (tree_kind parent.page.kind) low high read fault decoded bad))
+
+  pub stands-root : {F : Type 0} (read : TreePage) (result : Result Place (TreeFault F)) → OrFault (IsBounded read None greatest_rowid) (OutOfOrder read None greatest_rowid) result
+      → IsDecoded bytes number usable read → EntersRoot bytes number usable result
+  stands-root read (Ok place) bounded decoded = entered-place read None greatest_rowid place decoded bounded
+  stands-root read (Err fault) bad decoded = unordered-root read fault decoded bad
+
+module _ (pages : Pages) (size usable count : ℕ) (parent : Place) (above : ℕ) where
+  pub bad_number-step : {F : Type 0} (fault : TreeFault F) → IsBadNumber size count parent fault → IsBadStep pages size usable count parent above fault
+  bad_number-step (TreeDamaged page r) bad = inl bad
+  bad_number-step (Store fault) bad = absurd bad
+  bad_number-step (Memory error) bad = absurd bad
+
+  bad_page-step : {F : Type 0} (fault : TreeFault F) → IsBadPage (pages (child_at parent)) (child_at parent) usable (tree_kind parent.page.kind) (low_at parent) (high_at parent) fault
+      → IsBadStep pages size usable count parent above fault
+  bad_page-step (TreeDamaged page r) bad = inr (inr bad)
+  bad_page-step (Store fault) bad = tt
+  bad_page-step (Memory error) bad = tt
+
+  -- a page that is entered below another, by the number of the child
+  pub page-child : {F : Type 0} (number : ℕ) → number ≡ child_at parent → (result : Result Place (TreeFault F)) → EntersPage (pages number) number usable parent result
+      → OrFault (IsChild pages usable parent) (IsBadStep pages size usable count parent above) result
+  page-child {F} number is result enters = by result (subst (λ (n : ℕ). EntersPage {F = F} (pages n) n usable parent result) is enters)
+    where
+      by : (r : Result Place (TreeFault F)) → EntersPage {F = F} (pages (child_at parent)) (child_at parent) usable parent r → OrFault (IsChild pages usable parent) (IsBadStep pages {F = F} size usable count parent above) r
+      by (Ok place) below = below
+      by (Err fault) bad = bad_page-step fault bad
+
+-- kinds whose cells are no members
+pub dividers : (kind : PageKind) → has_dividers kind ≡ true → kind ≡ TableInterior
+dividers TableLeaf has = absurd (let e : false ≡ true = has in cc)
+dividers TableInterior has = refl
+dividers IndexLeaf has = absurd (let e : false ≡ true = has in cc)
+dividers IndexInterior has = absurd (let e : false ≡ true = has in cc)
+
+pub no_dividers : (kind : PageKind) → has_dividers kind ≡ false → kind ≢ TableInterior
+no_dividers kind none is = let has : has_dividers kind ≡ true = ap has_dividers is in cc
+
+-- what is left stays where cursors go down
+abbrev pub KeepsLeft : Sizes → Paged → Cursor → Cursor → Type 0
+KeepsLeft sizes base old new = (kind : TreeKind) (rest : List Member) → IsAbove sizes base kind rest old → IsAbove sizes base kind rest new
+
+module _ (sizes : Sizes) (base : Paged) where
+  -- going down to a leaf is to stand
+  pub landed-all : {T F : Type 0} (kind : TreeKind) (rest : List Member) (new : Cursor) (result : Result T (TreeFault F)) → is_leaf new.here.page.kind ≡ true → Leaves (IsAbove sizes base kind rest) new result
+      → Leaves (StandsAt sizes base kind rest) new result
+  landed-all kind rest new (Ok done) leaf above = landed sizes base kind rest new leaf above
+  landed-all kind rest new (Err fault) leaf other = other
+
+  root_first_by : (rooted : Rooted) (is : IsRoot sizes base rooted) (root : ℕ) → root_of rooted ≡ root → rooted.levels ≤ 24 → (cursor : Cursor) → cursor.above.items ≡ []
+      → IsEntered (base.pages root) root sizes.usable None greatest_rowid cursor.here → IsAbove sizes base rooted.kind (list_in rooted) cursor
+  root_first_by rooted is root root_is deep cursor none entered =
+      root_above sizes base rooted is cursor none deep (subst⁻¹ (λ (n : ℕ). IsEntered (base.pages n) n sizes.usable None greatest_rowid cursor.here) root_is entered)
+
+  -- the cursor at the root of a tree is about to go down to its first member
+  pub root_first : (root : ℕ) (kind : TreeKind) (depth : ℕ) (members : List Member) (numbers : List ℕ) → IsTree sizes base root kind depth members numbers → (place : Place)
+      → IsEntered (base.pages root) root sizes.usable None greatest_rowid place → (cursor : Cursor) → cursor.above.items ≡ [] → cursor.here ≡ place → IsAbove sizes base kind members cursor
+  root_first root kind depth members numbers is place entered cursor none here_is =
+      subst (λ (k : TreeKind). IsAbove sizes base k members cursor) is.kind_is
+      (subst (λ (r : List Member). IsAbove sizes base is.rooted.kind r cursor) is.members_are
+      (root_first_by is.rooted is.is_root root is.root_is (omega (arith, is.deep, is.depth_is)) cursor none
+      (subst⁻¹ (IsEntered (base.pages root) root sizes.usable None greatest_rowid) here_is entered)))
+
+  -- the root of a tree is not refused
+  pub root_not_bad : {F : Type 0} (root : ℕ) (kind : TreeKind) (depth : ℕ) (members : List Member) (numbers : List ℕ) → IsTree sizes base root kind depth members numbers → (fault : TreeFault F)
+      → IsBadRoot (base.pages root) root sizes.usable fault → IsOther fault
+  root_not_bad {F} root kind depth members numbers is (TreeDamaged page r) bad =
+      root_bad sizes base is.rooted is.is_root F page r (subst⁻¹ (λ (n : ℕ). IsBadRoot {F = F} (base.pages n) n sizes.usable (TreeDamaged page r)) is.root_is bad)
+  root_not_bad root kind depth members numbers is (Store fault) bad = tt
+  root_not_bad root kind depth members numbers is (Memory error) bad = tt

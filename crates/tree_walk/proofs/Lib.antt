@@ -1,0 +1,6 @@
+pub mod PageFacts
+pub mod TreeFacts
+pub mod Steps
+pub mod Rows
+pub mod Calls
+pub mod Loops

@@ -1,0 +1,36 @@
+use Rattle.std.proofs.Common.{◌≡◌, ℕ, List, Err, refl, sym, ◌∙◌, subst}
+use Rattle.std.proofs.lemmas.Option.{IfSome_then}
+use Rattle.tree_walk.specs.Pages.{IsDecoded, IsReadFault}
+use Rattle.tree_walk.proofs.Calls.{owes-free}
+use Rattle.tree_walk.proofs.reading.read_page.Goals as goal
+
+pub returns-in-Err-clause-pages : goal.returns-in-Err-clause-pages
+returns-in-Err-clause-pages g c =
+    let a = c.args in
+    let looks = c.in_ok-bytes.ensures.pages in
+    let used : c.usable.result ≡ g.S.PageRead.usable a.store.now = c.usable.ensures ∙ c.in_ok-bytes.ensures.owes.stays.usable in
+    let bytes = c.in_ok-bytes.bytes.items in
+    record {
+      same = looks.pages.same;
+      count = looks.count;
+      answer = IfSome_then (g.S.PageRead.pages a.store.now) looks.pages.answer (λ m is.
+          subst (λ (b : List ℕ). IsReadFault b a.number (g.S.PageRead.usable a.store.now) c.in_tree.result) is
+          (subst (λ (u : ℕ). IsReadFault bytes a.number u c.in_tree.result) used (c.in_tree.ensures.answer bytes c.usable.result c.in-Err.ensures.refused)));
+    }
+
+pub returns-in-Ok-clause-pages : goal.returns-in-Ok-clause-pages
+returns-in-Ok-clause-pages g c =
+    let a = c.args in
+    let looks = c.in_ok-bytes.ensures.pages in
+    let used : c.usable.result ≡ g.S.PageRead.usable a.store.now = c.usable.ensures ∙ c.in_ok-bytes.ensures.owes.stays.usable in
+    let bytes = c.in_ok-bytes.bytes.items in
+    record {
+      same = looks.pages.same;
+      count = looks.count;
+      answer = IfSome_then (g.S.PageRead.pages a.store.now) looks.pages.answer (λ m is.
+          subst (λ (b : List ℕ). IsDecoded b a.number (g.S.PageRead.usable a.store.now) c.in-Ok.page) is
+          (subst (λ (u : ℕ). IsDecoded bytes a.number u c.in-Ok.page) used c.in-Ok.ensures.found));
+    }
+
+pub returns-in-Err-clause-owes : goal.returns-in-Err-clause-owes
+returns-in-Err-clause-owes g c = let owes = c.in_ok-bytes.ensures.owes in owes-free g.S.PageRead (Err c.in_tree.result) owes.stays owes.faults.still c.in_tree.ensures.cause

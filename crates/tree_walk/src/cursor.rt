@@ -1,0 +1,218 @@
+// Cursors over a tree.
+ghost use Rattle.std.specs.Prelude.{◌≡◌, ◌+◌, ◌<◌, ◌≤◌, ◌↔◌, List, [], true, IfOk, IsNone, IsTrue, OnOk};
+ghost use Rattle.arrayvec.specs.ArrayVec.{array_vec_len};
+ghost use Rattle.page_store.specs.Store.{HasSizes, OwesBy, Sees};
+ghost use Rattle.tree_spec.specs.declared.TreeKind.{TreeKind};
+ghost use Rattle.tree_spec.specs.Trees.{Member};
+ghost use Rattle.tree_spec.specs.Standing.{Paged, Sizes};
+ghost use Rattle.tree_walk.specs.Pages.{fault_in, is_leaf as is_leaf_of};
+ghost use Rattle.tree_walk.specs.Walks.{GoesDown, IsAtCell, IsPast, Lands, MovesOn, ReadsRow, Settles, StandsBelow, StandsFirst, StepsDown};
+
+use crate::entering::{enter_child, enter_root};
+use crate::fault::TreeFault;
+use crate::payload::read_payload;
+use crate::place::Place;
+use crate::reading::{has_dividers, is_leaf};
+use arrayvec::ArrayVec;
+use page_store::PageRead;
+use rbu_value::Bytes;
+use std::alloc::Global;
+use std::mem;
+
+/// A member of a tree: a row of a table, with its record, or an entry of an index, whose rowid is 0.
+#[derive(Drop)]
+pub struct Row {
+    pub rowid: i64,
+    pub payload: Bytes,
+}
+
+/// A place in a tree: at one of its members, or past the last. Its path has at most 25 pages, of which `here` is the last.
+#[derive(Drop)]
+pub struct Cursor {
+    above: ArrayVec<Place, 24, Global>,
+    here: Place,
+}
+
+impl Cursor {
+    // Whether the cursor is past all cells of its page.
+    fn is_past(&self) -> bool
+        ensures { IsTrue result ↔ IsPast self.now }
+    {
+        self.here.page.views.as_slice().len() <= self.here.at
+    }
+
+    // Enters the child at which the cursor is. Refuses [55] with `child`, `depth`, `kind`, `cells` or `empty`.
+    fn step_down<S: PageRead>(
+        &mut self,
+        alloc: Global,
+        store: &mut S,
+    ) -> Result<(), TreeFault<S::Fault>>
+        requires { HasSizes S.PageRead store.old }
+        ensures pages { Sees S.PageRead store.old store.new (λ m. StepsDown (record { size = S.size store.old; usable = S.usable store.old }) (record { count = S.count store.old; pages = m }) self.old self.new result) }
+        ensures room { OnOk result (array_vec_len self.old.above < 24) }
+        ensures longer { OnOk result (array_vec_len self.new.above ≡ array_vec_len self.old.above + 1) }
+        ensures owes { OwesBy S.PageRead fault_in store.old store.new result }
+    {
+        match enter_child(alloc, store, &self.here, self.above.len()) {
+            Ok(child) => {
+                let parent = mem::replace(&mut self.here, child);
+                self.above.push(parent);
+                Ok(())
+            }
+            Err(fault) => Err(fault),
+        }
+    }
+
+    // Goes down to a leaf, through the first child of each page but that in which the cursor is.
+    fn descend<S: PageRead>(
+        &mut self,
+        alloc: Global,
+        store: &mut S,
+    ) -> Result<(), TreeFault<S::Fault>>
+        requires { HasSizes S.PageRead store.old }
+        ensures pages { Sees S.PageRead store.old store.new (λ m. GoesDown (record { size = S.size store.old; usable = S.usable store.old }) (record { count = S.count store.old; pages = m }) self.old self.new result) }
+        ensures leaf { OnOk result (is_leaf_of self.new.here.page.kind ≡ true) }
+        ensures owes { OwesBy S.PageRead fault_in store.old store.new result }
+    {
+        while !is_leaf(self.here.page.kind) {
+            match self.step_down(alloc, store) {
+                Ok(()) => {}
+                Err(fault) => return Err(fault),
+            }
+        }
+        Ok(())
+    }
+
+    // Comes to the first member from the child on at which the cursor is. Answers whether there is one.
+    fn land<S: PageRead>(
+        &mut self,
+        alloc: Global,
+        store: &mut S,
+    ) -> Result<bool, TreeFault<S::Fault>>
+        requires { HasSizes S.PageRead store.old }
+        ensures pages { Sees S.PageRead store.old store.new (λ m. Lands (record { size = S.size store.old; usable = S.usable store.old }) (record { count = S.count store.old; pages = m }) self.old self.new result) }
+        ensures moved { IfOk result (λ moved. IsTrue moved ↔ ¬ IsPast self.new) }
+        ensures owes { OwesBy S.PageRead fault_in store.old store.new result }
+    {
+        match self.descend(alloc, store) {
+            Ok(()) => Ok(!self.is_past()),
+            Err(fault) => Err(fault),
+        }
+    }
+
+    // Leaves the pages of which nothing is left.
+    fn climb(&mut self)
+        ensures left { (sizes : Sizes) (base : Paged) (kind : TreeKind) (rest : List Member) → IsAtCell sizes base kind rest self.old → IsAtCell sizes base kind rest self.new }
+        ensures ends { IsPast self.new → self.new.above.items ≡ [] }
+    {
+        while self.is_past() {
+            match self.above.pop() {
+                Some(parent) => self.here = parent,
+                None => return,
+            }
+        }
+    }
+
+    // Comes to the first member from the cell on at which the cursor is. Answers whether there is one.
+    fn settle<S: PageRead>(
+        &mut self,
+        alloc: Global,
+        store: &mut S,
+    ) -> Result<bool, TreeFault<S::Fault>>
+        requires { HasSizes S.PageRead store.old }
+        ensures pages { Sees S.PageRead store.old store.new (λ m. Settles (record { size = S.size store.old; usable = S.usable store.old }) (record { count = S.count store.old; pages = m }) self.old self.new result) }
+        ensures moved { IfOk result (λ moved. IsTrue moved ↔ ¬ IsPast self.new) }
+        ensures owes { OwesBy S.PageRead fault_in store.old store.new result }
+    {
+        self.climb();
+        if self.is_past() {
+            return Ok(false);
+        }
+        if !has_dividers(self.here.page.kind) {
+            return Ok(true);
+        }
+        self.here.at += 1;
+        self.land(alloc, store)
+    }
+
+    // Stands at the first member of the tree that has this place in its root.
+    fn from_root<S: PageRead>(
+        alloc: Global,
+        store: &mut S,
+        here: Place,
+    ) -> Result<Cursor, TreeFault<S::Fault>>
+        requires { HasSizes S.PageRead store.old }
+        ensures pages { Sees S.PageRead store.old store.new (λ m. StandsBelow (record { size = S.size store.old; usable = S.usable store.old }) (record { count = S.count store.old; pages = m }) here result) }
+        ensures owes { OwesBy S.PageRead fault_in store.old store.new result }
+    {
+        let mut cursor = Cursor {
+            above: ArrayVec::new_in(alloc),
+            here,
+        };
+        match cursor.descend(alloc, store) {
+            Ok(()) => Ok(cursor),
+            Err(fault) => Err(fault),
+        }
+    }
+
+    /// Stands at the first member of the tree at a root. Refuses [55].
+    pub fn first<S: PageRead>(
+        alloc: Global,
+        store: &mut S,
+        root: u32,
+    ) -> Result<Cursor, TreeFault<S::Fault>>
+        requires sizes { HasSizes S.PageRead store.old }
+        requires first { 1 ≤ root }
+        requires within { root ≤ S.count store.old }
+        ensures pages { Sees S.PageRead store.old store.new (λ m. StandsFirst (record { size = S.size store.old; usable = S.usable store.old }) (record { count = S.count store.old; pages = m }) root result) }
+        ensures owes { OwesBy S.PageRead fault_in store.old store.new result }
+    {
+        match enter_root(alloc, store, root) {
+            Ok(here) => Cursor::from_root(alloc, store, here),
+            Err(fault) => Err(fault),
+        }
+    }
+
+    /// Moves to the next member. False exactly where the cursor then stands past the last. Refuses [55].
+    pub fn next<S: PageRead>(
+        &mut self,
+        alloc: Global,
+        store: &mut S,
+    ) -> Result<bool, TreeFault<S::Fault>>
+        requires { HasSizes S.PageRead store.old }
+        ensures pages { Sees S.PageRead store.old store.new (λ m. MovesOn (record { size = S.size store.old; usable = S.usable store.old }) (record { count = S.count store.old; pages = m }) self.old self.new result) }
+        ensures moved { IfOk result (λ moved. IsTrue moved ↔ ¬ IsPast self.new) }
+        ensures owes { OwesBy S.PageRead fault_in store.old store.new result }
+    {
+        if self.is_past() {
+            return Ok(false);
+        }
+        self.here.at += 1;
+        if is_leaf(self.here.page.kind) {
+            return self.settle(alloc, store);
+        }
+        self.land(alloc, store)
+    }
+
+    /// The member at which the cursor stands. `None` exactly past the last. Refuses [55] with `chain`.
+    pub fn row<S: PageRead>(
+        &self,
+        alloc: Global,
+        store: &mut S,
+    ) -> Result<Option<Row>, TreeFault<S::Fault>>
+        requires { HasSizes S.PageRead store.old }
+        ensures pages { Sees S.PageRead store.old store.new (λ m. ReadsRow (record { size = S.size store.old; usable = S.usable store.old }) (record { count = S.count store.old; pages = m }) self.now result) }
+        ensures none { IfOk result (λ row. IsNone row ↔ IsPast self.now) }
+        ensures owes { OwesBy S.PageRead fault_in store.old store.new result }
+    {
+        if self.is_past() {
+            return Ok(None);
+        }
+        let page = &self.here.page;
+        let rowid = page.rowid_at(self.here.at);
+        match read_payload(alloc, store, page, self.here.at) {
+            Ok(payload) => Ok(Some(Row { rowid, payload })),
+            Err(fault) => Err(fault),
+        }
+    }
+}

@@ -111,6 +111,12 @@ module _ (sizes : Sizes) where
   IsSettled levels kind page right cells old new (divider ∷ dividers) =
       (back : List Spelled) × (between : Paged) × IsFronted levels kind cells divider back old between × IsSettled levels kind page right back between new dividers
 
+  -- the fronts of some cells were put on pages that were taken, with a divider for each, and the last cells are left
+  abbrev pub IsSpread : (levels : ℕ) → TreeKind → List Spelled → Paged → Paged → List Spelled → List Spelled → Type 0
+  IsSpread levels kind cells old new [] left = (left ≡ cells) × (new ≡ old)
+  IsSpread levels kind cells old new (divider ∷ dividers) left =
+      (back : List Spelled) × (between : Paged) × IsFronted levels kind cells divider back old between × IsSpread levels kind back between new dividers left
+
   module _ (kind : TreeKind) where
     -- the put is done, with a sibling for each divider
     pub record PutDone (levels : ℕ) (before : Before levels) (new : Paged) (dividers : List Spelled) (first bytes : ℕ) : Type 0 where

@@ -10,8 +10,8 @@ use cell_codec::PageKind;
 use page_layout::needs;
 use rbu_value::Bytes;
 
-// The bytes that a page other than page 1 has for cells and their places.
-fn room_of(kind: PageKind, usable: u32) -> u64
+/// The bytes that a page other than page 1 has for cells and their places, where so many of its bytes are usable.
+pub fn room_of(kind: PageKind, usable: u32) -> u64
     requires { IsUsable usable }
     ensures { result ≡ page_room kind usable }
 {
@@ -21,8 +21,8 @@ fn room_of(kind: PageKind, usable: u32) -> u64
     }
 }
 
-// How many cells go up where a page is cut.
-fn risen(kind: PageKind) -> usize
+/// How many cells go up where a page is cut: one, but none of a table's leaf, which keeps them all.
+pub fn risen(kind: PageKind) -> usize
     ensures { result ≡ cells_risen kind }
 {
     match kind {

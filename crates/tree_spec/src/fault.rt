@@ -1,11 +1,12 @@
-// What stops a writer of trees.
-ghost use Rattle.std.specs.Prelude.{◌≡◌};
-ghost use Rattle.tree_pages.specs.declared.fault.TreeFault.TheVariants.{Memory};
+// What stops a call on a tree.
+ghost use Rattle.std.specs.Prelude.{◌≡◌, None};
+ghost use Rattle.tree_spec.specs.declared.fault.TreeFault.TheVariants.{Memory, TreeDamaged};
+ghost use Rattle.tree_spec.specs.Faults.{fault_in};
 
 use refusal::Rule;
 use std::alloc::AllocError;
 
-/// Why a tree is not changed.
+/// Why a call on a tree has no answer. `F` is what the store answers where it fails.
 #[derive(Debug, Drop)]
 pub enum TreeFault<F> {
     /// The tree is damaged: refusal 55. The page is the one that holds what is wrong.
@@ -25,5 +26,16 @@ impl<F> From<AllocError> for TreeFault<F> {
 
     fn from(error: AllocError) -> TreeFault<F> {
         TreeFault::Memory(error)
+    }
+}
+
+/// Refusal 55: what is wrong stands in this page.
+pub fn damaged<F>(page: u32, rule: Rule) -> TreeFault<F>
+    ensures is { result ≡ TreeDamaged page rule }
+    ensures cause { fault_in result ≡ None }
+{
+    TreeFault::TreeDamaged {
+        page: u64::from(page),
+        rule,
     }
 }

@@ -177,7 +177,7 @@ tree-rises Index levels low high tree full within = tt
 -- Children.
 
 -- what is left from a child on is the child and what is left behind it
-from_child-all : (kind : TreeKind) (levels : ℕ) (children : List (TreeOf levels × TreeCell)) (last : TreeOf levels) → from_child kind levels children last 0 ≡ list_beside kind levels children last
+pub from_child-all : (kind : TreeKind) (levels : ℕ) (children : List (TreeOf levels × TreeCell)) (last : TreeOf levels) → from_child kind levels children last 0 ≡ list_beside kind levels children last
 from_child-all kind levels [] last = refl
 from_child-all kind levels (child ∷ children) last = refl
 

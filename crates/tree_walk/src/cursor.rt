@@ -5,11 +5,11 @@ ghost use Rattle.page_store.specs.Store.{HasSizes, OwesBy, Sees};
 ghost use Rattle.tree_spec.specs.declared.TreeKind.{TreeKind};
 ghost use Rattle.tree_spec.specs.Trees.{Member};
 ghost use Rattle.tree_spec.specs.Standing.{Paged, Sizes};
-ghost use Rattle.tree_walk.specs.Pages.{fault_in, is_leaf as is_leaf_of};
+ghost use Rattle.tree_spec.specs.Faults.{fault_in};
+ghost use Rattle.tree_walk.specs.Pages.{is_leaf as is_leaf_of};
 ghost use Rattle.tree_walk.specs.Walks.{GoesDown, IsAtCell, IsPast, Lands, MovesOn, ReadsRow, Settles, StandsBelow, StandsFirst, StepsDown};
 
 use crate::entering::{enter_child, enter_root};
-use crate::fault::TreeFault;
 use crate::payload::read_payload;
 use crate::place::Place;
 use crate::reading::{has_dividers, is_leaf};
@@ -18,6 +18,7 @@ use page_store::PageRead;
 use rbu_value::Bytes;
 use std::alloc::Global;
 use std::mem;
+use tree_spec::TreeFault;
 
 /// A member of a tree: a row of a table, with its record, or an entry of an index, whose rowid is 0.
 #[derive(Drop)]

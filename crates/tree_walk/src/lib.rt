@@ -6,11 +6,10 @@
 mod bounds;
 mod cursor;
 mod entering;
-mod fault;
 mod page;
 mod payload;
 mod place;
 mod reading;
 
 pub use cursor::{Cursor, Row};
-pub use fault::TreeFault;
+pub use tree_spec::TreeFault;

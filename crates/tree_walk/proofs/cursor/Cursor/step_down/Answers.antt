@@ -2,6 +2,7 @@ use Rattle.std.proofs.Common.{◌≡◌, ◌++◌, ◌∷◌, [], ℕ, length, a
 use Rattle.std.proofs.Math.Path.{subst⁻¹}
 use Rattle.std.proofs.lemmas.Option.{IfSome_then}
 use Rattle.tree_walk.specs.declared.place.Place.{Place}
+use Rattle.tree_spec.specs.Faults.{IsDamageOrOther}
 use Rattle.tree_walk.specs.Places.{IsBadStep, IsChild}
 use Rattle.tree_walk.proofs.cursor.Cursor.step_down.Goals as goal
 
@@ -28,5 +29,5 @@ returns-in-Err-clause-pages g c =
       same = enters.same;
       count = enters.count;
       answer = IfSome_then (g.S.PageRead.pages store) enters.answer (λ m bad.
-          subst (λ (n : ℕ). IsBadStep m (g.S.PageRead.size store) (g.S.PageRead.usable store) (g.S.PageRead.count store) old.here n c.in-Err.fault) c.len.ensures.value bad);
+          subst (λ (n : ℕ). IsDamageOrOther (IsBadStep m (g.S.PageRead.size store) (g.S.PageRead.usable store) (g.S.PageRead.count store) old.here n) c.in-Err.fault) c.len.ensures.value bad);
     }

@@ -1,0 +1,9 @@
+pub mod Walks
+pub mod SchemaRows
+pub mod Catalogs
+pub mod RightRows
+pub mod Rows
+pub mod Keys
+pub mod Databases
+pub mod FileFindings
+pub mod FileFaults

@@ -7,3 +7,6 @@ pub mod Keys
 pub mod Databases
 pub mod FileFindings
 pub mod FileFaults
+pub mod WalksLaws
+pub mod ListsLaws
+pub mod CatalogsLaws

@@ -10,3 +10,6 @@ pub mod FileFaults
 pub mod WalksLaws
 pub mod ListsLaws
 pub mod CatalogsLaws
+pub mod RowsLaws
+pub mod KeysLaws
+pub mod FileFaultsLaws

@@ -13,3 +13,4 @@ pub mod CatalogsLaws
 pub mod RowsLaws
 pub mod KeysLaws
 pub mod FileFaultsLaws
+pub mod TreeWalksLaws

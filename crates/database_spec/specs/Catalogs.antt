@@ -1,10 +1,9 @@
 -- The catalog of a database: what the rows of its schema say of its tables and indexes (The Schema Table, section 2), and which rows are right.
-use Rattle.std.specs.Prelude.{◌≡◌, ℕ, suc, ◌<◌, ◌==◌, ◌&&◌, ◌||◌, Bool, true, false, IsTrue, IsFalse, IfOk, if◌then◌else◌, List, [], ◌∷◌, ◌++◌, length, map, filter, filter_map, AllPairs, slice_get, Option, Some, None, is_none, Result, Ok, Err, decimal, codes}
+use Rattle.std.specs.Prelude.{◌≡◌, ℕ, suc, ◌<◌, ◌==◌, ◌&&◌, ◌||◌, Bool, true, false, IsTrue, IsFalse, IfOk, if◌then◌else◌, List, [], ◌∷◌, ◌++◌, length, map, filter, filter_map, AllPairs, IsPermutation, not, Option, Some, None, is_none, Result, Ok, Err, decimal, codes}
 use Rattle.std.specs.List.{list_any, AllZip}
 use Rattle.rbu_value.specs.declared.order.Collation.{Collation}
 use Rattle.common_spec.specs.Reading.{OrNone, OrFault}
 use Rattle.format_spec.specs.Header.{schema_format}
-use Rattle.page_spec.specs.Counts.{times}
 use Rattle.schema_spec.specs.declared.schema.Clause.TheVariants.{View as ViewClause, Virtual as VirtualClause}
 use Rattle.schema_spec.specs.declared.schema.SqlFault.{SqlFault}
 use Rattle.schema_spec.specs.declared.schema.SqlFault.TheVariants.{OutsideProfile}
@@ -61,22 +60,36 @@ automatic_name table number = codes "sqlite_autoindex_" ++ (table ++ (codes "_" 
 abbrev pub automatic_index : SchemaRow → List (ℕ × Collation) → Index
 automatic_index row columns = record { name = row.name; table = row.table; unique = true; columns = map (λ column. (column.0, column.1, false)) columns }
 
--- the index is the automatic one of some key of the table
-abbrev pub IsAutomatic : SchemaRow → Table → Index → Type 0
-IsAutomatic row table index =
-    (at : ℕ) × (columns : List (ℕ × Collation)) × (slice_get table.unique at ≡ Some columns) × IsTrue (same_name row.name (automatic_name row.table (suc at))) × (index ≡ automatic_index row columns)
+-- the columns of the automatic index that has the name of the row, among the keys from this number on
+abbrev pub automatic_columns : SchemaRow → ℕ → List (List (ℕ × Collation)) → Option (List (ℕ × Collation))
+automatic_columns row number [] = None
+automatic_columns row number (columns ∷ keys) = if same_name row.name (automatic_name row.table number) then Some columns else automatic_columns row (suc number) keys
+
+-- an index without a text means the automatic index that has its name
+abbrev pub IsAutomatic : SchemaRow → Option (List (ℕ × Collation)) → Result Index SqlFault → Type 0
+IsAutomatic row None meaning = ⊥
+IsAutomatic row (Some columns) meaning = meaning ≡ Ok (automatic_index row columns)
+
+-- a text means this index of a table, under a schema format
+abbrev pub MeansUnder : ℕ → List ℕ → Table → Index → Type 0
+MeansUnder format text table index = (read : Index) × MeansIndex text table read × (index ≡ index_under format read)
 
 -- what is said of an index of a table, by its text, or where it has none as an automatic index; of a table outside the profile it has the table's fault
+abbrev pub IsReadMeaning : ℕ → SchemaRow → Table → Option (List ℕ) → Result Index SqlFault → Type 0
+IsReadMeaning format row table (Some text) meaning = OrFault (MeansUnder format text table) (HasIndexFault text table) meaning
+IsReadMeaning format row table None meaning = IsAutomatic row (automatic_columns row 1 table.unique) meaning
+
 abbrev pub IsIndexMeaning : ℕ → SchemaRow → Result Table SqlFault → Result Index SqlFault → Type 0
 IsIndexMeaning format row (Err fault) meaning = meaning ≡ Err fault
-IsIndexMeaning format row (Ok table) meaning = elim row.sql as (λ _. Type 0) [
-  | Some text ↦ OrFault (λ index. (read : Index) × MeansIndex text table read × (index ≡ index_under format read)) (HasIndexFault text table) meaning
-  | None ↦ (index : Index) × IsAutomatic row table index × (meaning ≡ Ok index)
-]
+IsIndexMeaning format row (Ok table) meaning = IsReadMeaning format row table row.sql meaning
 
 -- rows of indexes of the table with this name
 abbrev pub index_rows : List ℕ → List SchemaRow → List SchemaRow
 index_rows name rows = filter (λ row. is_index row && same_name row.table name) rows
+
+-- an index of a table of this meaning, as its row says
+abbrev pub IsIndexEntry : ℕ → Result Table SqlFault → SchemaRow → ℕ × Result Index SqlFault → Type 0
+IsIndexEntry format meaning row index = (index.0 ≡ row.root) × IsIndexMeaning format row meaning index.1
 
 module _ (format : ℕ) (rows : List SchemaRow) where
   -- a table as its row and those of its indexes say
@@ -84,17 +97,17 @@ module _ (format : ℕ) (rows : List SchemaRow) where
     pub name : named.name ≡ row.name
     pub root : named.entry.root ≡ row.root
     pub meaning : IsTableMeaning row.kind row.sql named.entry.meaning
-    pub indexes : AllZip (λ row index. (index.0 ≡ row.root) × IsIndexMeaning format row named.entry.meaning index.1) (index_rows row.name rows) named.entry.indexes
+    pub indexes : AllZip (IsIndexEntry format named.entry.meaning) (index_rows row.name rows) named.entry.indexes
 
   -- the roots of the rows that have one
   abbrev pub roots_named : List ℕ
-  roots_named = filter_map (λ row. if row.root == 0 then None else Some row.root) rows
+  roots_named = filter (λ root. not (root == 0)) (map (λ row. row.root) rows)
 
   -- the catalog that these rows say
   pub record IsCatalog (catalog : Catalog) : Type 0 where
     pub tables : AllZip IsEntry (filter is_table rows) catalog.tables
     pub roots_rise : AllPairs (λ (a b : ℕ). a < b) catalog.roots
-    pub roots_are : (n : ℕ) → times n catalog.roots ≡ times n (1 ∷ roots_named)
+    pub roots_are : IsPermutation (1 ∷ roots_named) catalog.roots
 
 -- the members of the schema's tree with their rows, where they are rows
 abbrev pub AreRows : List Member → List (Option SchemaRow) → Type 0

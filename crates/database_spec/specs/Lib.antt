@@ -7,3 +7,10 @@ pub mod Keys
 pub mod Databases
 pub mod FileFindings
 pub mod FileFaults
+pub mod WalksLaws
+pub mod ListsLaws
+pub mod CatalogsLaws
+pub mod RowsLaws
+pub mod KeysLaws
+pub mod FileFaultsLaws
+pub mod TreeWalksLaws

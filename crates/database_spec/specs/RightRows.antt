@@ -1,6 +1,7 @@
 -- Which rows of a schema are right, and the first fault of one that is not (The Schema Table, section 2; that a fault is answered by its row is this project's rule).
 use Rattle.std.specs.Prelude.{◌≡◌, ℕ, suc, ◌<◌, ◌==◌, ◌&&◌, ◌||◌, Bool, true, false, IsTrue, IsFalse, IfOk, ◌⊎◌, List, [], ◌∷◌, ◌++◌, length, filter_map, Option, Some, None, is_none, Result, Ok, Err}
 use Rattle.std.specs.List.{list_any}
+use Rattle.refusal.specs.declared.Rule.{Rule}
 use Rattle.schema_spec.specs.declared.schema.Clause.TheVariants.{Virtual}
 use Rattle.schema_spec.specs.declared.schema.SqlFault.{SqlFault}
 use Rattle.schema_spec.specs.declared.schema.SqlFault.TheVariants.{OutsideProfile}
@@ -39,6 +40,10 @@ has_name name row = (is_table row || is_index row) && same_name row.name name
 abbrev pub repeats_name : List SchemaRow → Option SchemaRow → Bool
 repeats_name before None = false
 repeats_name before (Some row) = (is_table row || is_index row) && list_any (has_name row.name) before
+
+abbrev pub found_name : Option SchemaRow → List ℕ
+found_name None = []
+found_name (Some row) = row.name
 
 -- the rows that were found
 abbrev pub rows_of : List (Option SchemaRow) → List SchemaRow
@@ -87,10 +92,8 @@ module _ (sizes : Sizes) (base : Paged) (rows : List SchemaRow) where
 
   -- the fault of a row behind others: that it is not right, or else that it repeats a name
   abbrev pub RowHasFault : List SchemaRow → Member → Option SchemaRow → FileFault → Type 0
-  RowHasFault before member row (SchemaRowFault rowid) = (rowid ≡ member.rowid) × ¬ IsRightRow before row
-  RowHasFault before member None (DuplicateName name) = ⊥
-  RowHasFault before member (Some row) (DuplicateName name) = (name ≡ row.name) × IsRight before row × IsTrue (repeats_name before (Some row))
-  RowHasFault before member row _ = ⊥
+  RowHasFault before member row fault =
+      ((¬ IsRightRow before row) × (fault ≡ SchemaRowFault member.rowid)) ⊎ (IsRightRow before row × IsTrue (repeats_name before row) × (fault ≡ DuplicateName (found_name row)))
 
   abbrev pub IsFaultless : List SchemaRow → Option SchemaRow → Type 0
   IsFaultless before row = IsRightRow before row × IsFalse (repeats_name before row)
@@ -117,7 +120,6 @@ pub record HasCatalog (sizes : Sizes) (base : Paged) (catalog : Catalog) : Type 
 
 -- Why a database has none: a cursor over the schema's tree meets damage, or else the first fault of a row.
 abbrev pub CatalogHasFault : Sizes → Paged → FileFault → Type 0
-CatalogHasFault sizes base (TreeDamaged page rule) = StopsAt sizes base TableTree 1 (page, rule)
 CatalogHasFault sizes base fault =
-    (members : List Member) × (found : List (Option SchemaRow)) × IsList sizes base TableTree 1 members × AreRows members found
-    × FirstRowFault sizes base (rows_of found) [] members found fault
+    ((page : ℕ) × (rule : Rule) × StopsAt sizes base TableTree 1 (page, rule) × (fault ≡ TreeDamaged page rule))
+    ⊎ ((members : List Member) × (found : List (Option SchemaRow)) × IsList sizes base TableTree 1 members × AreRows members found × FirstRowFault sizes base (rows_of found) [] members found fault)

@@ -1,10 +1,10 @@
 -- What follows for a cursor from what the calls that it makes say.
-use Rattle.std.proofs.Common.{◌≡◌, ◌≢◌, ℕ, ℤ, ◌<◌, ◌≤◌, ◌⊎◌, ◌↔◌, Bool, true, false, not, IsTrue, List, [], ◌∷◌, length, drop, Option, Some, None, IfSome, IfErr, Result, Ok, Err, refl, sym, ap, ◌∙◌, subst, inl, inr, arith}
+use Rattle.std.proofs.Common.{◌≡◌, ◌≢◌, ℕ, ℤ, ◌<◌, ◌≤◌, true, false, List, [], ◌∷◌, length, Option, Some, None, IfSome, IfErr, Result, Ok, Err, refl, sym, ap, ◌∙◌, subst, inl, inr, arith}
 use Rattle.std.proofs.Math.Path.{subst⁻¹}
 use Rattle.common_spec.specs.Reading.{OrFault}
 use Rattle.format_spec.specs.declared.PageKind.{PageKind}
 use Rattle.format_spec.specs.declared.PageKind.TheVariants.{IndexInterior, TableInterior, IndexLeaf, TableLeaf}
-use Rattle.page_spec.specs.Pages.{Pages, IsInRange}
+use Rattle.page_spec.specs.Pages.{Pages}
 use Rattle.page_store.specs.declared.store.PageRead.{Ghosts}
 use Rattle.page_store.specs.Store.{Stays, OwesBy, IsCause}
 use Rattle.overflow_chain.specs.declared.fault.ChainFault.{ChainFault}
@@ -12,9 +12,8 @@ use Rattle.overflow_chain.specs.declared.fault.ChainFault.TheVariants as chain
 use Rattle.overflow_chain.specs.Chain.{fault_in as chain_fault_in}
 use Rattle.tree_walk.specs.Payloads.{tree_fault}
 use Rattle.refusal.specs.declared.Rule.{Rule}
-use Rattle.refusal.specs.declared.Rule.TheVariants as broken
 use Rattle.tree_spec.specs.declared.TreeKind.{TreeKind}
-use Rattle.tree_spec.specs.Trees.{Rooted, Member, page_of, list_in, root_of, depth_of}
+use Rattle.tree_spec.specs.Trees.{Rooted, Member, list_in, root_of}
 use Rattle.tree_spec.specs.Bounds.{greatest_rowid}
 use Rattle.tree_spec.specs.Standing.{Sizes, Paged, IsRoot, IsTree}
 use Rattle.tree_spec.specs.declared.fault.TreeFault.{TreeFault}
@@ -23,10 +22,10 @@ use Rattle.tree_spec.specs.Faults.{IsOther, IsDamage, IsDamageOrOther, fault_in}
 use Rattle.tree_spec.specs.FaultsLaws.{damage-then, damage-none, damage-weaken}
 use Rattle.tree_walk.specs.declared.page.TreePage.{TreePage}
 use Rattle.tree_walk.specs.declared.place.Place.{Place}
-use Rattle.tree_walk.specs.declared.cursor.Cursor.{Cursor}
+use Rattle.tree_walk.specs.declared.path.Cursor.{Cursor}
 use Rattle.tree_walk.specs.Pages.{IsDecoded, IsBadRead, IsReadFault, has_dividers, is_leaf, tree_kind}
-use Rattle.tree_walk.specs.Places.{Rises, child_at, low_at, high_at, IsBadNumber, IsBadPage, IsBounded, IsEntered, IsBelow, IsChild, IsBadRoot, IsBadStep, OutOfOrder, EntersPage, EntersRoot, IsOutOfPlace}
-use Rattle.tree_walk.specs.Walks.{IsPast, IsAbove, StandsAt, Leaves}
+use Rattle.tree_walk.specs.Places.{Rises, child_at, low_at, high_at, IsBadNumber, IsBadPage, IsBounded, IsEntered, IsChild, IsBadRoot, IsBadStep, OutOfOrder, EntersPage, EntersRoot, IsOutOfPlace}
+use Rattle.tree_walk.specs.Walks.{IsAbove, StandsAt, Leaves}
 use Rattle.tree_walk.proofs.Steps.{landed, root_above, root_bad}
 
 -- what is said of a store's sizes and count after a call that leaves them

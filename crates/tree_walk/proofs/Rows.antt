@@ -1,5 +1,5 @@
 -- The row of a member of a standing tree.
-use Rattle.std.proofs.Common.{◌≡◌, ◌≢◌, ℕ, zero, suc, pos, ◌+◌, ◌-◌, ◌*◌, ◌/◌, ◌%◌, ◌<◌, ◌≤◌, ◌⊎◌, ◌==◌, if◌then◌else◌, Bool, List, [], ◌∷◌, ◌++◌, length, map, take, drop, slice_get, slice_index_or, Option, Some, None, Result, Ok, Err, refl, sym, ap, ap₂, ◌∙◌, subst, inl, inr, arith, div-add-mod', zero-mul}
+use Rattle.std.proofs.Common.{◌≡◌, ℕ, zero, suc, pos, ◌+◌, ◌-◌, ◌*◌, ◌/◌, ◌%◌, ◌<◌, ◌≤◌, ◌⊎◌, ◌==◌, if◌then◌else◌, Bool, List, [], ◌∷◌, ◌++◌, length, map, slice_index_or, Some, None, Ok, Err, refl, sym, ap, ap₂, ◌∙◌, subst, inl, inr, arith, div-add-mod', zero-mul}
 use Rattle.std.proofs.Math.Path.{subst⁻¹}
 use Rattle.std.proofs.lemmas.Bool.{cases_eq, ne_eqb}
 use Rattle.std.proofs.lemmas.List.{length-map, append-nil}
@@ -13,26 +13,26 @@ use Rattle.format_spec.specs.declared.PageKind.{PageKind}
 use Rattle.format_spec.specs.declared.CellView.{CellView}
 use Rattle.format_spec.specs.Page.{cell_place}
 use Rattle.page_spec.specs.Pages.{Pages, IsInRange}
-use Rattle.page_spec.specs.Chains.{AreLinked, IsChain, IsBroken, pages_for, chain_bytes}
+use Rattle.page_spec.specs.Chains.{AreLinked, IsChain, pages_for, chain_bytes}
 use Rattle.page_spec.specs.ChainsLaws.{same_chain, chain-not_broken}
 use Rattle.page_layout.specs.ViewsLaws.{view-size}
 use Rattle.refusal.specs.declared.Rule.{Rule}
 use Rattle.refusal.specs.declared.Rule.TheVariants as broken
 use Rattle.tree_spec.specs.declared.TreeKind.{TreeKind}
 use Rattle.tree_spec.specs.declared.TreeKind.TheVariants.{Table, Index}
-use Rattle.tree_spec.specs.Trees.{TreeCell, TreeOf, Member, member, between, kind_at, page_of, cells_behind, own_cells, own_right}
+use Rattle.tree_spec.specs.Trees.{TreeCell, TreeOf, Member, member, between, kind_at, page_of, cells_behind, own_cells}
 use Rattle.tree_spec.specs.Standing.{Sizes, Paged, IsHeld}
 use Rattle.tree_spec.specs.declared.fault.TreeFault.{TreeFault}
 use Rattle.tree_spec.specs.declared.fault.TreeFault.TheVariants.{TreeDamaged}
 use Rattle.tree_spec.specs.Faults.{IsOther, IsDamageOrOther}
 use Rattle.tree_spec.specs.FaultsLaws.{damage-none}
 use Rattle.tree_walk.specs.declared.place.Place.{Place}
-use Rattle.tree_walk.specs.declared.cursor.Cursor.{Cursor}
+use Rattle.tree_walk.specs.declared.path.Cursor.{Cursor}
 use Rattle.tree_walk.specs.declared.cursor.Row.{Row}
 use Rattle.tree_walk.specs.Payloads.{IsBadChain, IsBadPayload, IsPayload, ReadsPayload, part_at, tree_fault}
 use Rattle.tree_walk.specs.Walks.{IsPast, from_child, from_cell, IsPlace, StandsAt, IsFirstRow}
 use Rattle.tree_walk.proofs.PageFacts.{local_part}
-use Rattle.tree_walk.proofs.TreeFacts.{views_of, CellAt, cell-at, all-at, behind-cell, held-own}
+use Rattle.tree_walk.proofs.TreeFacts.{CellAt, cell-at, all-at, behind-cell, held-own}
 use Rattle.tree_walk.proofs.Steps.{low_cell, none_left}
 
 -- only no bytes fill no page

@@ -1,33 +1,29 @@
 -- What each step of a cursor leaves of the members of a standing tree.
-use Rattle.std.proofs.Common.{◌≡◌, ◌≢◌, ℕ, ℤ, zero, suc, ◌+◌, ◌<◌, ◌≤◌, ◌⊎◌, Bool, true, false, List, [], ◌∷◌, ◌++◌, length, map, reverse, drop, slice_get, slice_index_or, Option, Some, None, Result, Ok, Err, refl, sym, ap, ap₂, ◌∙◌, subst, inl, inr, arith, length-append, append_assoc}
+use Rattle.std.proofs.Common.{◌≡◌, ◌≢◌, ℕ, ℤ, zero, suc, ◌+◌, ◌<◌, ◌≤◌, ◌⊎◌, true, false, List, [], ◌∷◌, ◌++◌, length, map, reverse, drop, slice_get, slice_index_or, Option, None, Result, Ok, Err, refl, sym, ap, ap₂, ◌∙◌, subst, inl, inr, arith, length-append, append_assoc}
 use Rattle.std.proofs.Math.Path.{subst⁻¹}
-use Rattle.std.specs.List.{AllByRecursion}
-use Rattle.std.proofs.lemmas.List.{length-map, append-nil, reverse-append, nil_from_length, drop_all}
+use Rattle.std.proofs.lemmas.List.{length-map, append-nil, reverse-append, drop_all}
 use Rattle.std.proofs.lemmas.Bool.{cases_lt}
-use Rattle.common_spec.specs.Reading.{OrFault}
-use Rattle.format_spec.specs.declared.PageKind.{PageKind}
-use Rattle.format_spec.specs.declared.PageKind.TheVariants.{IndexInterior, TableInterior, IndexLeaf, TableLeaf}
+use Rattle.format_spec.specs.declared.PageKind.TheVariants.{TableInterior}
 use Rattle.format_spec.specs.declared.CellView.{CellView}
-use Rattle.page_spec.specs.Pages.{Pages, IsInRange}
+use Rattle.page_spec.specs.Pages.{IsInRange}
 use Rattle.page_layout.specs.Views.{IsRefused}
 use Rattle.refusal.specs.declared.Rule.{Rule}
 use Rattle.refusal.specs.declared.Rule.TheVariants as broken
 use Rattle.tree_spec.specs.declared.TreeKind.{TreeKind}
 use Rattle.tree_spec.specs.declared.TreeKind.TheVariants.{Table, Index}
-use Rattle.tree_spec.specs.Trees.{TreeCell, TreeOf, Rooted, Member, member, between, kind_at, page_of, cells_behind, own_cells, own_right, list_of, IsFull, IsFullBelow}
+use Rattle.tree_spec.specs.Trees.{TreeCell, TreeOf, Rooted, Member, member, between, kind_at, page_of, cells_behind, own_cells, list_of, IsFull, IsFullBelow}
 use Rattle.tree_spec.specs.Bounds.{IsOrdered, greatest_rowid}
-use Rattle.tree_spec.specs.Standing.{Sizes, Paged, Stands, IsRoot, IsTree}
+use Rattle.tree_spec.specs.Standing.{Sizes, Paged, Stands, IsRoot}
 use Rattle.tree_spec.specs.declared.fault.TreeFault.{TreeFault}
-use Rattle.tree_spec.specs.declared.fault.TreeFault.TheVariants.{TreeDamaged}
 use Rattle.tree_spec.specs.Faults.{IsOther, IsDamageOrOther}
 use Rattle.tree_spec.specs.FaultsLaws.{damage-none}
 use Rattle.tree_walk.specs.declared.page.TreePage.{TreePage}
 use Rattle.tree_walk.specs.declared.place.Place.{Place}
-use Rattle.tree_walk.specs.declared.cursor.Cursor.{Cursor}
+use Rattle.tree_walk.specs.declared.path.Cursor.{Cursor}
 use Rattle.tree_walk.specs.Pages.{IsDecoded, is_leaf, tree_kind}
-use Rattle.tree_walk.specs.Places.{low_bound, Rises, child_or, rowid_or, low_in, child_at, low_at, high_at, IsBadStep, IsOutOfPlace, IsBadRoot, IsEntered, IsChild}
+use Rattle.tree_walk.specs.Places.{Rises, child_or, rowid_or, low_in, child_at, low_at, high_at, IsBadStep, IsOutOfPlace, IsBadRoot, IsEntered, IsChild}
 use Rattle.tree_walk.specs.Walks.{IsPast, from_child, behind_child, from_cell, from_place, IsWithin, IsLeftAbove, IsPlace, IsLeft, IsIn, IsAtCell, IsAbove, StandsAt, Leaves, StepsDown}
-use Rattle.tree_walk.proofs.TreeFacts.{views_of, child_tree, tree_kind-at, leaf-at, interior-at, not-refused, read-kind, read-tree_kind, read-views, read-right, tree-rises, from_child-cut, from_place-all, behind-past, cell-at, behind-cell, child-page, child-stands, child-full, child-within}
+use Rattle.tree_walk.proofs.TreeFacts.{child_tree, tree_kind-at, leaf-at, interior-at, not-refused, read-kind, read-tree_kind, read-views, read-right, tree-rises, from_child-cut, from_place-all, behind-past, cell-at, behind-cell, child-page, child-stands, child-full, child-within}
 
 -- a list with one more at its end, from the end
 pub reverse-more : {A : Type 0} (xs : List A) (x : A) → reverse (xs ++ x ∷ []) ≡ x ∷ reverse xs

@@ -10,6 +10,7 @@ ghost use Rattle.tree_walk.specs.Pages.{is_leaf as is_leaf_of};
 ghost use Rattle.tree_walk.specs.Walks.{GoesDown, IsAtCell, IsPast, Lands, MovesOn, ReadsRow, Settles, StandsBelow, StandsFirst, StepsDown};
 
 use crate::entering::{enter_child, enter_root};
+use crate::path::Cursor;
 use crate::payload::read_payload;
 use crate::place::Place;
 use crate::reading::{has_dividers, is_leaf};
@@ -27,13 +28,6 @@ pub struct Row {
     pub payload: Bytes,
 }
 
-/// A place in a tree: at one of its members, or past the last. Its path has at most 25 pages, of which `here` is the last.
-#[derive(Drop)]
-pub struct Cursor {
-    above: ArrayVec<Place, 24, Global>,
-    here: Place,
-}
-
 impl Cursor {
     // Whether the cursor is past all cells of its page.
     fn is_past(&self) -> bool
@@ -43,7 +37,7 @@ impl Cursor {
     }
 
     // Enters the child at which the cursor is. Refuses [55] with `child`, `depth`, `kind`, `cells` or `empty`.
-    fn step_down<S: PageRead>(
+    pub(crate) fn step_down<S: PageRead>(
         &mut self,
         alloc: Global,
         store: &mut S,
@@ -115,7 +109,7 @@ impl Cursor {
     }
 
     // Comes to the first member from the cell on at which the cursor is. Answers whether there is one.
-    fn settle<S: PageRead>(
+    pub(crate) fn settle<S: PageRead>(
         &mut self,
         alloc: Global,
         store: &mut S,

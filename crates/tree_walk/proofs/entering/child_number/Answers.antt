@@ -1,4 +1,4 @@
-use Rattle.std.proofs.Common.{◌≡◌, ℕ, refl, sym, subst}
+use Rattle.std.proofs.Common.{ℕ, refl, subst}
 use Rattle.std.proofs.Math.Path.{subst⁻¹}
 use Rattle.page_spec.specs.Pages.{IsInRange}
 use Rattle.tree_spec.specs.Faults.{IsDamage}

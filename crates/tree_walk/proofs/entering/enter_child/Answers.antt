@@ -1,4 +1,4 @@
-use Rattle.std.proofs.Common.{◌≡◌, Err, refl, inl, inr}
+use Rattle.std.proofs.Common.{Err, refl, inl, inr}
 use Rattle.std.proofs.Math.Path.{subst⁻¹}
 use Rattle.std.proofs.lemmas.Option.{IfSome_then}
 use Rattle.tree_spec.specs.Faults.{IsDamageOrOther}

@@ -1,4 +1,4 @@
-use Rattle.std.proofs.Common.{◌≡◌, ℕ, Err, refl, sym, subst, ◌∙◌}
+use Rattle.std.proofs.Common.{ℕ, Err, refl, subst}
 use Rattle.std.proofs.Math.Path.{subst⁻¹}
 use Rattle.std.proofs.lemmas.Option.{IfSome_then}
 use Rattle.page_spec.specs.Pages.{IsInRange}

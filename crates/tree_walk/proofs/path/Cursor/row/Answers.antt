@@ -1,11 +1,11 @@
-use Rattle.std.proofs.Common.{rules, ◌≡◌, FitsSigned, refl, ◌∙◌}
+use Rattle.std.proofs.Common.{rules, FitsSigned, refl, ◌∙◌}
 use Rattle.std.specs.Int.{w64}
 use Rattle.std.proofs.lemmas.Int.{to_z-of_z}
 use Rattle.std.proofs.lemmas.Option.{IfSome_then}
 use Rattle.tree_walk.specs.Walks.{IsPast}
 use Rattle.tree_walk.proofs.Calls.{some-all}
 use Rattle.tree_walk.proofs.Rows.{no_row, no_view, row-read, row-fault}
-use Rattle.tree_walk.proofs.cursor.Cursor.row.Goals as goal
+use Rattle.tree_walk.proofs.path.Cursor.row.Goals as goal
 
 pub returns-then-is_past-clause-pages : goal.returns-then-is_past-clause-pages
 returns-then-is_past-clause-pages g c =

@@ -1,10 +1,10 @@
-use Rattle.std.proofs.Common.{◌≡◌, ◌++◌, ◌∷◌, [], ℕ, length, ap, ◌∙◌, subst}
+use Rattle.std.proofs.Common.{◌++◌, ◌∷◌, [], ℕ, ap, ◌∙◌, subst}
 use Rattle.std.proofs.Math.Path.{subst⁻¹}
 use Rattle.std.proofs.lemmas.Option.{IfSome_then}
 use Rattle.tree_walk.specs.declared.place.Place.{Place}
 use Rattle.tree_spec.specs.Faults.{IsDamageOrOther}
 use Rattle.tree_walk.specs.Places.{IsBadStep, IsChild}
-use Rattle.tree_walk.proofs.cursor.Cursor.step_down.Goals as goal
+use Rattle.tree_walk.proofs.path.Cursor.step_down.Goals as goal
 
 pub returns-in-Ok-clause-pages : goal.returns-in-Ok-clause-pages
 returns-in-Ok-clause-pages g c =

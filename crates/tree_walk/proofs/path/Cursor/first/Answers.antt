@@ -1,9 +1,9 @@
-use Rattle.std.proofs.Common.{◌≡◌, ℕ, sym, ◌∙◌}
+use Rattle.std.proofs.Common.{◌∙◌}
 use Rattle.std.proofs.lemmas.Option.{IfSome_then}
 use Rattle.common_spec.specs.ToldLaws.{told-both}
 use Rattle.tree_walk.specs.Walks.{StandsBelow}
 use Rattle.tree_walk.proofs.Calls.{at-sizes, root_first, root_not_bad}
-use Rattle.tree_walk.proofs.cursor.Cursor.first.Goals as goal
+use Rattle.tree_walk.proofs.path.Cursor.first.Goals as goal
 
 pub returns-in-Ok-clause-pages : goal.returns-in-Ok-clause-pages
 returns-in-Ok-clause-pages g c =

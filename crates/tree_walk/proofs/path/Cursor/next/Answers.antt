@@ -4,7 +4,7 @@ use Rattle.tree_walk.specs.Pages.{is_leaf}
 use Rattle.tree_walk.specs.Walks.{IsPast}
 use Rattle.tree_walk.proofs.Calls.{some-all}
 use Rattle.tree_walk.proofs.Steps.{stays_past, next_of_leaf, next_of_index}
-use Rattle.tree_walk.proofs.cursor.Cursor.next.Goals as goal
+use Rattle.tree_walk.proofs.path.Cursor.next.Goals as goal
 
 pub returns-then-is_past-clause-pages : goal.returns-then-is_past-clause-pages
 returns-then-is_past-clause-pages g c =

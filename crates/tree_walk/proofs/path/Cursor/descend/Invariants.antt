@@ -1,7 +1,7 @@
 use Rattle.std.proofs.Common.{◌≡◌, ◌-◌, length, IfSome}
 use Rattle.page_store.specs.Store.{Stays}
 use Rattle.tree_walk.proofs.Calls.{KeepsLeft}
-use Rattle.tree_walk.proofs.cursor.Cursor.descend.Given as goal
+use Rattle.tree_walk.proofs.path.Cursor.descend.Given as goal
 
 abbrev pub invariant-loop-alloc : goal.invariant-loop-alloc
 invariant-loop-alloc g l = record {

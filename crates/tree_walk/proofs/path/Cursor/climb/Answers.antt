@@ -1,12 +1,11 @@
-use Rattle.std.proofs.Common.{◌≡◌, ◌<◌, length, ap, refl}
+use Rattle.std.proofs.Common.{ap, refl}
 use Rattle.std.proofs.Math.Path.{subst⁻¹}
 use Rattle.arrayvec.specs.ArrayVec.{ArrayVec}
 use Rattle.tree_walk.specs.declared.place.Place.{Place}
-use Rattle.tree_walk.specs.declared.cursor.Cursor.{Cursor}
 use Rattle.tree_walk.specs.Walks.{IsAtCell}
 use Rattle.tree_walk.proofs.Calls.{none_popped}
 use Rattle.tree_walk.proofs.Steps.{climbed}
-use Rattle.tree_walk.proofs.cursor.Cursor.climb.Goals as goal
+use Rattle.tree_walk.proofs.path.Cursor.climb.Goals as goal
 
 pub loop-self-init : goal.loop-self-init
 loop-self-init c = λ sizes base kind rest at. at

@@ -4,7 +4,7 @@ use Rattle.tree_walk.specs.Pages.{has_dividers}
 use Rattle.tree_walk.specs.Walks.{IsPast}
 use Rattle.tree_walk.proofs.Calls.{some-all, dividers, no_dividers}
 use Rattle.tree_walk.proofs.Steps.{settled-past, settled-cell, next_of_table}
-use Rattle.tree_walk.proofs.cursor.Cursor.settle.Goals as goal
+use Rattle.tree_walk.proofs.path.Cursor.settle.Goals as goal
 
 pub returns-then-is_past-clause-pages : goal.returns-then-is_past-clause-pages
 returns-then-is_past-clause-pages g c =

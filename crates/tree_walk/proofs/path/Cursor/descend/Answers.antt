@@ -1,11 +1,11 @@
-use Rattle.std.proofs.Common.{◌≡◌, false, true, ℕ, Ok, Err, sym, refl, ◌∙◌}
+use Rattle.std.proofs.Common.{◌≡◌, false, Ok, Err, sym, refl, ◌∙◌}
 use Rattle.std.proofs.lemmas.Option.{IfSome_then}
 use Rattle.common_spec.specs.ToldLaws.{told-both}
 use Rattle.tree_walk.specs.Pages.{is_leaf}
 use Rattle.tree_walk.specs.Walks.{StepsDown}
 use Rattle.tree_walk.proofs.Calls.{at-sizes, some-all}
 use Rattle.tree_walk.proofs.Steps.{stepped}
-use Rattle.tree_walk.proofs.cursor.Cursor.descend.Goals as goal
+use Rattle.tree_walk.proofs.path.Cursor.descend.Goals as goal
 
 pub loop-alloc-init : goal.loop-alloc-init
 loop-alloc-init g c = record {

@@ -5,7 +5,7 @@ ghost use Rattle.page_spec.specs.Rooms.{IsOneCell, needs as bytes_needed};
 ghost use Rattle.page_store.specs.Store.{HasSizes, IsNumber, OwesBy};
 ghost use Rattle.tree_balance.specs.Cuts.{page_room};
 ghost use Rattle.tree_level.specs.Levels.{Settles};
-ghost use Rattle.tree_pages.specs.Faults.{fault_in};
+ghost use Rattle.tree_spec.specs.Faults.{fault_in};
 ghost use Rattle.tree_pages.specs.Writers.{Becomes, sizes_of};
 
 use crate::spreading::{Spread, spread_cells};

@@ -4,7 +4,7 @@ ghost use Rattle.std.specs.List.{All};
 ghost use Rattle.page_spec.specs.Rooms.{IsOneCell, free_bytes, needs as bytes_needed};
 ghost use Rattle.page_store.specs.Store.{HasSizes, Looks, OwesBy};
 ghost use Rattle.tree_level.specs.Levels.{WritesNode, WritesPage, with_header};
-ghost use Rattle.tree_pages.specs.Faults.{fault_in};
+ghost use Rattle.tree_spec.specs.Faults.{fault_in};
 ghost use Rattle.tree_pages.specs.Writers.{Becomes, sizes_of};
 
 use cell_codec::PageKind;

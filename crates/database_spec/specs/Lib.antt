@@ -14,3 +14,4 @@ pub mod RowsLaws
 pub mod KeysLaws
 pub mod FileFaultsLaws
 pub mod TreeWalksLaws
+pub mod LittleTarget

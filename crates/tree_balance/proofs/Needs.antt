@@ -96,12 +96,12 @@ needs-parts cells i =
     omega (arith, sum_by-take-drop cell_room cells i, ap length (take-append-drop i cells), length-append (take i cells) (drop i cells))
 
 -- cells that need more than a page has room for are as many as a cut needs
-needs-below : (room : ℕ) (cells : List (List ℕ)) → All (λ cell. cell_room cell + 2 ≤ room) cells → needs cells ≤ length cells * room
+pub needs-below : (room : ℕ) (cells : List (List ℕ)) → All (λ cell. cell_room cell + 2 ≤ room) cells → needs cells ≤ length cells * room
 needs-below room [] all = omega arith
 needs-below room (x ∷ xs) all =
     omega (arith, needs-below room xs (λ k d low. all (suc k) d (omega arith)), all 0 x (omega arith), sum_by-cons cell_room x xs)
 
-thrice-below : (room : ℕ) (cells : List (List ℕ)) → All (λ cell. 3 * (cell_room cell + 2) ≤ room) cells → 3 * needs cells ≤ length cells * room
+pub thrice-below : (room : ℕ) (cells : List (List ℕ)) → All (λ cell. 3 * (cell_room cell + 2) ≤ room) cells → 3 * needs cells ≤ length cells * room
 thrice-below room [] all = omega arith
 thrice-below room (x ∷ xs) all =
     omega (arith, thrice-below room xs (λ k d low. all (suc k) d (omega arith)), all 0 x (omega arith), sum_by-cons cell_room x xs)

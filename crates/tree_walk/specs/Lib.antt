@@ -2,3 +2,4 @@ pub mod Pages
 pub mod Places
 pub mod Payloads
 pub mod Walks
+pub mod Seeks

@@ -5,11 +5,12 @@ ghost use Rattle.page_store.specs.Store.{HasSizes, OwesBy, Sees};
 ghost use Rattle.tree_spec.specs.declared.TreeKind.{TreeKind};
 ghost use Rattle.tree_spec.specs.Trees.{Member};
 ghost use Rattle.tree_spec.specs.Standing.{Paged, Sizes};
-ghost use Rattle.tree_walk.specs.Pages.{fault_in, is_leaf as is_leaf_of};
+ghost use Rattle.tree_spec.specs.Faults.{fault_in};
+ghost use Rattle.tree_walk.specs.Pages.{is_leaf as is_leaf_of};
 ghost use Rattle.tree_walk.specs.Walks.{GoesDown, IsAtCell, IsPast, Lands, MovesOn, ReadsRow, Settles, StandsBelow, StandsFirst, StepsDown};
 
 use crate::entering::{enter_child, enter_root};
-use crate::fault::TreeFault;
+use crate::path::Cursor;
 use crate::payload::read_payload;
 use crate::place::Place;
 use crate::reading::{has_dividers, is_leaf};
@@ -18,19 +19,13 @@ use page_store::PageRead;
 use rbu_value::Bytes;
 use std::alloc::Global;
 use std::mem;
+use tree_spec::TreeFault;
 
 /// A member of a tree: a row of a table, with its record, or an entry of an index, whose rowid is 0.
 #[derive(Drop)]
 pub struct Row {
     pub rowid: i64,
     pub payload: Bytes,
-}
-
-/// A place in a tree: at one of its members, or past the last. Its path has at most 25 pages, of which `here` is the last.
-#[derive(Drop)]
-pub struct Cursor {
-    above: ArrayVec<Place, 24, Global>,
-    here: Place,
 }
 
 impl Cursor {
@@ -42,7 +37,7 @@ impl Cursor {
     }
 
     // Enters the child at which the cursor is. Refuses [55] with `child`, `depth`, `kind`, `cells` or `empty`.
-    fn step_down<S: PageRead>(
+    pub(crate) fn step_down<S: PageRead>(
         &mut self,
         alloc: Global,
         store: &mut S,
@@ -114,7 +109,7 @@ impl Cursor {
     }
 
     // Comes to the first member from the cell on at which the cursor is. Answers whether there is one.
-    fn settle<S: PageRead>(
+    pub(crate) fn settle<S: PageRead>(
         &mut self,
         alloc: Global,
         store: &mut S,

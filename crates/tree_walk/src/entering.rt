@@ -3,11 +3,11 @@ ghost use Rattle.std.specs.Prelude.{◌≡◌, ◌<◌, ◌≤◌, ◌↔◌, �
 ghost use Rattle.common_spec.specs.Reading.{OrFault};
 ghost use Rattle.page_spec.specs.Pages.{IsInRange};
 ghost use Rattle.page_store.specs.Store.{HasSizes, OwesBy, Sees};
-ghost use Rattle.tree_walk.specs.Pages.{IsDecoded, fault_in, tree_kind as tree_kind_of};
+ghost use Rattle.tree_spec.specs.Faults.{IsDamage, fault_in};
+ghost use Rattle.tree_walk.specs.Pages.{IsDecoded, tree_kind as tree_kind_of};
 ghost use Rattle.tree_walk.specs.Places.{EntersChild, EntersPage, EntersRoot, IsBounded, IsChildNumber, OutOfOrder, child_at};
 
 use crate::bounds::is_in_order;
-use crate::fault::{TreeFault, damaged};
 use crate::page::TreePage;
 use crate::place::Place;
 use crate::reading::{read_page, tree_kind};
@@ -15,6 +15,7 @@ use cell_codec::PageKind;
 use page_store::{PageRead, is_in_range};
 use refusal::Rule;
 use std::alloc::Global;
+use tree_spec::{TreeFault, damaged};
 
 // The number of the child at which a place is.
 fn child_of(place: &Place) -> u32
@@ -41,7 +42,7 @@ pub fn child_number<S: PageRead>(store: &S, parent: &Place) -> Result<u32, TreeF
 
 // Stands at the first cell or child of a page. Refuses [55] with `cells` where its rowids do not keep the bounds.
 fn stand<F>(page: TreePage, low: Option<i64>, high: i64) -> Result<Place, TreeFault<F>>
-    ensures answer { OrFault (IsBounded page low high) (OutOfOrder page low high) result }
+    ensures answer { OrFault (IsBounded page low high) (IsDamage (OutOfOrder page low high)) result }
     ensures cause { IfErr result (λ fault. fault_in fault ≡ None) }
 {
     if !is_in_order(&page, low, high) {

@@ -1,0 +1,16 @@
+pub mod Walks
+pub mod SchemaRows
+pub mod Catalogs
+pub mod RightRows
+pub mod Rows
+pub mod Keys
+pub mod Databases
+pub mod FileFindings
+pub mod FileFaults
+pub mod WalksLaws
+pub mod ListsLaws
+pub mod CatalogsLaws
+pub mod RowsLaws
+pub mod KeysLaws
+pub mod FileFaultsLaws
+pub mod TreeWalksLaws

@@ -1,27 +1,30 @@
 -- What is left of cells while their fronts go to pages that are taken.
-use Rattle.std.proofs.Common.{◌≡◌, ℕ, zero, suc, ◌+◌, ◌-◌, ◌*◌, ◌^◌, ◌<◌, ◌≤◌, List, [], ◌∷◌, ◌++◌, Result, Ok, Err, OnOk, length, map, take, drop, slice_index_or, refl, sym, ap, ◌∙◌, subst, arith, length-append}
+use Rattle.std.proofs.Common.{◌≡◌, ◌≢◌, ℕ, zero, suc, ◌+◌, ◌-◌, ◌*◌, ◌^◌, ◌<◌, ◌≤◌, List, [], ◌∷◌, ◌++◌, Result, Ok, Err, OnOk, length, take, drop, slice_index_or, refl, sym, ap, ◌∙◌, subst, arith}
 use Rattle.std.proofs.Math.Path.{subst⁻¹}
-use Rattle.std.proofs.lemmas.List.{map-append, take-append-drop, drop-drop, length-drop, length-take, length-take-le, get_or-take, get_or-drop, take_all}
-use Rattle.std.specs.List.{All, AllByRecursion}
+use Rattle.std.proofs.lemmas.List.{map-append, drop-drop, length-drop, length-take, length-take-le, get_or-take, get_or-drop, take_all}
+use Rattle.std.specs.List.{All}
 use Rattle.format_spec.specs.declared.PageKind.{PageKind}
 use Rattle.format_spec.specs.declared.PageKind.TheVariants.{IndexInterior, TableInterior, IndexLeaf, TableLeaf}
 use Rattle.format_spec.specs.Cell.{IsCell}
-use Rattle.format_spec.specs.Page.{IsPage, header_place}
-use Rattle.page_spec.specs.Rooms.{needs, right_kept, free_bytes, IsWritten}
+use Rattle.format_spec.specs.Page.{IsPage, header_place, header_length, cell_room}
+use Rattle.page_spec.specs.Rooms.{IsOneCell, needs, right_kept, free_bytes, IsWritten}
 use Rattle.page_spec.specs.Pages.{IsInRange}
 use Rattle.tree_spec.specs.declared.TreeKind.{TreeKind}
 use Rattle.tree_spec.specs.Trees.{interior_kind, kind_at}
 use Rattle.tree_spec.specs.Standing.{Sizes, Paged, IsNumber}
 use Rattle.tree_spec.specs.PagesLaws.{page-kept, header_place-none}
 use Rattle.tree_spec.specs.WorldsLaws.{all-join}
-use Rattle.tree_spec.specs.Changes.{Writes}
 use Rattle.tree_balance.specs.Cuts.{risen, page_room}
-use Rattle.tree_balance.specs.NeedsLaws.{needs-parts}
-use Rattle.put_spec.specs.Steps.{Spelled, bytes_in, Took, IsFronted, IsSpread}
+use Rattle.tree_balance.specs.NeedsLaws.{cell-need, needs-parts, thrice-below}
+use Rattle.std.proofs.Math.Nat.{mul-le-mul_left}
+use Rattle.std.proofs.lemmas.Bool.Decides.{nat_tests}
+use Rattle.format_spec.specs.Sizes.{IsUsable}
+use Rattle.tree_spec.specs.declared.TreeKind.TheVariants.{Table, Index}
+use Rattle.put_spec.specs.Steps.{Spelled, bytes_in, Took, IsFronted}
 use Rattle.put_spec.specs.StepsLaws.{took-written}
 use Rattle.put_spec.specs.SpreadsLaws.{spread-then, spread-settled}
 use Rattle.tree_level.specs.declared.writing.Node.{Node}
-use Rattle.tree_level.specs.Levels.{AreSpelled, WritesPage, WritesNode, IsDivider, left_child, SpreadsTo, SettlesTo, Spreads, Settles}
+use Rattle.tree_level.specs.Levels.{AreSpelled, WritesPage, WritesNode, IsDivider, left_child, SpreadsTo, Spreads, Settles, MovesOut, above_kind}
 use Rattle.tree_level.proofs.Raised.{front-cut}
 
 pub on-ok_map : {T E P Q : Type 0} (result : Result T E) → (P → Q) → OnOk result P → OnOk result Q
@@ -107,6 +110,49 @@ module _ (sizes : Sizes) (bytes : List (List ℕ)) (front child : ℕ) (divider 
       subst (λ (k : PageKind). front + risen k < length bytes → IsDivider k sizes.usable bytes front child divider → Fronted k → AreSpelled k sizes.usable cells bytes
       → SpreadsTo sizes levels kind cells (divider ∷ []) (drop (front + risen k) bytes) old new) same (front-on_page levels kind cells some) within is written
 
+-- cells that are cells of a kind can be read
+pub spelled-of : (kind : PageKind) (usable : ℕ) (bytes : List (List ℕ)) → All (IsOneCell kind usable) bytes → (cells : List Spelled) × AreSpelled kind usable cells bytes
+spelled-of kind usable [] all = ([], record { bytes_are = refl; are_cells = tt })
+spelled-of kind usable (x ∷ xs) all =
+    let one = all 0 x (omega arith) in
+    let rest = spelled-of kind usable xs (λ k d low. all (suc k) d (omega arith)) in
+    let cell : Spelled = record { bytes = x; view = one.0 } in
+    (cell ∷ rest.0, record { bytes_are = ap (λ (l : List (List ℕ)). x ∷ l) rest.1.bytes_are; are_cells = (one.1, rest.1.are_cells) })
+
+above-at : (levels : ℕ) (kind : TreeKind) → above_kind (kind_at kind levels) ≡ interior_kind kind
+above-at zero Table = refl
+above-at zero Index = refl
+above-at (suc levels) Table = refl
+above-at (suc levels) Index = refl
+
+levels-of : (page_kind : PageKind) → (levels : ℕ) × (kind : TreeKind) × (kind_at kind levels ≡ page_kind)
+levels-of TableLeaf = (0, Table, refl)
+levels-of TableInterior = (1, Table, refl)
+levels-of IndexLeaf = (0, Index, refl)
+levels-of IndexInterior = (1, Index, refl)
+
+-- the cell that goes up is one of the pages above
+pub divider-cell : (page_kind : PageKind) (usable : ℕ) (bytes : List (List ℕ)) (front child : ℕ) (divider : List ℕ) → child < 2 ^ 32 → All (IsOneCell page_kind usable) bytes → 1 ≤ front
+    → front + risen page_kind < length bytes → IsDivider page_kind usable bytes front child divider → IsOneCell (above_kind page_kind) usable divider
+divider-cell page_kind usable bytes front child divider fits all =
+    let of = levels-of page_kind in
+    subst (λ (k : PageKind). All (IsOneCell k usable) bytes → 1 ≤ front → front + risen k < length bytes → IsDivider k usable bytes front child divider → IsOneCell (above_kind k) usable divider) of.2
+    (at of.0 of.1) all
+  where
+    at : (levels : ℕ) (kind : TreeKind) → All (IsOneCell (kind_at kind levels) usable) bytes → 1 ≤ front → front + risen (kind_at kind levels) < length bytes
+        → IsDivider (kind_at kind levels) usable bytes front child divider → IsOneCell (above_kind (kind_at kind levels)) usable divider
+    at levels kind all some within is =
+        let s = spelled-of (kind_at kind levels) usable bytes all in
+        let f = front-cut levels kind usable s.0 bytes front child divider fits s.1 some within is in
+        subst⁻¹ (λ (k : PageKind). IsOneCell k usable divider) (above-at levels kind)
+        (f.up.view, subst (λ (l : List ℕ). IsCell (interior_kind kind) usable l f.up.view) f.up_is f.is_cell)
+
+pub all-more : {A : Type 0} (P : A → Type 0) (xs : List A) (x : A) → All P xs → P x → All P (xs ++ x ∷ [])
+all-more P [] x all p zero d low = p
+all-more P [] x all p (suc k) d low = absurd (omega arith)
+all-more P (y ∷ ys) x all p zero d low = all 0 d (omega arith)
+all-more P (y ∷ ys) x all p (suc k) d low = all-more P ys x (λ k d low. all (suc k) d (omega arith)) p k d (omega arith)
+
 -- no front is cut off yet
 pub spreads-none : (sizes : Sizes) (page_kind : PageKind) (bytes : List (List ℕ)) (a : Paged) → Spreads sizes page_kind bytes [] bytes a a
 spreads-none sizes page_kind bytes a levels kind cells same are = record {
@@ -147,6 +193,67 @@ spreads-settled sizes node bytes left dividers a b c spreads written levels kind
           (subst⁻¹ (λ (k : PageKind). IsPage (c.pages node.number) node.number sizes.usable k (bytes_in s.back) right) same
           (subst⁻¹ (λ (l : List (List ℕ)). IsPage (c.pages node.number) node.number sizes.usable node.kind l right) s.back_are.bytes_are written.is_page));
     }
+
+-- or, at a root, they are moved out
+pub spreads-moved : (sizes : Sizes) (root : Node) (fresh : ℕ) (bytes left dividers : List (List ℕ)) (a b c d e : Paged) → Spreads sizes root.kind bytes dividers left a b → Took sizes fresh b c
+    → IsNumber sizes c fresh → WritesNode sizes (record { number = fresh; kind = root.kind; right = root.right }) left c d
+    → WritesNode sizes (record { number = root.number; kind = above_kind root.kind; right = fresh }) dividers d e → 0 < length left → (root.number ≢ 1 → 0 < length dividers)
+    → MovesOut sizes root bytes a e
+spreads-moved sizes root fresh bytes left dividers a b c d e spreads took in_range below above some many levels kind cells same are =
+    let s = spreads levels kind cells same are in
+    let right = right_kept root.kind root.right in
+    let kind_is : above_kind root.kind ≡ interior_kind kind = ap above_kind (sym same) ∙ above-at levels kind in
+    record {
+      dividers = s.up;
+      left = s.back;
+      spread_out = b;
+      fresh = fresh;
+      between = d;
+      spread = s.spread;
+      took = took-written sizes fresh b c d took below.writes;
+      in_range = subst⁻¹ (λ (n : ℕ). IsInRange sizes.size n fresh) below.writes.count in_range;
+      is_page = subst⁻¹ (λ (k : PageKind). IsPage (d.pages fresh) fresh sizes.usable k (bytes_in s.back) right) same
+          (subst⁻¹ (λ (l : List (List ℕ)). IsPage (d.pages fresh) fresh sizes.usable root.kind l right) s.back_are.bytes_are below.is_page);
+      writes = above.writes;
+      root_page = subst (λ (k : PageKind). IsPage (e.pages root.number) root.number sizes.usable k (bytes_in s.up) fresh) kind_is
+          (subst⁻¹ (λ (l : List (List ℕ)). IsPage (e.pages root.number) root.number sizes.usable (above_kind root.kind) l fresh) s.up_are.bytes_are
+          (subst (λ (r : ℕ). IsPage (e.pages root.number) root.number sizes.usable (above_kind root.kind) dividers r) (kept-above root.kind fresh) above.is_page));
+      left_some = omega (arith, some, spelled-long s.back, ap length s.back_are.bytes_are);
+      some = λ other. omega (arith, many other, spelled-long s.up, ap length s.up_are.bytes_are);
+    }
+  where
+    kept-above : (kind : PageKind) (right : ℕ) → right_kept (above_kind kind) right ≡ right
+    kept-above TableLeaf right = refl
+    kept-above TableInterior right = refl
+    kept-above IndexLeaf right = refl
+    kept-above IndexInterior right = refl
+
+    spelled-long : (cells : List Spelled) → length (bytes_in cells) ≡ length cells
+    spelled-long [] = refl
+    spelled-long (cell ∷ cells) = omega (arith, spelled-long cells)
+
+-- two cells of an interior page have room in any page, also in page 1
+pub two-fit : (kind : PageKind) (number usable : ℕ) (cells : List (List ℕ)) → IsUsable usable → All (IsOneCell (above_kind kind) usable) cells → length cells ≤ 2
+    → needs cells ≤ free_bytes number usable (above_kind kind) []
+two-fit kind number usable cells sizes all few = omega (arith, by kind all, header_place-most number, above-header kind, sizes.least)
+  where
+    above-header : (kind : PageKind) → header_length (above_kind kind) ≡ 12
+    above-header TableLeaf = refl
+    above-header TableInterior = refl
+    above-header IndexLeaf = refl
+    above-header IndexInterior = refl
+
+    header_place-most : (number : ℕ) → header_place number ≤ 100
+    header_place-most number = grind (arith, nat_tests)
+
+    third : (interior : PageKind) (room : ℕ) (cells : List (List ℕ)) → All (λ cell. 3 * (cell_room cell + 2) ≤ room) cells → length cells ≤ 2 → 3 * needs cells ≤ 2 * room
+    third interior room cells all few = omega (arith, thrice-below room cells all, mul-le-mul_left room few)
+
+    by : (kind : PageKind) → All (IsOneCell (above_kind kind) usable) cells → 3 * needs cells ≤ 2 * (usable - 12)
+    by TableLeaf all = third TableInterior (usable - 12) cells (λ k d low. omega (arith, cell-need TableInterior usable (slice_index_or cells k d) sizes (all k d low))) few
+    by TableInterior all = third TableInterior (usable - 12) cells (λ k d low. omega (arith, cell-need TableInterior usable (slice_index_or cells k d) sizes (all k d low))) few
+    by IndexLeaf all = third IndexInterior (usable - 12) cells (λ k d low. omega (arith, cell-need IndexInterior usable (slice_index_or cells k d) sizes (all k d low))) few
+    by IndexInterior all = third IndexInterior (usable - 12) cells (λ k d low. omega (arith, cell-need IndexInterior usable (slice_index_or cells k d) sizes (all k d low))) few
 
 -- How many fronts there may be.
 

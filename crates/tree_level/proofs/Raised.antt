@@ -1,12 +1,12 @@
 -- Cells in parts, and the cells that go up.
-use Rattle.std.proofs.Common.{◌≡◌, ℕ, ℤ, zero, suc, ◌+◌, ◌-◌, ◌*◌, ◌^◌, ◌<◌, ◌≤◌, List, [], ◌∷◌, ◌++◌, Result, Ok, Err, IfOk, length, map, take, drop, slice_index_or, refl, sym, ap, ◌∙◌, subst, append_assoc, length-append, arith}
+use Rattle.std.proofs.Common.{◌≡◌, ℕ, ℤ, zero, suc, ◌+◌, ◌-◌, ◌^◌, ◌<◌, ◌≤◌, List, [], ◌∷◌, ◌++◌, Result, Ok, Err, IfOk, length, map, take, drop, slice_index_or, refl, sym, ap, ◌∙◌, subst, length-append, arith}
 use Rattle.std.proofs.Math.Path.{subst⁻¹}
 use Rattle.std.proofs.Math.Seq.{take-append_seam, drop-append_seam, drop-append-add}
-use Rattle.std.proofs.lemmas.List.{take-map, drop-map, take-append-drop, append-nil, length-take-le, length-drop, take_all}
-use Rattle.std.proofs.lemmas.Int.{ints, to_z-of_z}
+use Rattle.std.proofs.lemmas.List.{take-map, drop-map, take-append-drop, append-nil, length-take-le, take_all}
+use Rattle.std.proofs.lemmas.Int.{ints}
 use Rattle.std.specs.Int.{w64, cast_signed, cast_unsigned}
 use Rattle.std.specs.Int.RustNames.{FitsSigned}
-use Rattle.std.specs.List.{All, AllByRecursion}
+use Rattle.std.specs.List.{AllByRecursion}
 use Rattle.byteorder.specs.Endian.{big_bytes, big_number}
 use Rattle.byteorder.specs.Numbers.{length-bytes_high_first, big_number-reads_back}
 use Rattle.byte_fields.specs.Bytes.{part_of}
@@ -27,7 +27,7 @@ use Rattle.tree_spec.specs.declared.TreeKind.TheVariants.{Table, Index}
 use Rattle.tree_spec.specs.Trees.{interior_kind, kind_at}
 use Rattle.tree_spec.specs.WorldsLaws.{all-front, all-back}
 use Rattle.tree_balance.specs.Cuts.{risen}
-use Rattle.put_spec.specs.Steps.{Spelled, bytes_in, IsRaised, AreParts}
+use Rattle.put_spec.specs.Steps.{Spelled, bytes_in, AreParts}
 use Rattle.tree_level.specs.Levels.{AreSpelled, IsEndDivider, IsDivider, left_child}
 
 -- the item at a place of a list, and what stands before and behind it

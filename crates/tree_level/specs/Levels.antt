@@ -14,7 +14,7 @@ use Rattle.tree_spec.specs.declared.TreeKind.{TreeKind}
 use Rattle.tree_spec.specs.Trees.{interior_kind, kind_at}
 use Rattle.tree_spec.specs.Standing.{Sizes, Paged, SamePage}
 use Rattle.tree_spec.specs.Changes.{Writes}
-use Rattle.put_spec.specs.Steps.{Spelled, bytes_in, IsSpread, IsSettled}
+use Rattle.put_spec.specs.Steps.{Spelled, bytes_in, IsSpread, IsSettled, IsMovedOut}
 use Rattle.tree_level.specs.declared.writing.Node.{Node}
 
 -- the page with what stands in front of another page's header, as the database header does on page 1
@@ -47,6 +47,13 @@ IsDivider TableInterior usable cells front child divider = divider ≡ big_bytes
 IsDivider IndexLeaf usable cells front child divider = divider ≡ big_bytes 4 child ++ slice_index_or cells front []
 IsDivider IndexInterior usable cells front child divider = divider ≡ big_bytes 4 child ++ drop 4 (slice_index_or cells front [])
 
+-- the kind of the pages above those of a kind
+abbrev pub above_kind : PageKind → PageKind
+above_kind TableLeaf = TableInterior
+above_kind TableInterior = TableInterior
+above_kind IndexLeaf = IndexInterior
+above_kind IndexInterior = IndexInterior
+
 -- the page that a cell names as its left child; a leaf's cell names none
 abbrev pub left_child : PageKind → List ℕ → ℕ
 left_child TableLeaf cell = 0
@@ -74,6 +81,12 @@ abbrev pub Spreads : Sizes → PageKind → List (List ℕ) → List (List ℕ) 
 Spreads sizes page_kind bytes dividers left old new =
     (levels : ℕ) (kind : TreeKind) (cells : List Spelled) → kind_at kind levels ≡ page_kind → AreSpelled page_kind sizes.usable cells bytes
     → SpreadsTo sizes levels kind cells dividers left old new
+
+-- the cells that a root's page is to have were moved out
+abbrev pub MovesOut : Sizes → Node → List (List ℕ) → Paged → Paged → Type 0
+MovesOut sizes root bytes old new =
+    (levels : ℕ) (kind : TreeKind) (cells : List Spelled) → kind_at kind levels ≡ root.kind → AreSpelled root.kind sizes.usable cells bytes
+    → IsMovedOut sizes levels kind root.number (right_kept root.kind root.right) cells old new
 
 abbrev pub Settles : Sizes → Node → List (List ℕ) → List (List ℕ) → Paged → Paged → Type 0
 Settles sizes node bytes dividers old new =

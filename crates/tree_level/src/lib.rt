@@ -8,6 +8,5 @@ mod settling;
 mod spreading;
 mod writing;
 
-pub use settling::settle;
-pub use spreading::Spread;
+pub use settling::{move_out, settle};
 pub use writing::{Node, write_node, write_page};

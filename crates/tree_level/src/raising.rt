@@ -46,12 +46,7 @@ fn key_cell(alloc: Global, child: u32, rowid: i64) -> Result<Bytes, AllocError>
 }
 
 // The cell of a table's interior page with a child and the rowid of a leaf's cell.
-fn end_divider(
-    alloc: Global,
-    end: &[u8],
-    usable: u32,
-    child: u32,
-) -> Result<Bytes, AllocError>
+fn end_divider(alloc: Global, end: &[u8], usable: u32, child: u32) -> Result<Bytes, AllocError>
     requires usable { IsUsable usable }
     requires cell { IsOneCell TableLeaf usable end.now }
     ensures { IfOk result (IsEndDivider usable end.now child) }

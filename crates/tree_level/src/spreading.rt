@@ -4,7 +4,7 @@ ghost use Rattle.std.specs.List.{All};
 ghost use Rattle.page_spec.specs.Rooms.{IsOneCell, needs as bytes_needed};
 ghost use Rattle.page_store.specs.Store.{HasSizes, OwesBy};
 ghost use Rattle.tree_balance.specs.Cuts.{page_room, risen as cells_risen};
-ghost use Rattle.tree_level.specs.Levels.{Spreads};
+ghost use Rattle.tree_level.specs.Levels.{Spreads, above_kind};
 ghost use Rattle.tree_spec.specs.Faults.{fault_in};
 ghost use Rattle.tree_pages.specs.Writers.{Becomes, sizes_of};
 
@@ -44,6 +44,7 @@ fn write_front<S: PageWrite>(
     requires over { page_room kind (S.usable store.old) < bytes_needed cells.now }
     requires place { place < length cells.now }
     ensures spread { IfOk result (λ front. Becomes S.PageRead store.old store.new (Spreads (sizes_of S.PageRead store.old) kind cells.now (front.divider ∷ []) (drop front.used cells.now))) }
+    ensures divider { IfOk result (λ front. IsOneCell (above_kind kind) (S.usable store.old) front.divider) }
     ensures some { IfOk result (λ front. 1 ≤ front.used) }
     ensures left { IfOk result (λ front. front.used < length cells.now) }
     ensures half { IfOk result (λ front. bytes_needed cells.now ≤ 2 * page_room kind (S.usable store.old) → 2 * bytes_needed (drop (front.used + 1) cells.now) ≤ bytes_needed cells.now) }
@@ -66,8 +67,8 @@ fn write_front<S: PageWrite>(
     })
 }
 
-// Puts a cell behind others.
-fn push_cell(cells: &mut Vec<Bytes>, cell: Bytes) -> Result<(), AllocError>
+/// Puts a cell behind others.
+pub fn push_cell(cells: &mut Vec<Bytes>, cell: Bytes) -> Result<(), AllocError>
     ensures { OnOk result (cells.new.items ≡ cells.old.items ++ cell ∷ []) }
 {
     match cells.push(cell) {
@@ -101,6 +102,7 @@ pub fn spread_cells<S: PageWrite>(
     requires cells { All (IsOneCell kind (S.usable store.old)) cells.now }
     requires place { place < length cells.now }
     ensures spread { IfOk result (λ spread. Becomes S.PageRead store.old store.new (Spreads (sizes_of S.PageRead store.old) kind cells.now spread.dividers.items (drop spread.start cells.now))) }
+    ensures dividers { IfOk result (λ spread. All (IsOneCell (above_kind kind) (S.usable store.old)) spread.dividers.items) }
     ensures left { IfOk result (λ spread. spread.start < length cells.now) }
     ensures fits { IfOk result (λ spread. bytes_needed (drop spread.start cells.now) ≤ page_room kind (S.usable store.old)) }
     ensures over { IfOk result (λ spread. page_room kind (S.usable store.old) < bytes_needed cells.now → 1 ≤ length spread.dividers.items) }

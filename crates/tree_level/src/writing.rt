@@ -111,7 +111,14 @@ pub fn write_node<S: PageWrite>(
     ensures count { S.count store.new ≡ S.count store.old }
     ensures owes { OwesBy S.PageRead fault_in store.old store.new result }
 {
-    match rebuild(page, node.number, store.usable(), node.kind, cells, node.right) {
+    match rebuild(
+        page,
+        node.number,
+        store.usable(),
+        node.kind,
+        cells,
+        node.right,
+    ) {
         Ok(()) => write_page(alloc, store, node.number, page),
         Err(_) => unreachable!(),
     }

@@ -1,9 +1,9 @@
-use Rattle.std.proofs.Common.{◌≡◌, ◌+◌, ◌-◌, ◌≤◌, ◌<◌, ℕ, List, [], length, slice_index_or, IfOk, Ok, Err, sym, ap, ◌∙◌, subst, arith, inl, inr}
+use Rattle.std.proofs.Common.{◌≡◌, ◌-◌, ℕ, List, [], length, slice_index_or, ap, ◌∙◌, subst, arith, inl, inr}
 use Rattle.std.proofs.Math.Path.{subst⁻¹}
 use Rattle.std.proofs.lemmas.List.{get_or_default}
 use Rattle.format_spec.specs.declared.PageKind.{PageKind}
-use Rattle.format_spec.specs.declared.PageKind.TheVariants.{IndexInterior, TableInterior, IndexLeaf, TableLeaf}
-use Rattle.format_spec.specs.Cell.{IsCell, child_size}
+use Rattle.format_spec.specs.declared.PageKind.TheVariants.{TableLeaf}
+use Rattle.format_spec.specs.Cell.{child_size}
 use Rattle.page_spec.specs.Rooms.{IsOneCell}
 use Rattle.tree_level.specs.Levels.{IsDivider, IsEndDivider}
 use Rattle.tree_level.proofs.Raised.{child-inside, if-ok_map}

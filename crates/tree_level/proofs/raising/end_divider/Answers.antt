@@ -1,12 +1,11 @@
-use Rattle.std.proofs.Common.{◌≡◌, ℤ, List, ℕ, [], IfOk, refl, ap, ◌∙◌, to_z, of_z}
+use Rattle.std.proofs.Common.{ℤ, [], ap, ◌∙◌, to_z, of_z}
 use Rattle.std.proofs.lemmas.Int.{to_z-of_z}
 use Rattle.std.specs.Int.{w64}
 use Rattle.cell_codec.specs.Cells.{interior_cell}
 use Rattle.format_spec.specs.declared.CellView.{CellView}
 use Rattle.format_spec.specs.declared.PageKind.TheVariants.{TableInterior}
 use Rattle.format_spec.specs.Cell.{cell_bytes}
-use Rattle.tree_level.specs.Levels.{IsEndDivider}
-use Rattle.tree_level.proofs.Raised.{if-ok_map, rowid-fits, key-cell}
+use Rattle.tree_level.proofs.Raised.{if-ok_map, rowid-fits}
 use Rattle.tree_level.proofs.raising.end_divider.Goals as goal
 
 pub returns : goal.returns

@@ -1,4 +1,4 @@
-use Rattle.std.proofs.Common.{◌≡◌, Ok, Err, ◌∙◌}
+use Rattle.std.proofs.Common.{Ok}
 use Rattle.format_spec.specs.declared.PageKind.TheVariants.{TableLeaf}
 use Rattle.tree_level.proofs.Raised.{cell-begins}
 use Rattle.tree_level.proofs.raising.view_of.Goals as goal

@@ -1,4 +1,4 @@
-use Rattle.std.proofs.Common.{◌≡◌, ◌+◌, ◌-◌, ◌*◌, ◌<◌, ◌≤◌, ℕ, suc, List, [], ◌∷◌, ◌++◌, length, take, drop, refl, sym, ap, ◌∙◌, subst, arith, length-append}
+use Rattle.std.proofs.Common.{◌≡◌, ◌+◌, ◌-◌, ◌<◌, ℕ, suc, List, [], ◌∷◌, ◌++◌, length, take, drop, ap, ◌∙◌, subst, arith, length-append}
 use Rattle.std.proofs.Math.Path.{subst⁻¹}
 use Rattle.std.proofs.lemmas.List.{drop-drop, length-drop}
 use Rattle.std.specs.List.{All}
@@ -7,8 +7,8 @@ use Rattle.tree_spec.specs.Standing.{Sizes}
 use Rattle.tree_balance.specs.Cuts.{page_room}
 use Rattle.tree_pages.specs.Writers.{paged, sizes_of}
 use Rattle.tree_pages.specs.WritersLaws.{sizes-same}
-use Rattle.tree_level.specs.Levels.{Spreads}
-use Rattle.tree_level.proofs.Fronts.{AreFew, cells-behind, few-more, spreads-then, rest-of}
+use Rattle.tree_level.specs.Levels.{Spreads, above_kind}
+use Rattle.tree_level.proofs.Fronts.{AreFew, cells-behind, few-more, spreads-then, rest-of, all-more}
 use Rattle.tree_level.proofs.spreading.spread_cells.Goals as goal
 
 pub write_front-requires-clause-cells : goal.write_front-requires-clause-cells
@@ -54,6 +54,8 @@ loop-alloc-preserved g c =
       whole = c.write_front.auto.page ∙ inv.whole;
       left = omega (arith, inv.left, left, c.saturating_sub-at.ensures);
       over = λ none. absurd (omega (arith, none, many));
+      dividers = subst⁻¹ (All (IsOneCell (above_kind kind) (S.usable a))) more
+          (all-more (IsOneCell (above_kind kind) (S.usable a)) done divider inv.dividers (subst (λ (u : ℕ). IsOneCell (above_kind kind) u divider) inv.stays.usable f.divider));
       few = λ twice.
           subst⁻¹ (λ (n : ℕ). AreFew room n (drop (start + used) cells)) many
           (subst (AreFew room (suc (length done))) next
@@ -71,7 +73,7 @@ loop-alloc-preserved g c =
             n.0,
             n.1,
             subst⁻¹ (λ (l : List (List ℕ)). Spreads (sizes_of S a) kind cells l (drop (start + used) cells) x z) more
-            (subst (λ (l : List (List ℕ)). Spreads (sizes_of S a) kind cells (done ++ divider ∷ []) l x z) next
-            (spreads-then (sizes_of S a) kind cells (drop start cells) (drop used (drop start cells)) done (divider ∷ []) x y z b.2 s)),
+                (subst (λ (l : List (List ℕ)). Spreads (sizes_of S a) kind cells (done ++ divider ∷ []) l x z) next
+                (spreads-then (sizes_of S a) kind cells (drop start cells) (drop used (drop start cells)) done (divider ∷ []) x y z b.2 s)),
           );
     }

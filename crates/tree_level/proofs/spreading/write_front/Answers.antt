@@ -1,19 +1,16 @@
-use Rattle.std.proofs.Common.{◌≡◌, ◌+◌, ◌^◌, ◌<◌, ◌≤◌, ℕ, List, [], ◌∷◌, length, take, drop, slice_index_or, sym, ap, ◌∙◌, subst, arith}
+use Rattle.std.proofs.Common.{◌≡◌, ◌+◌, ◌^◌, ◌<◌, ℕ, [], ◌∷◌, length, take, drop, slice_index_or, sym, ap, ◌∙◌, subst, arith}
 use Rattle.std.proofs.Math.Path.{subst⁻¹}
 use Rattle.std.proofs.lemmas.List.{get_or_default}
 use Rattle.std.specs.List.{All}
-use Rattle.format_spec.specs.declared.PageKind.{PageKind}
 use Rattle.page_spec.specs.Rooms.{IsOneCell}
 use Rattle.page_spec.specs.Pages.{IsInRange}
-use Rattle.put_spec.specs.Steps.{Took}
-use Rattle.tree_spec.specs.Standing.{Sizes, Paged}
+use Rattle.tree_spec.specs.Standing.{Sizes}
 use Rattle.tree_balance.specs.Cuts.{risen}
 use Rattle.tree_pages.specs.Writers.{Becomes, paged, sizes_of}
 use Rattle.tree_pages.specs.WritersLaws.{sizes-same}
-use Rattle.tree_level.specs.declared.writing.Node.{Node}
 use Rattle.tree_level.specs.Levels.{IsDivider, WritesNode, Spreads, left_child}
 use Rattle.tree_level.proofs.Raised.{child-inside}
-use Rattle.tree_level.proofs.Fronts.{front-spread, cells-front}
+use Rattle.tree_level.proofs.Fronts.{front-spread, cells-front, divider-cell}
 use Rattle.tree_level.proofs.spreading.write_front.Goals as goal
 
 pub cut-front-requires-clause-cells : goal.cut-front-requires-clause-cells
@@ -71,3 +68,11 @@ returns-clause-spread g c =
       k.1,
       front-spread (sizes_of S a) bytes front child divider x y z fits range n.2 kind cut.front cut.back is writes,
     ))
+
+pub returns-clause-divider : goal.returns-clause-divider
+returns-clause-divider g c =
+    let S = g.S.PageRead in
+    let usable = S.usable c.args.store.now in
+    let fits : c.in_ok-child.child < 2 ^ 32 = omega (arith, rw c.in_ok-child.was at c.take_page.type_inv) in
+    divider-cell c.args.kind usable c.args.cells.now c.cut-front.result c.in_ok-child.child c.in_ok-divider.divider fits c.requires.cells c.cut-front.ensures.front c.cut-front.ensures.back
+    (subst (λ (u : ℕ). IsDivider c.args.kind u c.args.cells.now c.cut-front.result c.in_ok-child.child c.in_ok-divider.divider) c.usable-usable.ensures c.in_ok-divider.ensures)

@@ -15,3 +15,4 @@ pub mod KeysLaws
 pub mod FileFaultsLaws
 pub mod TreeWalksLaws
 pub mod LittleTarget
+pub mod LittleTargetLaws

@@ -44,12 +44,10 @@ use Rattle.database_spec.specs.RowsLaws.{row-one}
 use Rattle.database_spec.specs.Keys.{IsBefore, Clash, IsProjection, IsIndexOf}
 use Rattle.database_spec.specs.Databases.{HasItsKind, IsWhole, IsSound, HoldsProjection, HoldsProjections}
 use Rattle.database_spec.specs.LittleTarget.{target_sizes, target_text, table_record, index_record, row_record, row_cell, entry_cell, schema_cells, row_cells, entry_cells, schema_page, table_page, index_page, target_base, target_trees, target_world, table_row, index_row, target_table, target_index, target_entry, target_catalog, target_row, target_rows, target_entries, members_in, target_database}
+use Rattle.database_spec.specs.LittleTargetLaws.{one_byte, row_values, entry_values, first_values, target-rows, pairs_three}
 use Rattle.database_spec.proofs.worked.worked_target.Goals as goal
 
 -- Cells.
-
-one_byte : (n : ℕ) → n < 128 → IsVarint (n ∷ []) n
-one_byte n low = record { front = []; last = n; whole = refl; at_most_nine = omega arith; high = search rules; low = low; sum = omega arith }
 
 no_chain : IsChain target_base.pages 512 512 3 0 0 []
 no_chain = record { linked = tt; ends = refl; many = refl }
@@ -141,16 +139,6 @@ pairs_two P a zero (suc zero) less long = a
 pairs_two P a (suc j) zero less long = absurd (omega (arith, less))
 pairs_two P a (suc j) (suc zero) less long = absurd (omega (arith, less))
 pairs_two P a j (suc (suc k)) less long = absurd (omega (arith, long))
-
-pairs_three : (P : ℕ → ℕ → Type 0) → P 0 1 → P 0 2 → P 1 2 → (j k : ℕ) → j < k → k < 3 → P j k
-pairs_three P a b c zero zero less long = absurd (omega (arith, less))
-pairs_three P a b c zero (suc zero) less long = a
-pairs_three P a b c zero (suc (suc zero)) less long = b
-pairs_three P a b c (suc j) zero less long = absurd (omega (arith, less))
-pairs_three P a b c (suc j) (suc zero) less long = absurd (omega (arith, less))
-pairs_three P a b c (suc zero) (suc (suc zero)) less long = c
-pairs_three P a b c (suc (suc j)) (suc (suc zero)) less long = absurd (omega (arith, less))
-pairs_three P a b c j (suc (suc (suc k))) less long = absurd (omega (arith, long))
 
 abbrev bytes_in : List TreeCell → List (List ℕ)
 bytes_in cells = map (λ cell. cell.bytes) cells
@@ -305,38 +293,6 @@ index_values = record {
   fields = (23, 23 ∷ [], codes "index", 55 ∷ 17 ∷ 1 ∷ 0 ∷ [], codes "sqlite_autoindex_t1_1t1" ++ 3 ∷ [], one_byte 23 (omega arith), refl, refl, (refl, refl), (55, 55 ∷ [], codes "sqlite_autoindex_t1_1", 17 ∷ 1 ∷ 0 ∷ [], codes "t1" ++ 3 ∷ [], one_byte 55 (omega arith), refl, refl, (refl, refl), (17, 17 ∷ [], codes "t1", 1 ∷ 0 ∷ [], 3 ∷ [], one_byte 17 (omega arith), refl, refl, (refl, refl), (1, 1 ∷ [], 3 ∷ [], 0 ∷ [], [], one_byte 1 (omega arith), refl, refl, (inl (omega arith, omega arith, refl, refl)), (0, 0 ∷ [], [], [], [], one_byte 0 (omega arith), refl, refl, (refl, refl), (refl, refl))))));
 }
 
-row_values : (type : ℕ) → type < 128 → (text : List ℕ) (c : ℕ) → type ≡ 2 * length text + 13 → pos c ≡ twos_complement 1 (big_number 1 (c ∷ []))
-    → IsRecord (row_record type text c) (Null ∷ Text text ∷ Int (pos c) ∷ [])
-row_values type low text c long same = record {
-  size = 4 ∷ [];
-  types = 0 ∷ type ∷ 1 ∷ [];
-  bodies = text ++ c ∷ [];
-  whole = refl;
-  header = one_byte 4 (omega arith);
-  fields = (0, 0 ∷ [], [], type ∷ 1 ∷ [], text ++ c ∷ [], one_byte 0 (omega arith), refl, refl, (refl, refl), (type, type ∷ [], text, 1 ∷ [], c ∷ [], one_byte type low, refl, refl, (long, refl), (1, 1 ∷ [], c ∷ [], [], [], one_byte 1 (omega arith), refl, refl, (inl (omega arith, omega arith, refl, same)), (refl, refl))));
-}
-
-entry_values : (c rowid : ℕ) → pos c ≡ twos_complement 1 (big_number 1 (c ∷ [])) → pos rowid ≡ twos_complement 1 (big_number 1 (rowid ∷ []))
-    → IsRecord (3 ∷ 1 ∷ 1 ∷ c ∷ rowid ∷ []) (Int (pos c) ∷ Int (pos rowid) ∷ [])
-entry_values c rowid p q = record {
-  size = 3 ∷ [];
-  types = 1 ∷ 1 ∷ [];
-  bodies = c ∷ rowid ∷ [];
-  whole = refl;
-  header = one_byte 3 (omega arith);
-  fields = (1, 1 ∷ [], c ∷ [], 1 ∷ [], rowid ∷ [], one_byte 1 (omega arith), refl, refl, (inl (omega arith, omega arith, refl, p)), (1, 1 ∷ [], rowid ∷ [], [], [], one_byte 1 (omega arith), refl, refl, (inl (omega arith, omega arith, refl, q)), (refl, refl)));
-}
-
-first_values : IsRecord (3 ∷ 1 ∷ 9 ∷ 10 ∷ []) (Int (pos 10) ∷ Int (pos 1) ∷ [])
-first_values = record {
-  size = 3 ∷ [];
-  types = 1 ∷ 9 ∷ [];
-  bodies = 10 ∷ [];
-  whole = refl;
-  header = one_byte 3 (omega arith);
-  fields = (1, 1 ∷ [], 10 ∷ [], 9 ∷ [], [], one_byte 1 (omega arith), refl, refl, (inl (omega arith, omega arith, refl, refl)), (9, 9 ∷ [], [], [], [], one_byte 9 (omega arith), refl, refl, (inr (omega arith, omega arith, refl, refl)), (refl, refl)));
-}
-
 -- The catalog.
 
 in_range : (number : ℕ) → 1 < number → number < 4 → IsInRange 512 3 number
@@ -399,20 +355,8 @@ returns-clause-catalog c = catalog c.worked_texts.ensures.table
 
 -- Rows.
 
-rows : AllZip (IsRow target_table) (members_in row_cells) target_rows
-rows = (
-  record { stored = Null ∷ Text (codes "one") ∷ Int (pos 10) ∷ []; is_record = row_values 19 (omega arith) (codes "one") 10 refl refl; many = refl; rowid = refl; values = refl; payload = refl },
-  (
-    record { stored = Null ∷ Text (codes "two") ∷ Int (pos 20) ∷ []; is_record = row_values 19 (omega arith) (codes "two") 20 refl refl; many = refl; rowid = refl; values = refl; payload = refl },
-    (
-      record { stored = Null ∷ Text (codes "three") ∷ Int (pos 30) ∷ []; is_record = row_values 23 (omega arith) (codes "three") 30 refl refl; many = refl; rowid = refl; values = refl; payload = refl },
-      tt,
-    ),
-  ),
-)
-
 pub returns-clause-plain : goal.returns-clause-plain
-returns-clause-plain c = record { meaning = refl; members = members_in row_cells; is_list = table_list; rows_are = rows }
+returns-clause-plain c = record { meaning = refl; members = members_in row_cells; is_list = table_list; rows_are = target-rows }
 
 -- Soundness.
 
@@ -459,7 +403,7 @@ projections : HoldsProjections target_database.lists (record { name = codes "t1"
 projections table others meaning are =
     let same : target_table ≡ table = let e : Ok target_table ≡ Ok table = meaning in cc in
     let also = subst⁻¹ (λ (t : Table). AllZip (IsRow t) (members_in row_cells) others) same are in
-    let one = beside-one (IsRow target_table) (row-one target_table) (members_in row_cells) target_rows others rows also in
+    let one = beside-one (IsRow target_table) (row-one target_table) (members_in row_cells) target_rows others target-rows also in
     (subst (λ (rs : List TableRow). IsIndexOf target_index rs (members_in entry_cells)) one index_of, tt)
 
 pub returns-clause-sound : goal.returns-clause-sound

@@ -37,7 +37,7 @@ chains-without n (x ∷ xs) cell back =
     omega (arith, chains-without n xs cell back, times-append n x.chain (chain_pages (xs ++ cell ∷ back)), times-append n x.chain (chain_pages (xs ++ back)))
 
 -- the divider of a table has no overflow chain
-divider-chain : (sizes : Sizes) (base : Paged) (divider : TreeCell) → IsHeld sizes base (interior_kind Table) divider → divider.chain ≡ []
+pub divider-chain : (sizes : Sizes) (base : Paged) (divider : TreeCell) → IsHeld sizes base (interior_kind Table) divider → divider.chain ≡ []
 divider-chain sizes base divider held =
     let none : divider.view.payload - divider.view.local ≡ 0 = omega (arith, held.is_cell.payload) in
     nil_from_length divider.chain (held.is_chain.many ∙ ap (pages_for sizes.usable) none ∙ sym (chain-none sizes base).many)
@@ -102,12 +102,12 @@ siblings-moved levels low high fresh (x ∷ xs) tree order = (order.0, siblings-
 
 -- Children that stay where they are.
 
-cells-same : (levels i : ℕ) (children : List (TreeOf levels × TreeCell)) (home other : TreeOf levels) → cells_behind (children_with i children [] other) ≡ cells_behind (children_with i children [] home)
+pub cells-same : (levels i : ℕ) (children : List (TreeOf levels × TreeCell)) (home other : TreeOf levels) → cells_behind (children_with i children [] other) ≡ cells_behind (children_with i children [] home)
 cells-same levels i [] home other = refl
 cells-same levels zero (child ∷ children) home other = refl
 cells-same levels (suc i) (child ∷ children) home other = ap (λ (cells : List TreeCell). child.1 ∷ cells) (cells-same levels i children home other)
 
-last-same : (levels i : ℕ) (children : List (TreeOf levels × TreeCell)) (last home other : TreeOf levels) → page_of levels other ≡ page_of levels home
+pub last-same : (levels i : ℕ) (children : List (TreeOf levels × TreeCell)) (last home other : TreeOf levels) → page_of levels other ≡ page_of levels home
     → page_of levels (last_with i children last other) ≡ page_of levels (last_with i children last home)
 last-same levels i [] last home other same = same
 last-same levels zero (child ∷ children) last home other same = refl
@@ -155,7 +155,7 @@ module _ (sizes : Sizes) where
       → Within sizes before.base (pages_of (suc levels) (parent_with levels page i children last before.siblings before.home)) before.trunks
       → Stands sizes before.base Table (suc levels) (parent_with levels page i children last before.siblings before.home)
       → IsDeleted sizes levels gone before after → IsNumber sizes after.base (page_of levels after.home) → (page_of levels after.home ≡ page_of levels before.home) ⊎ (length children ≤ i)
-      → 0 < length (own_cells levels after.home)
+      → (AllByRecursion (λ sibling. IsFull levels sibling.0) before.siblings → IsFull levels before.home → 0 < length (own_cells levels after.home))
       → IsOpened sizes (suc levels) gone (alone (suc levels) before.base (parent_with levels page i children last before.siblings before.home) before.trunks)
       (became levels (suc levels) after [] (parent_with levels page i children last after.siblings after.home) after.base after.trunks)
   group-above levels gone page i children last before after within stands done number place some =
@@ -185,7 +185,7 @@ module _ (sizes : Sizes) where
             let is = λ (child : TreeOf levels × TreeCell). IsFull levels child.0 in
             let group = group-of (IsFull levels) i children before.siblings last before.home full.0 full.1 in
             let made = o.full group.0 group.1.1 in
-            let home : IsFull levels after.home = (some, made.1) in (
+            let home : IsFull levels after.home = (some group.0 group.1, made.1) in (
               tt,
               (
                 group-all is i children before.siblings before.home after.siblings after.home (λ cell _. home) made.0 full.0,

@@ -94,6 +94,11 @@ pair-among levels (x ∷ front) left divider back last =
     let rest = pair-among levels front left divider back last in
     (ap (λ (l : List (TreeOf levels × TreeCell)). x ∷ l) rest.0, rest.1)
 
+-- a group behind all children
+pub end-among : {Child : Type 0} (front siblings : List (Child × TreeCell)) (last home : Child) → (children_with (length front) front siblings home ≡ front ++ siblings) × (last_with (length front) front last home ≡ home)
+end-among [] siblings last home = (refl, refl)
+end-among (x ∷ front) siblings last home = let rest = end-among front siblings last home in (ap (λ l. x ∷ l) rest.0, rest.1)
+
 -- how often a page stands among the children, with one group and with another
 pub group-count : (n levels i : ℕ) (children : List (TreeOf levels × TreeCell)) (last : TreeOf levels) (siblings : List (TreeOf levels × TreeCell)) (home : TreeOf levels)
     (others : List (TreeOf levels × TreeCell)) (other : TreeOf levels)

@@ -1,14 +1,20 @@
 // The laws of deletes as contracts, so that they are proved here: crates above cite them from specs/.
 ghost use Rattle.std.specs.Prelude.{◌≡◌, ◌≢◌, ◌⊎◌, ◌↔◌, ℕ, zero, suc, ◌+◌, ◌-◌, ◌<◌, ◌≤◌, List, [], ◌∷◌, ◌++◌, length, max, Contains};
+ghost use Rattle.std.specs.List.{AllByRecursion};
+ghost use Rattle.format_spec.specs.declared.PageKind.TheVariants.{TableInterior, TableLeaf};
+ghost use Rattle.format_spec.specs.Cell.{IsCell};
+ghost use Rattle.format_spec.specs.Page.{IsPage};
 ghost use Rattle.page_spec.specs.Freelists.{Trunk};
 ghost use Rattle.tree_spec.specs.declared.TreeKind.TheVariants.{Table};
-ghost use Rattle.tree_spec.specs.Trees.{Member, TreeCell, TreeOf, Leaf, Rooted, interior_kind, page_of, pages_of, pages_in, own_cells, member};
+ghost use Rattle.tree_spec.specs.Trees.{Member, TreeCell, TreeOf, Leaf, Rooted, interior_kind, page_of, pages_of, pages_in, own_cells, member, root_of, IsFull};
 ghost use Rattle.tree_spec.specs.Standing.{Sizes, Paged, SamePage, IsNumber, IsHeld, IsBehind, HasOwnPage, HasBelow, Stands};
 ghost use Rattle.tree_spec.specs.Worlds.{IsWorld, with_tree, greatest_count, slack};
 ghost use Rattle.tree_spec.specs.Changes.{Within, Turns, Writes};
 ghost use Rattle.put_spec.specs.Children.{Rises, child_at, children_with, last_with};
 ghost use Rattle.put_spec.specs.Puts.{After, IsInteriorCut, cut_after, moved, deeper};
+ghost use Rattle.put_spec.specs.Steps.{Spelled, bytes_in, HasCells, child_page, GivesBack};
 ghost use Rattle.delete_spec.specs.Deletes.{TakenOut, Before, hand_of, alone, pair, became, parent_with, IsOpened, IsLoose, IsDeleted, IsRootDeleted, IsWorldDeleted};
+ghost use Rattle.delete_spec.specs.Steps.{Gives, IsPayload, DeleteBelow, EmptiesBelow, DeleteAt};
 
 /// A cell is taken out of a leaf, and its overflow chain is in hand then.
 pub fn cell_is_taken_out_of_a_leaf()
@@ -56,7 +62,7 @@ pub fn group_makes_its_parent()
         → Within sizes before.base (pages_of (suc levels) (parent_with levels page i children last before.siblings before.home)) before.trunks
         → Stands sizes before.base Table (suc levels) (parent_with levels page i children last before.siblings before.home)
         → IsDeleted sizes levels gone before after → IsNumber sizes after.base (page_of levels after.home) → (page_of levels after.home ≡ page_of levels before.home) ⊎ (length children ≤ i)
-        → 0 < length (own_cells levels after.home)
+        → (AllByRecursion (λ sibling. IsFull levels sibling.0) before.siblings → IsFull levels before.home → 0 < length (own_cells levels after.home))
         → IsOpened sizes (suc levels) gone (alone (suc levels) before.base (parent_with levels page i children last before.siblings before.home) before.trunks)
         (became levels (suc levels) after [] (parent_with levels page i children last after.siblings after.home) after.base after.trunks) }
 {}
@@ -121,4 +127,80 @@ pub fn world_has_the_delete()
 pub fn delete_changes_one_row()
     ensures others { (gone : Member) (old new : List Member) → TakenOut gone old new → Rises old → (m : Member) → Contains new m ↔ (Contains old m × (m.rowid ≢ gone.rowid)) }
     ensures was { (gone : Member) (old new : List Member) → TakenOut gone old new → Contains old gone }
+{}
+
+/// A leaf is written without the cell of a row; one of a single cell is not written, and has none any more.
+pub fn leaf_is_written_without_a_row()
+    ensures kept { (sizes : Sizes) (gone : Member) (page : ℕ) (old : Paged) (cells : List Spelled) (right : ℕ) (front : List Spelled) (cell : Spelled) (back : List Spelled) (new : Paged) → HasCells sizes old TableLeaf page cells right
+        → cells ≡ front ++ cell ∷ back → gone.rowid ≡ cell.view.rowid → IsPayload sizes old cell gone.payload → Writes page old new
+        → IsPage (new.pages page) page sizes.usable TableLeaf (bytes_in (front ++ back)) 0
+        → DeleteBelow sizes gone zero page old new (length (front ++ back)) cell.view.overflow (cell.view.payload - cell.view.local) }
+    ensures emptied { (sizes : Sizes) (gone : Member) (page : ℕ) (old : Paged) (cells : List Spelled) (right : ℕ) (cell : Spelled) → HasCells sizes old TableLeaf page cells right → cells ≡ cell ∷ [] → gone.rowid ≡ cell.view.rowid
+        → IsPayload sizes old cell gone.payload → EmptiesBelow sizes gone zero page 0 old old cell.view.overflow (cell.view.payload - cell.view.local) }
+{}
+
+/// A delete below a child that keeps a cell is one below its parent, which is not written.
+pub fn parent_of_a_delete_stays()
+    ensures { (sizes : Sizes) (gone : Member) (levels page : ℕ) (old : Paged) (cells : List Spelled) (right at : ℕ) (new : Paged) (left first bytes : ℕ) → HasCells sizes old TableInterior page cells right
+        → DeleteBelow sizes gone levels (child_page at cells right) old new left first bytes → 0 < left → DeleteBelow sizes gone (suc levels) page old new (length cells) first bytes }
+{}
+
+/// The parent of a leaf that goes is written without the cell that names it; where the last leaf goes, the one before it becomes the right child.
+pub fn parent_of_a_leaf_that_goes_is_written()
+    ensures left { (sizes : Sizes) (gone : Member) (page : ℕ) (old : Paged) (cells : List Spelled) (right : ℕ) (front : List Spelled) (cell : Spelled) (back : List Spelled) (mid given new : Paged) (first bytes : ℕ) → HasCells sizes old TableInterior page cells right
+        → cells ≡ front ++ cell ∷ back → EmptiesBelow sizes gone zero cell.view.child 0 old mid first bytes → Gives sizes cell.view.child mid given → Writes page given new
+        → IsPage (new.pages page) page sizes.usable TableInterior (bytes_in (front ++ back)) right → DeleteBelow sizes gone (suc zero) page old new (length (front ++ back)) first bytes }
+    ensures last { (sizes : Sizes) (gone : Member) (page : ℕ) (old : Paged) (cells : List Spelled) (right : ℕ) (front : List Spelled) (cell : Spelled) (mid given new : Paged) (first bytes : ℕ) → HasCells sizes old TableInterior page cells right
+        → cells ≡ front ++ cell ∷ [] → EmptiesBelow sizes gone zero right 0 old mid first bytes → Gives sizes right mid given → Writes page given new
+        → IsPage (new.pages page) page sizes.usable TableInterior (bytes_in front) cell.view.child → DeleteBelow sizes gone (suc zero) page old new (length front) first bytes }
+{}
+
+/// A root stays where it keeps a cell, or needs none; one with two leaves of which one goes takes the cells of the other.
+pub fn root_of_a_delete_is_written()
+    ensures kept { (sizes : Sizes) (gone : Member) (levels root : ℕ) (old new : Paged) (left first bytes : ℕ) → DeleteBelow sizes gone levels root old new left first bytes → (0 < levels → root ≢ 1 → 0 < left)
+        → DeleteAt sizes gone levels root old new first bytes }
+    ensures left { (sizes : Sizes) (gone : Member) (root : ℕ) (old : Paged) (cells : List Spelled) (right : ℕ) (cell : Spelled) (mid given : Paged) (first bytes : ℕ) (kept : List Spelled) (none : ℕ) (written new : Paged)
+        → HasCells sizes old TableInterior root cells right → cells ≡ cell ∷ [] → EmptiesBelow sizes gone zero cell.view.child 0 old mid first bytes → Gives sizes cell.view.child mid given
+        → HasCells sizes given TableLeaf right kept none → Writes root given written → IsPage (written.pages root) root sizes.usable TableLeaf (bytes_in kept) 0 → Gives sizes right written new
+        → DeleteAt sizes gone (suc zero) root old new first bytes }
+    ensures right { (sizes : Sizes) (gone : Member) (root : ℕ) (old : Paged) (cells : List Spelled) (right : ℕ) (cell : Spelled) (mid given : Paged) (first bytes : ℕ) (kept : List Spelled) (none : ℕ) (written new : Paged)
+        → HasCells sizes old TableInterior root cells right → cells ≡ cell ∷ [] → EmptiesBelow sizes gone zero right 0 old mid first bytes → Gives sizes right mid given
+        → HasCells sizes given TableLeaf cell.view.child kept none → Writes root given written → IsPage (written.pages root) root sizes.usable TableLeaf (bytes_in kept) 0 → Gives sizes cell.view.child written new
+        → DeleteAt sizes gone (suc zero) root old new first bytes }
+{}
+
+/// What a writer did at a root is a delete in its world, once the overflow chain of the cell that was taken out is given back.
+pub fn writer_deletes_in_a_world()
+    ensures { (sizes : Sizes) (gone : Member) (front : List Rooted) (old : Rooted) (back : List Rooted) (a b c : Paged) (p : List Trunk) (first bytes : ℕ) → old.kind ≡ Table → IsWorld sizes a (with_tree front old back p)
+        → DeleteAt sizes gone old.levels (root_of old) a b first bytes → GivesBack sizes first bytes b c → c.count ≤ greatest_count → IsWorldDeleted sizes gone front old back a p c }
+{}
+
+/// The parent of a leaf that goes and that has no other cell is not written: one child is left.
+pub fn parent_of_a_leaf_that_goes_is_emptied()
+    ensures left { (sizes : Sizes) (gone : Member) (page : ℕ) (old : Paged) (cells : List Spelled) (right : ℕ) (cell : Spelled) (mid given : Paged) (first bytes : ℕ) → HasCells sizes old TableInterior page cells right → cells ≡ cell ∷ []
+        → EmptiesBelow sizes gone zero cell.view.child 0 old mid first bytes → Gives sizes cell.view.child mid given → EmptiesBelow sizes gone (suc zero) page right old given first bytes }
+    ensures last { (sizes : Sizes) (gone : Member) (page : ℕ) (old : Paged) (cells : List Spelled) (right : ℕ) (cell : Spelled) (mid given : Paged) (first bytes : ℕ) → HasCells sizes old TableInterior page cells right → cells ≡ cell ∷ []
+        → EmptiesBelow sizes gone zero right 0 old mid first bytes → Gives sizes right mid given → EmptiesBelow sizes gone (suc zero) page cell.view.child old given first bytes }
+{}
+
+/// Of two interior pages beside one another one has no cell any more: the other takes its only child, and the divider between them. Their parent is written without the cell of the left one, or, where it has no other, is not written.
+pub fn interior_neighbours_are_joined()
+    ensures right { (sizes : Sizes) (gone : Member) (levels page : ℕ) (old : Paged) (cells : List Spelled) (right : ℕ) (front : List Spelled) (cell : Spelled) (back : List Spelled) (only : ℕ) (mid given written : Paged) (first bytes : ℕ)
+        (middle : Spelled) (beside : List Spelled) (last : ℕ) → HasCells sizes old TableInterior page cells right → cells ≡ front ++ cell ∷ back → IsCell TableInterior sizes.usable middle.bytes middle.view → middle.view.rowid ≡ cell.view.rowid
+        → EmptiesBelow sizes gone (suc levels) (child_page (length front) (front ++ back) right) only old mid first bytes → HasCells sizes mid TableInterior cell.view.child beside last → middle.view.child ≡ last → Gives sizes cell.view.child mid given
+        → Writes (child_page (length front) (front ++ back) right) given written → IsPage (written.pages (child_page (length front) (front ++ back) right)) (child_page (length front) (front ++ back) right) sizes.usable TableInterior (bytes_in (beside ++ middle ∷ [])) only → (new : Paged) → Writes page written new
+        → IsPage (new.pages page) page sizes.usable TableInterior (bytes_in (front ++ back)) right → DeleteBelow sizes gone (suc (suc levels)) page old new (length (front ++ back)) first bytes }
+    ensures left { (sizes : Sizes) (gone : Member) (levels page : ℕ) (old : Paged) (cells : List Spelled) (right : ℕ) (front : List Spelled) (cell : Spelled) (back : List Spelled) (only : ℕ) (mid given written : Paged) (first bytes : ℕ)
+        (middle : Spelled) (beside : List Spelled) (last : ℕ) → HasCells sizes old TableInterior page cells right → cells ≡ front ++ cell ∷ back → IsCell TableInterior sizes.usable middle.bytes middle.view → middle.view.rowid ≡ cell.view.rowid
+        → EmptiesBelow sizes gone (suc levels) cell.view.child only old mid first bytes → HasCells sizes mid TableInterior (child_page (length front) (front ++ back) right) beside last → middle.view.child ≡ only → Gives sizes cell.view.child mid given
+        → Writes (child_page (length front) (front ++ back) right) given written → IsPage (written.pages (child_page (length front) (front ++ back) right)) (child_page (length front) (front ++ back) right) sizes.usable TableInterior (bytes_in (middle ∷ beside)) last → (new : Paged) → Writes page written new
+        → IsPage (new.pages page) page sizes.usable TableInterior (bytes_in (front ++ back)) right → DeleteBelow sizes gone (suc (suc levels)) page old new (length (front ++ back)) first bytes }
+    ensures right_only { (sizes : Sizes) (gone : Member) (levels page : ℕ) (old : Paged) (cells : List Spelled) (right : ℕ) (front : List Spelled) (cell : Spelled) (back : List Spelled) (only : ℕ) (mid given written : Paged) (first bytes : ℕ)
+        (middle : Spelled) (beside : List Spelled) (last : ℕ) → HasCells sizes old TableInterior page cells right → cells ≡ front ++ cell ∷ back → IsCell TableInterior sizes.usable middle.bytes middle.view → middle.view.rowid ≡ cell.view.rowid
+        → front ++ back ≡ [] → EmptiesBelow sizes gone (suc levels) (child_page (length front) (front ++ back) right) only old mid first bytes → HasCells sizes mid TableInterior cell.view.child beside last → middle.view.child ≡ last → Gives sizes cell.view.child mid given
+        → Writes (child_page (length front) (front ++ back) right) given written → IsPage (written.pages (child_page (length front) (front ++ back) right)) (child_page (length front) (front ++ back) right) sizes.usable TableInterior (bytes_in (beside ++ middle ∷ [])) only → EmptiesBelow sizes gone (suc (suc levels)) page right old written first bytes }
+    ensures left_only { (sizes : Sizes) (gone : Member) (levels page : ℕ) (old : Paged) (cells : List Spelled) (right : ℕ) (front : List Spelled) (cell : Spelled) (back : List Spelled) (only : ℕ) (mid given written : Paged) (first bytes : ℕ)
+        (middle : Spelled) (beside : List Spelled) (last : ℕ) → HasCells sizes old TableInterior page cells right → cells ≡ front ++ cell ∷ back → IsCell TableInterior sizes.usable middle.bytes middle.view → middle.view.rowid ≡ cell.view.rowid
+        → front ++ back ≡ [] → EmptiesBelow sizes gone (suc levels) cell.view.child only old mid first bytes → HasCells sizes mid TableInterior (child_page (length front) (front ++ back) right) beside last → middle.view.child ≡ only → Gives sizes cell.view.child mid given
+        → Writes (child_page (length front) (front ++ back) right) given written → IsPage (written.pages (child_page (length front) (front ++ back) right)) (child_page (length front) (front ++ back) right) sizes.usable TableInterior (bytes_in (middle ∷ beside)) last → EmptiesBelow sizes gone (suc (suc levels)) page right old written first bytes }
 {}

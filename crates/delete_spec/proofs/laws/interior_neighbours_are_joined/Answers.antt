@@ -1,0 +1,14 @@
+use Rattle.delete_spec.specs.JoinsLaws.{right-joins, left-joins, right-joins-only, left-joins-only}
+use Rattle.delete_spec.proofs.laws.interior_neighbours_are_joined.Goals as goal
+
+pub returns-clause-right : goal.returns-clause-right
+returns-clause-right c = right-joins
+
+pub returns-clause-left : goal.returns-clause-left
+returns-clause-left c = left-joins
+
+pub returns-clause-right_only : goal.returns-clause-right_only
+returns-clause-right_only c = right-joins-only
+
+pub returns-clause-left_only : goal.returns-clause-left_only
+returns-clause-left_only c = left-joins-only

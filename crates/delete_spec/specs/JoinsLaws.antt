@@ -1,0 +1,350 @@
+-- Interior pages that a delete leaves without a cell: crates above cite these facts in their proofs.
+use Rattle.std.proofs.Common.{◌≡◌, ℕ, suc, ◌+◌, ◌-◌, ◌<◌, ◌≤◌, List, [], ◌∷◌, ◌++◌, length, map, refl, sym, ap, ◌∙◌, subst, inl, arith, length-append}
+use Rattle.std.proofs.Math.Path.{subst⁻¹}
+use Rattle.std.specs.List.{AllByRecursion}
+use Rattle.std.proofs.lemmas.List.{append-nil, map-append, length-map, nil_from_length}
+use Rattle.byte_fields.specs.Bytes.{part_of}
+use Rattle.format_spec.specs.declared.PageKind.TheVariants.{TableInterior}
+use Rattle.format_spec.specs.Cell.{IsCell}
+use Rattle.format_spec.specs.Page.{IsPage}
+use Rattle.page_spec.specs.Chains.{chain_bytes}
+use Rattle.page_spec.specs.Counts.{times}
+use Rattle.page_spec.specs.CountsLaws.{times-append, hit-itself}
+use Rattle.page_spec.specs.FreelistsLaws.{IsInRange-wider}
+use Rattle.page_spec.specs.Freelists.{Trunk, free_pages}
+use Rattle.tree_spec.specs.declared.TreeKind.TheVariants.{Table}
+use Rattle.tree_spec.specs.Trees.{TreeCell, TreeOf, Member, interior_kind, page_of, own_cells, cells_behind, pages_of, pages_beside, pages_below, IsFull}
+use Rattle.tree_spec.specs.Standing.{Sizes, Paged, IsNumber, IsHeld, IsBehind, HasOwnPage, Stands, StandsBefore, StandsLast}
+use Rattle.tree_spec.specs.StandingLaws.{divider-held, HasBelow-kept, Stands-kept}
+use Rattle.tree_spec.specs.Worlds.{IsFree}
+use Rattle.tree_spec.specs.WorldsLaws.{all-front, all-back, all-join}
+use Rattle.tree_spec.specs.Changes.{Within, Turns, Writes}
+use Rattle.tree_spec.specs.ChangesLaws.{Turns-keeps}
+use Rattle.put_spec.specs.Children.{child_at, children_with, last_with}
+use Rattle.put_spec.specs.ChildrenLaws.{beside-first, child-stands}
+use Rattle.put_spec.specs.Puts.{After, hand_after, IsInteriorCut}
+use Rattle.put_spec.specs.PutsLaws.{pages-parts}
+use Rattle.put_spec.specs.Steps.{Spelled, spelled, bytes_in, HasCells, child_page}
+use Rattle.put_spec.specs.StepsLaws.{page-tells}
+use Rattle.delete_spec.specs.Deletes.{hand_of, alone, pair, became, parent_with, IsOpened, IsLoose, IsDeleted}
+use Rattle.delete_spec.specs.NeighboursLaws.{alone-among, pair-among, group-count}
+use Rattle.delete_spec.specs.DeletesLaws.{cells-same, last-same, left-loose, right-loose, pair-joined, group-above, delete-settled, divider-chain}
+use Rattle.delete_spec.specs.Steps.{IsReady, Gives, EmptiedDone, EmptiesBelow, DeleteBelow}
+use Rattle.delete_spec.specs.StepsLaws.{around-map, spelled-children, bytes-spelled, child-page, child-number, child-ready, not-free, HasOpened, interior-written}
+
+-- the divider of a table has no payload
+divider-payload : (sizes : Sizes) (base : Paged) (divider : TreeCell) → IsHeld sizes base (interior_kind Table) divider → divider.payload ≡ []
+divider-payload sizes base divider held =
+    held.whole
+    ∙ ap (λ (n : ℕ). part_of divider.bytes divider.view.local_at n ++ chain_bytes base.pages sizes.usable divider.chain (divider.view.payload - divider.view.local)) held.is_cell.local
+    ∙ ap (λ (n : ℕ). chain_bytes base.pages sizes.usable divider.chain n) (let none : divider.view.payload - divider.view.local ≡ 0 = omega (arith, held.is_cell.payload) in none)
+
+-- cells with one behind them
+behind-one : {Child : Type 0} (children : List (Child × TreeCell)) (child : Child) (cell : TreeCell) → map spelled (cells_behind (children ++ (child, cell) ∷ [])) ≡ map spelled (cells_behind children) ++ spelled cell ∷ []
+behind-one [] child cell = refl
+behind-one (x ∷ xs) child cell = ap (λ (l : List Spelled). spelled x.1 ∷ l) (behind-one xs child cell)
+
+none-behind : {Child : Type 0} (children : List (Child × TreeCell)) → cells_behind children ≡ [] → children ≡ []
+none-behind [] e = refl
+none-behind (x ∷ xs) e = absurd (let h : ⊥ = cc in h)
+
+module _ (sizes : Sizes) (gone : Member) (levels : ℕ) where
+  -- one of two neighbours is gone, and the other has become this
+  record HasJoined (old : Paged) (left : TreeOf (suc levels)) (divider : TreeCell) (right : TreeOf (suc levels)) (trunks : List Trunk) (home : TreeOf (suc levels)) (given : Paged) (first bytes : ℕ) : Type 0 where
+    rest : List Trunk
+    chain : List ℕ
+    done : IsDeleted sizes (suc levels) gone (pair (suc levels) old left divider right trunks) (record { base = given; siblings = []; home = home; trunks = rest; first = first; bytes = bytes; chain = chain })
+    page : page_of (suc levels) home ≡ page_of (suc levels) right
+    some : 0 < length (own_cells (suc levels) home)
+
+  -- a written interior page is that of its tree
+  own-page : (base : Paged) (tree : TreeOf (suc levels)) (page : ℕ) (cells : List Spelled) (right : ℕ) → tree.page ≡ page → cells ≡ map spelled (cells_behind tree.children) → right ≡ page_of levels tree.last
+      → IsPage (base.pages page) page sizes.usable TableInterior (bytes_in cells) right → HasOwnPage sizes base Table (suc levels) tree
+  own-page base tree page cells right is same right_is written =
+      subst⁻¹ (λ (p : ℕ). IsPage (base.pages p) p sizes.usable TableInterior (map (λ (c : TreeCell). c.bytes) (cells_behind tree.children)) (page_of levels tree.last)) is
+      (subst (λ (b : List (List ℕ)). IsPage (base.pages page) page sizes.usable TableInterior b (page_of levels tree.last)) (ap bytes_in same ∙ bytes-spelled (cells_behind tree.children))
+      (subst (λ (r : ℕ). IsPage (base.pages page) page sizes.usable TableInterior (bytes_in cells) r) right_is written))
+
+  module _ (old : Paged) (left : TreeOf (suc levels)) (divider : TreeCell) (right : TreeOf (suc levels)) (trunks : List Trunk) (mid given written : Paged) (first bytes : ℕ) (middle : Spelled)
+      (within : Within sizes old (hand_of (pair (suc levels) old left divider right trunks)) trunks) (before : StandsBefore sizes old Table (suc levels) (left, divider)) (behind : StandsLast sizes old Table (suc levels) right)
+      (free : IsFree sizes old trunks) (is_cell : IsCell TableInterior sizes.usable middle.bytes middle.view) (rowid : middle.view.rowid ≡ divider.view.rowid) where
+    abbrev came_down : TreeCell
+    came_down = record { bytes = middle.bytes; view = middle.view; payload = []; chain = [] }
+
+    pair-parts : (n : ℕ) → times n (pages_beside (suc levels) ((left, divider) ∷ []) right) ≡ times n (pages_of (suc levels) left) + times n divider.chain + times n (pages_of (suc levels) right)
+    pair-parts n = beside-first n (suc levels) (left, divider) [] right
+
+    -- The right one has no cell any more: the cells of the left one and the divider go in front of its only child.
+    right-joined : (only : ℕ) (cells : List Spelled) (last : ℕ) → EmptiesBelow sizes gone (suc levels) right.page only old mid first bytes → HasCells sizes mid TableInterior left.page cells last → middle.view.child ≡ last
+        → Gives sizes left.page mid given → Writes right.page given written → IsPage (written.pages right.page) right.page sizes.usable TableInterior (bytes_in (cells ++ middle ∷ [])) only
+        → (whole : TreeOf (suc levels)) × HasJoined old left divider right trunks whole written first bytes × (map spelled (cells_behind whole.children) ≡ cells ++ middle ∷ [])
+    right-joined only cells last empties has names gives writes is_page =
+        let e = empties right trunks refl free (record { within = λ n. omega (arith, within n, pair-parts n); stands = behind.1 }) in
+        let after : After (suc levels) = record { base = mid; siblings = []; home = e.home; trunks = e.rest; first = first; bytes = bytes; chain = e.chain } in
+        let t = e.opened.turns in
+        let whole : TreeOf (suc levels) = record { page = e.home.page; children = left.children ++ (left.last, came_down) ∷ []; last = e.home.last } in
+        let loose = right-loose sizes (suc levels) gone old left divider right trunks after within before.1.1 e.opened refl in
+        let stays = Stands-kept sizes old mid Table (suc levels) left
+        (Turns-keeps sizes old mid (pages_of (suc levels) right) (hand_after after) trunks e.rest (pages_of (suc levels) left) (λ n. omega (arith, within n, pair-parts n)) t) before.1 in
+        let told = page-tells sizes mid Table (suc levels) left.page left cells last refl has stays in
+        let cut : IsInteriorCut whole left divider e.home = record {
+          middle = came_down;
+          children = ap (λ (l : List (TreeOf levels × TreeCell)). left.children ++ (left.last, came_down) ∷ l) (sym (none-behind e.home.children e.none));
+          last = refl;
+          page = refl;
+          rowid = sym rowid;
+          payload = divider-payload sizes old divider before.0.held;
+          chain = divider-chain sizes old divider before.0.held;
+        } in
+        let there : IsBehind sizes mid (interior_kind Table) came_down (page_of levels left.last) =
+        record { held = divider-held sizes mid middle.bytes middle.view is_cell; names = names ∙ told.1; in_range = stays.1.1.0 } in
+        let hand = pages_beside (suc levels) ((left, divider) ∷ []) e.home ++ e.chain in
+        let in_hand : 0 < times left.page hand =
+        omega (
+          arith,
+          times-append left.page (pages_beside (suc levels) ((left, divider) ∷ []) e.home) e.chain,
+          beside-first left.page (suc levels) (left, divider) [] e.home,
+          pages-parts left.page (suc levels) left,
+          hit-itself left.page,
+        ) in
+        let g = gives e.rest (t.freelist free) (not-free sizes gone old mid (hand_of (pair (suc levels) old left divider right trunks)) hand trunks e.rest left.page within loose.turns in_hand) in
+        let opened = pair-joined sizes levels gone (pair (suc levels) old left divider right trunks) after left divider e.home whole given g.0 loose cut there g.1 in
+        let same : cells ++ middle ∷ [] ≡ map spelled (cells_behind whole.children) =
+        ap (λ (l : List Spelled). l ++ middle ∷ []) told.0 ∙ sym (behind-one left.children left.last came_down) in
+        let own = own-page written whole right.page (cells ++ middle ∷ []) only e.page same (sym e.right_is) is_page in (
+          whole,
+          record {
+            rest = g.0;
+            chain = e.chain;
+            done = delete-settled sizes (suc levels) gone (pair (suc levels) old left divider right trunks) (became (suc levels) (suc levels) after [] whole given g.0) written opened
+                (subst⁻¹ (λ (p : ℕ). Writes p given written) e.page writes) own;
+            page = e.page;
+            some = omega (arith, ap length same, length-append cells (middle ∷ []), length-map (cells_behind whole.children) spelled);
+          },
+          sym same,
+        )
+
+    -- The left one has none: its only child and the divider go in front of the cells of the right one.
+    left-joined : (only : ℕ) (cells : List Spelled) (last : ℕ) → EmptiesBelow sizes gone (suc levels) left.page only old mid first bytes → HasCells sizes mid TableInterior right.page cells last → middle.view.child ≡ only
+        → Gives sizes left.page mid given → Writes right.page given written → IsPage (written.pages right.page) right.page sizes.usable TableInterior (bytes_in (middle ∷ cells)) last
+        → (whole : TreeOf (suc levels)) × HasJoined old left divider right trunks whole written first bytes × (map spelled (cells_behind whole.children) ≡ middle ∷ cells)
+    left-joined only cells last empties has names gives writes is_page =
+        let e = empties left trunks refl free (record { within = λ n. omega (arith, within n, pair-parts n); stands = before.1 }) in
+        let after : After (suc levels) = record { base = mid; siblings = []; home = e.home; trunks = e.rest; first = first; bytes = bytes; chain = e.chain } in
+        let t = e.opened.turns in
+        let whole : TreeOf (suc levels) = record { page = right.page; children = (e.home.last, came_down) ∷ right.children; last = right.last } in
+        let loose = left-loose sizes (suc levels) gone old left divider right trunks after within behind.1.1 e.opened refl in
+        let stays = Stands-kept sizes old mid Table (suc levels) right
+        (Turns-keeps sizes old mid (pages_of (suc levels) left) (hand_after after) trunks e.rest (pages_of (suc levels) right) (λ n. omega (arith, within n, pair-parts n)) t) behind.1 in
+        let told = page-tells sizes mid Table (suc levels) right.page right cells last refl has stays in
+        let cut : IsInteriorCut whole e.home divider right = record {
+          middle = came_down;
+          children = ap (λ (l : List (TreeOf levels × TreeCell)). l ++ (e.home.last, came_down) ∷ right.children) (sym (none-behind e.home.children e.none));
+          last = refl;
+          page = refl;
+          rowid = sym rowid;
+          payload = divider-payload sizes old divider before.0.held;
+          chain = divider-chain sizes old divider before.0.held;
+        } in
+        let there : IsBehind sizes mid (interior_kind Table) came_down (page_of levels e.home.last) =
+        record { held = divider-held sizes mid middle.bytes middle.view is_cell; names = names ∙ sym e.right_is; in_range = e.opened.below.1.0 } in
+        let hand = pages_beside (suc levels) ((e.home, divider) ∷ []) right ++ e.chain in
+        let in_hand : 0 < times e.home.page hand =
+        omega (
+          arith,
+          times-append e.home.page (pages_beside (suc levels) ((e.home, divider) ∷ []) right) e.chain,
+          beside-first e.home.page (suc levels) (e.home, divider) [] right,
+          pages-parts e.home.page (suc levels) e.home,
+          hit-itself e.home.page,
+        ) in
+        let g = gives e.rest (t.freelist free)
+        (subst (λ (p : ℕ). times p (free_pages e.rest) ≡ 0) e.page (not-free sizes gone old mid (hand_of (pair (suc levels) old left divider right trunks)) hand trunks e.rest e.home.page within loose.turns in_hand)) in
+        let opened = pair-joined sizes levels gone (pair (suc levels) old left divider right trunks) after e.home divider right whole given g.0 loose cut there
+        (subst⁻¹ (λ (p : ℕ). Turns sizes mid (p ∷ []) e.rest given [] g.0) e.page g.1) in
+        let same : middle ∷ cells ≡ map spelled (cells_behind whole.children) = ap (λ (l : List Spelled). middle ∷ l) told.0 in
+        let own = own-page written whole right.page (middle ∷ cells) last refl same told.1 is_page in (
+          whole,
+          record {
+            rest = g.0;
+            chain = e.chain;
+            done = delete-settled sizes (suc levels) gone (pair (suc levels) old left divider right trunks) (became (suc levels) (suc levels) after [] whole given g.0) written opened writes own;
+            page = refl;
+            some = omega arith;
+          },
+          sym same,
+        )
+
+  -- The parent of two neighbours of which one is gone: the cell that names the left one goes. Its page is still to be written.
+  pair-above : (old : Paged) (tree : TreeOf (suc (suc levels))) (trunks : List Trunk) (front : List (TreeOf (suc levels) × TreeCell)) (left : TreeOf (suc levels)) (divider : TreeCell) (back : List (TreeOf (suc levels) × TreeCell))
+      (written : Paged) (first bytes : ℕ) (home : TreeOf (suc levels)) → tree.children ≡ front ++ (left, divider) ∷ back → IsReady sizes (suc (suc levels)) old tree trunks
+      → HasJoined old left divider (child_at (length front) (front ++ back) tree.last) trunks home written first bytes
+      → HasOpened sizes gone (suc (suc levels)) old tree trunks (parent_with (suc levels) tree.page (length front) (front ++ back) tree.last [] home) written first bytes
+  pair-above old tree trunks front left divider back written first bytes home whole ready g =
+      let i = length front in
+      let others = front ++ back in
+      let right = child_at i others tree.last in
+      let stands = StandsBefore sizes old Table (suc levels) in
+      let all = subst (AllByRecursion stands) whole ready.stands.1.0 in
+      let rest = all-back stands front ((left, divider) ∷ back) all in
+      let beside = all-join stands front back (all-front stands front ((left, divider) ∷ back) all) rest.1 in
+      let among = pair-among (suc levels) front left divider back tree.last in
+      let was : parent_with (suc levels) tree.page i others tree.last ((left, divider) ∷ []) right ≡ tree = λ j. record { page = tree.page; children = (among.0 ∙ sym whole) j; last = among.1 j } in
+      let number = subst⁻¹ (IsNumber sizes written) g.page
+      (IsInRange-wider sizes.size old.count written.count right.page g.done.opened.turns.grows (child-number sizes gone old (suc levels) i others tree.last beside ready.stands.1.1)) in
+      let after : After (suc levels) = record { base = written; siblings = []; home = home; trunks = g.rest; first = first; bytes = bytes; chain = g.chain } in
+      let opened = group-above sizes (suc levels) gone tree.page i others tree.last (pair (suc levels) old left divider right trunks) after
+      (subst⁻¹ (λ (t : TreeOf (suc (suc levels))). Within sizes old (pages_of (suc (suc levels)) t) trunks) was ready.within) (subst⁻¹ (Stands sizes old Table (suc (suc levels))) was ready.stands)
+      g.done number (inl g.page) (λ _ _. g.some) in
+      record {
+        rest = g.rest;
+        chain = g.chain;
+        opened = subst (λ (t : TreeOf (suc (suc levels))). IsOpened sizes (suc (suc levels)) gone (alone (suc (suc levels)) old t trunks)
+            (record { base = written; siblings = []; home = parent_with (suc levels) tree.page i others tree.last [] home; trunks = g.rest; first = first; bytes = bytes; chain = g.chain })) was opened;
+      }
+
+  -- what a join of two children of a page makes of the page, still to be written
+  record HasParent (old : Paged) (tree : TreeOf (suc (suc levels))) (trunks : List Trunk) (front back : List Spelled) (written : Paged) (first bytes right : ℕ) : Type 0 where
+    home : TreeOf (suc (suc levels))
+    opened : HasOpened sizes gone (suc (suc levels)) old tree trunks home written first bytes
+    page : home.page ≡ tree.page
+    cells : front ++ back ≡ map spelled (cells_behind home.children)
+    right_is : right ≡ page_of (suc levels) home.last
+
+  -- an interior page without a cell
+  emptied-parent : (old : Paged) (tree : TreeOf (suc (suc levels))) (trunks : List Trunk) (front back : List Spelled) (written : Paged) (first bytes right : ℕ) → front ++ back ≡ []
+      → HasParent old tree trunks front back written first bytes right → EmptiedDone sizes gone (suc (suc levels)) old tree trunks written right first bytes
+  emptied-parent old tree trunks front back written first bytes right none h = record {
+    home = h.home;
+    rest = h.opened.rest;
+    chain = h.opened.chain;
+    opened = h.opened.opened;
+    page = h.page;
+    none = nil_from_length (cells_behind h.home.children) (omega (arith, ap length h.cells, ap length none, length-map (cells_behind h.home.children) spelled));
+    right_is = sym h.right_is;
+  }
+
+  module _ (page : ℕ) (old : Paged) (cells : List Spelled) (right : ℕ) (front : List Spelled) (cell : Spelled) (back : List Spelled) (only : ℕ) (mid given written : Paged) (first bytes : ℕ) (middle : Spelled) (beside : List Spelled) (last : ℕ)
+      (has : HasCells sizes old TableInterior page cells right) (parts : cells ≡ front ++ cell ∷ back) (is_cell : IsCell TableInterior sizes.usable middle.bytes middle.view) (rowid : middle.view.rowid ≡ cell.view.rowid) where
+    -- the page behind the one that the cell names
+    abbrev next : ℕ
+    next = child_page (length front) (front ++ back) right
+
+    -- what stands there, by the cell
+    record HasPair (tree : TreeOf (suc (suc levels))) (trunks : List Trunk) : Type 0 where
+      before : List (TreeOf (suc levels) × TreeCell)
+      left : TreeOf (suc levels)
+      divider : TreeCell
+      behind : List (TreeOf (suc levels) × TreeCell)
+      whole : tree.children ≡ before ++ (left, divider) ∷ behind
+      others : front ++ back ≡ map spelled (cells_behind (before ++ behind))
+      same : spelled divider ≡ cell
+      named : left.page ≡ cell.view.child
+      stands : StandsBefore sizes old Table (suc levels) (left, divider)
+      right_named : page_of (suc levels) (child_at (length before) (before ++ behind) tree.last) ≡ next
+      right_stands : StandsLast sizes old Table (suc levels) (child_at (length before) (before ++ behind) tree.last)
+      within : Within sizes old (hand_of (pair (suc levels) old left divider (child_at (length before) (before ++ behind) tree.last) trunks)) trunks
+      last_is : right ≡ page_of (suc levels) tree.last
+
+    pair-there : (tree : TreeOf (suc (suc levels))) (trunks : List Trunk) → tree.page ≡ page → IsReady sizes (suc (suc levels)) old tree trunks → HasPair tree trunks
+    pair-there tree trunks is ready =
+        let told = page-tells sizes old Table (suc (suc levels)) page tree cells right is has ready.stands in
+        let f : TreeOf (suc levels) × TreeCell → Spelled = λ child. spelled child.1 in
+        let a = around-map f tree.children front cell back (sym (spelled-children tree.children) ∙ sym told.0 ∙ parts) in
+        let i = length a.before in
+        let others = a.before ++ a.after in
+        let stands = StandsBefore sizes old Table (suc levels) in
+        let all = subst (AllByRecursion stands) a.whole ready.stands.1.0 in
+        let rest = all-back stands a.before (a.item ∷ a.after) all in
+        let beside = all-join stands a.before a.after (all-front stands a.before (a.item ∷ a.after) all) rest.1 in
+        let spelled_others : front ++ back ≡ map spelled (cells_behind others) =
+        sym (map-append f a.before a.after ∙ cc (a.in_front, a.behind)) ∙ sym (spelled-children others) in
+        let long : length front ≡ i = omega (arith, ap length a.in_front, length-map a.before f) in
+        let among = pair-among (suc levels) a.before a.item.0 a.item.1 a.after tree.last in
+        let right_tree = child_at i others tree.last in
+        let was : parent_with (suc levels) tree.page i others tree.last (a.item ∷ []) right_tree ≡ tree = λ j. record { page = tree.page; children = (among.0 ∙ sym a.whole) j; last = among.1 j } in
+        let count = λ (n : ℕ). ap (λ (t : TreeOf (suc (suc levels))). times n (pages_of (suc (suc levels)) t)) was in
+        let named_next : next ≡ child_page i (map spelled (cells_behind others)) (page_of (suc levels) tree.last) =
+        ap (λ (k : ℕ). child_page k (front ++ back) right) long ∙ ap (λ (cs : List Spelled). child_page i cs right) spelled_others ∙ ap (λ (r : ℕ). child_page i (map spelled (cells_behind others)) r) told.1 in
+        record {
+          before = a.before;
+          left = a.item.0;
+          divider = a.item.1;
+          behind = a.after;
+          whole = a.whole;
+          others = spelled_others;
+          same = a.here;
+          named = sym rest.0.0.names ∙ ap (λ (c : Spelled). c.view.child) a.here;
+          stands = rest.0;
+          right_named = child-page sizes gone old (suc levels) i others tree.last beside ∙ sym named_next;
+          right_stands = (child-number sizes gone old (suc levels) i others tree.last beside ready.stands.1.1, child-stands sizes Table old (suc levels) i others tree.last beside ready.stands.1.1.1);
+          within = λ n. omega (arith, ready.within n, count n, (group-count n (suc levels) i others tree.last (a.item ∷ []) right_tree [] right_tree).0);
+          last_is = told.1;
+        }
+
+    -- the parent of such a pair, once it is one
+    pair-parent : (tree : TreeOf (suc (suc levels))) (trunks : List Trunk) (p : HasPair tree trunks) (home : TreeOf (suc levels)) → IsReady sizes (suc (suc levels)) old tree trunks
+        → HasJoined old p.left p.divider (child_at (length p.before) (p.before ++ p.behind) tree.last) trunks home written first bytes → HasParent old tree trunks front back written first bytes right
+    pair-parent tree trunks p home ready g =
+        let i = length p.before in
+        let others = p.before ++ p.behind in
+        let was = child_at i others tree.last in
+        let among = alone-among (suc levels) i others tree.last in
+        record {
+          home = parent_with (suc levels) tree.page i others tree.last [] home;
+          opened = pair-above old tree trunks p.before p.left p.divider p.behind written first bytes home p.whole ready g;
+          page = refl;
+          cells = p.others ∙ ap (map spelled) (sym (cells-same (suc levels) i others was home ∙ ap cells_behind among.0));
+          right_is = p.last_is ∙ sym (last-same (suc levels) i others tree.last was home g.page ∙ ap (page_of (suc levels)) among.1);
+        }
+
+    -- Two interior pages are joined where the right one has no cell any more.
+    right-parent : (tree : TreeOf (suc (suc levels))) (trunks : List Trunk) → tree.page ≡ page → IsFree sizes old trunks → IsReady sizes (suc (suc levels)) old tree trunks
+        → EmptiesBelow sizes gone (suc levels) next only old mid first bytes → HasCells sizes mid TableInterior cell.view.child beside last → middle.view.child ≡ last → Gives sizes cell.view.child mid given → Writes next given written
+        → IsPage (written.pages next) next sizes.usable TableInterior (bytes_in (beside ++ middle ∷ [])) only → HasParent old tree trunks front back written first bytes right
+    right-parent tree trunks is free ready empties has_beside names gives writes is_page =
+        let p = pair-there tree trunks is ready in
+        let there = child_at (length p.before) (p.before ++ p.behind) tree.last in
+        let j = right-joined old p.left p.divider there trunks mid given written first bytes middle p.within p.stands p.right_stands free is_cell (rowid ∙ sym (ap (λ (c : Spelled). c.view.rowid) p.same)) only beside last
+        (subst⁻¹ (λ (n : ℕ). EmptiesBelow sizes gone (suc levels) n only old mid first bytes) p.right_named empties) (subst⁻¹ (λ (n : ℕ). HasCells sizes mid TableInterior n beside last) p.named has_beside) names
+        (subst⁻¹ (λ (n : ℕ). Gives sizes n mid given) p.named gives) (subst⁻¹ (λ (n : ℕ). Writes n given written) p.right_named writes)
+        (subst⁻¹ (λ (n : ℕ). IsPage (written.pages n) n sizes.usable TableInterior (bytes_in (beside ++ middle ∷ [])) only) p.right_named is_page) in
+        pair-parent tree trunks p j.0 ready j.1
+
+    -- Two interior pages are joined where the left one has no cell any more.
+    left-parent : (tree : TreeOf (suc (suc levels))) (trunks : List Trunk) → tree.page ≡ page → IsFree sizes old trunks → IsReady sizes (suc (suc levels)) old tree trunks
+        → EmptiesBelow sizes gone (suc levels) cell.view.child only old mid first bytes → HasCells sizes mid TableInterior next beside last → middle.view.child ≡ only → Gives sizes cell.view.child mid given → Writes next given written
+        → IsPage (written.pages next) next sizes.usable TableInterior (bytes_in (middle ∷ beside)) last → HasParent old tree trunks front back written first bytes right
+    left-parent tree trunks is free ready empties has_beside names gives writes is_page =
+        let p = pair-there tree trunks is ready in
+        let there = child_at (length p.before) (p.before ++ p.behind) tree.last in
+        let j = left-joined old p.left p.divider there trunks mid given written first bytes middle p.within p.stands p.right_stands free is_cell (rowid ∙ sym (ap (λ (c : Spelled). c.view.rowid) p.same)) only beside last
+        (subst⁻¹ (λ (n : ℕ). EmptiesBelow sizes gone (suc levels) n only old mid first bytes) p.named empties) (subst⁻¹ (λ (n : ℕ). HasCells sizes mid TableInterior n beside last) p.right_named has_beside) names
+        (subst⁻¹ (λ (n : ℕ). Gives sizes n mid given) p.named gives) (subst⁻¹ (λ (n : ℕ). Writes n given written) p.right_named writes)
+        (subst⁻¹ (λ (n : ℕ). IsPage (written.pages n) n sizes.usable TableInterior (bytes_in (middle ∷ beside)) last) p.right_named is_page) in
+        pair-parent tree trunks p j.0 ready j.1
+
+    -- The parent keeps a cell, and is written without the one between the two.
+    pub right-joins : EmptiesBelow sizes gone (suc levels) next only old mid first bytes → HasCells sizes mid TableInterior cell.view.child beside last → middle.view.child ≡ last → Gives sizes cell.view.child mid given
+        → Writes next given written → IsPage (written.pages next) next sizes.usable TableInterior (bytes_in (beside ++ middle ∷ [])) only → (new : Paged) → Writes page written new
+        → IsPage (new.pages page) page sizes.usable TableInterior (bytes_in (front ++ back)) right → DeleteBelow sizes gone (suc (suc levels)) page old new (length (front ++ back)) first bytes
+    right-joins empties has_beside names gives writes is_page new writes_own written_own tree trunks is free ready =
+        let h = right-parent tree trunks is free ready empties has_beside names gives writes is_page in
+        interior-written sizes gone (suc levels) old tree trunks h.home written first bytes h.opened page new (front ++ back) right is h.cells h.right_is writes_own written_own h.page
+
+    pub left-joins : EmptiesBelow sizes gone (suc levels) cell.view.child only old mid first bytes → HasCells sizes mid TableInterior next beside last → middle.view.child ≡ only → Gives sizes cell.view.child mid given
+        → Writes next given written → IsPage (written.pages next) next sizes.usable TableInterior (bytes_in (middle ∷ beside)) last → (new : Paged) → Writes page written new
+        → IsPage (new.pages page) page sizes.usable TableInterior (bytes_in (front ++ back)) right → DeleteBelow sizes gone (suc (suc levels)) page old new (length (front ++ back)) first bytes
+    left-joins empties has_beside names gives writes is_page new writes_own written_own tree trunks is free ready =
+        let h = left-parent tree trunks is free ready empties has_beside names gives writes is_page in
+        interior-written sizes gone (suc levels) old tree trunks h.home written first bytes h.opened page new (front ++ back) right is h.cells h.right_is writes_own written_own h.page
+
+    -- The parent has no other cell, and is not written.
+    pub right-joins-only : front ++ back ≡ [] → EmptiesBelow sizes gone (suc levels) next only old mid first bytes → HasCells sizes mid TableInterior cell.view.child beside last → middle.view.child ≡ last → Gives sizes cell.view.child mid given
+        → Writes next given written → IsPage (written.pages next) next sizes.usable TableInterior (bytes_in (beside ++ middle ∷ [])) only → EmptiesBelow sizes gone (suc (suc levels)) page right old written first bytes
+    right-joins-only none empties has_beside names gives writes is_page tree trunks is free ready =
+        emptied-parent old tree trunks front back written first bytes right none (right-parent tree trunks is free ready empties has_beside names gives writes is_page)
+
+    pub left-joins-only : front ++ back ≡ [] → EmptiesBelow sizes gone (suc levels) cell.view.child only old mid first bytes → HasCells sizes mid TableInterior next beside last → middle.view.child ≡ only → Gives sizes cell.view.child mid given
+        → Writes next given written → IsPage (written.pages next) next sizes.usable TableInterior (bytes_in (middle ∷ beside)) last → EmptiesBelow sizes gone (suc (suc levels)) page right old written first bytes
+    left-joins-only none empties has_beside names gives writes is_page tree trunks is free ready =
+        emptied-parent old tree trunks front back written first bytes right none (left-parent tree trunks is free ready empties has_beside names gives writes is_page)

@@ -1,0 +1,72 @@
+-- What a writer of tables does page by page where it deletes a row, and what that means for whatever tree stands there.
+use Rattle.std.specs.Prelude.{◌≡◌, ℕ, ◌-◌, List, [], ◌∷◌, ◌++◌, length}
+use Rattle.byte_fields.specs.Bytes.{part_of}
+use Rattle.page_spec.specs.Chains.{IsChain, chain_bytes}
+use Rattle.page_spec.specs.Counts.{times}
+use Rattle.page_spec.specs.Freelists.{Trunk, free_pages}
+use Rattle.tree_spec.specs.declared.TreeKind.TheVariants.{Table}
+use Rattle.tree_spec.specs.Trees.{TreeOf, Rooted, Member, page_of, pages_of, own_cells, own_right}
+use Rattle.tree_spec.specs.Standing.{Sizes, Paged, Stands}
+use Rattle.tree_spec.specs.Worlds.{IsFree}
+use Rattle.tree_spec.specs.Changes.{Within, Turns}
+use Rattle.put_spec.specs.Puts.{After}
+use Rattle.put_spec.specs.Steps.{Spelled}
+use Rattle.delete_spec.specs.Deletes.{alone, IsOpened, IsDeleted, IsRootDeleted}
+
+module _ (sizes : Sizes) where
+  -- what a delete needs: the tree stands, and its pages are in hand
+  pub record IsReady (levels : ℕ) (base : Paged) (tree : TreeOf levels) (trunks : List Trunk) : Type 0 where
+    pub within : Within sizes base (pages_of levels tree) trunks
+    pub stands : Stands sizes base Table levels tree
+
+  -- a page was given back: it is free now
+  abbrev pub Gives : ℕ → Paged → Paged → Type 0
+  Gives page old new = (trunks : List Trunk) → IsFree sizes old trunks → times page (free_pages trunks) ≡ 0 → (rest : List Trunk) × Turns sizes old (page ∷ []) trunks new [] rest
+
+  -- these bytes are the payload of a cell: those that stand in its page, and those of its overflow chain, whichever pages that has
+  abbrev pub IsPayload : Paged → Spelled → List ℕ → Type 0
+  IsPayload base cell payload =
+      (chain : List ℕ) → IsChain base.pages sizes.size sizes.usable base.count cell.view.overflow (cell.view.payload - cell.view.local) chain
+      → payload ≡ part_of cell.bytes cell.view.local_at cell.view.local ++ chain_bytes base.pages sizes.usable chain (cell.view.payload - cell.view.local)
+
+  module _ (gone : Member) where
+    -- What a delete left of a tree, in its page, with the overflow chain of the cell that was taken out.
+    pub record DeleteDone (levels : ℕ) (old : Paged) (tree : TreeOf levels) (trunks : List Trunk) (new : Paged) (left first bytes : ℕ) : Type 0 where
+      pub home : TreeOf levels
+      pub rest : List Trunk
+      pub chain : List ℕ
+      pub deleted : IsDeleted sizes levels gone (alone levels old tree trunks) (record { base = new; siblings = []; home = home; trunks = rest; first = first; bytes = bytes; chain = chain })
+      pub page : page_of levels home ≡ page_of levels tree
+      pub cells : length (own_cells levels home) ≡ left
+
+    -- The tree's page would have no cell any more, but it is not written; in an interior page one child is left, the right one.
+    pub record EmptiedDone (levels : ℕ) (old : Paged) (tree : TreeOf levels) (trunks : List Trunk) (new : Paged) (only first bytes : ℕ) : Type 0 where
+      pub home : TreeOf levels
+      pub rest : List Trunk
+      pub chain : List ℕ
+      pub opened : IsOpened sizes levels gone (alone levels old tree trunks) (record { base = new; siblings = []; home = home; trunks = rest; first = first; bytes = bytes; chain = chain })
+      pub page : page_of levels home ≡ page_of levels tree
+      pub none : own_cells levels home ≡ []
+      pub right_is : own_right levels home ≡ only
+
+    -- whatever tree stands at the page, the delete is done, and the page has so many cells left
+    abbrev pub DeleteBelow : (levels : ℕ) → ℕ → Paged → Paged → ℕ → ℕ → ℕ → Type 0
+    DeleteBelow levels page old new left first bytes =
+        (tree : TreeOf levels) (trunks : List Trunk) → page_of levels tree ≡ page → IsFree sizes old trunks → IsReady levels old tree trunks → DeleteDone levels old tree trunks new left first bytes
+
+    -- whatever tree stands at the page, the delete leaves it without a cell, and with this right child: 0 in a leaf
+    abbrev pub EmptiesBelow : (levels : ℕ) → ℕ → ℕ → Paged → Paged → ℕ → ℕ → Type 0
+    EmptiesBelow levels page only old new first bytes =
+        (tree : TreeOf levels) (trunks : List Trunk) → page_of levels tree ≡ page → IsFree sizes old trunks → IsReady levels old tree trunks → EmptiedDone levels old tree trunks new only first bytes
+
+    -- What a delete has made of the tree of a root.
+    pub record RootDone (levels : ℕ) (old : Paged) (tree : TreeOf levels) (trunks : List Trunk) (new : Paged) (first bytes : ℕ) : Type 0 where
+      pub rooted : Rooted
+      pub rest : List Trunk
+      pub chain : List ℕ
+      pub deleted : IsRootDeleted sizes levels gone old tree trunks new rooted first bytes chain rest
+
+    -- whatever tree stands at the root, the row is out of it
+    abbrev pub DeleteAt : (levels : ℕ) → ℕ → Paged → Paged → ℕ → ℕ → Type 0
+    DeleteAt levels root old new first bytes =
+        (tree : TreeOf levels) (trunks : List Trunk) → page_of levels tree ≡ root → IsFree sizes old trunks → IsReady levels old tree trunks → RootDone levels old tree trunks new first bytes

@@ -1,10 +1,10 @@
 -- What follows for a cursor from what the calls that it makes say.
-use Rattle.std.proofs.Common.{◌≡◌, ◌≢◌, ℕ, ℤ, ◌<◌, ◌≤◌, true, false, List, [], ◌∷◌, length, Option, Some, None, IfSome, IfErr, Result, Ok, Err, refl, sym, ap, ◌∙◌, subst, inl, inr, arith}
+use Rattle.std.proofs.Common.{◌≡◌, ◌≢◌, ℕ, ℤ, ◌<◌, ◌≤◌, true, false, List, [], ◌∷◌, length, Option, Some, None, IfSome, IfErr, OnOk, Result, Ok, Err, refl, sym, ap, ◌∙◌, subst, inl, inr, arith}
 use Rattle.std.proofs.Math.Path.{subst⁻¹}
 use Rattle.common_spec.specs.Reading.{OrFault}
 use Rattle.format_spec.specs.declared.PageKind.{PageKind}
 use Rattle.format_spec.specs.declared.PageKind.TheVariants.{IndexInterior, TableInterior, IndexLeaf, TableLeaf}
-use Rattle.page_spec.specs.Pages.{Pages}
+use Rattle.page_spec.specs.Pages.{Pages, IsInRange}
 use Rattle.page_store.specs.declared.store.PageRead.{Ghosts}
 use Rattle.page_store.specs.Store.{Stays, OwesBy, IsCause}
 use Rattle.overflow_chain.specs.declared.fault.ChainFault.{ChainFault}
@@ -24,9 +24,15 @@ use Rattle.tree_walk.specs.declared.page.TreePage.{TreePage}
 use Rattle.tree_walk.specs.declared.place.Place.{Place}
 use Rattle.tree_walk.specs.declared.path.Cursor.{Cursor}
 use Rattle.tree_walk.specs.Pages.{IsDecoded, IsBadRead, IsReadFault, has_dividers, is_leaf, tree_kind}
-use Rattle.tree_walk.specs.Places.{Rises, child_at, low_at, high_at, IsBadNumber, IsBadPage, IsBounded, IsEntered, IsChild, IsBadRoot, IsBadStep, OutOfOrder, EntersPage, EntersRoot, IsOutOfPlace}
+use Rattle.tree_walk.specs.Places.{most_above, Rises, child_at, low_at, high_at, IsBadNumber, IsBadPage, IsBounded, IsEntered, IsChild, IsBadRoot, IsBadStep, OutOfOrder, EntersPage, EntersRoot, IsOutOfPlace}
 use Rattle.tree_walk.specs.Walks.{IsAbove, StandsAt, Leaves}
+use Rattle.tree_walk.specs.Courses.{Course, GoesFrom}
 use Rattle.tree_walk.proofs.Steps.{landed, root_above, root_bad}
+
+-- what holds in any case holds where a call ends well
+pub ok-so : {T E P : Type 0} (result : Result T E) → P → OnOk result P
+ok-so (Ok done) p = p
+ok-so (Err error) p = tt
 
 -- what is said of a store's sizes and count after a call that leaves them
 pub at-sizes : {P F : Type 0} (g : Ghosts P F) {before after : P} → Stays g before after → g.count after ≡ g.count before → (Q : ℕ → ℕ → ℕ → Type 0)
@@ -88,11 +94,11 @@ module _ (bytes : List ℕ) (number usable : ℕ) where
   misplaced {F} kind low high read r fault is decoded out =
       subst⁻¹ (λ (f : TreeFault F). IsDamageOrOther (IsBadPage bytes number usable kind low high) f) is (decoded.number_is, inr (read, decoded, out))
 
-  unordered-page : {F : Type 0} (kind : TreeKind) (low : Option ℤ) (high : ℤ) (read : TreePage) (fault : TreeFault F) → IsDecoded bytes number usable read → IsDamage (OutOfOrder read low high) fault
+  unordered-page : {F : Type 0} (kind : TreeKind) (low : Option ℤ) (high : ℤ) (read : TreePage) (fault : TreeFault F) → tree_kind read.kind ≡ kind → read.views ≢ [] → IsDecoded bytes number usable read → IsDamage (OutOfOrder read low high) fault
       → IsDamageOrOther (IsBadPage bytes number usable kind low high) fault
-  unordered-page kind low high read fault decoded bad =
+  unordered-page kind low high read fault kind_is some decoded bad =
       damage-then (OutOfOrder read low high) (IsBadPage bytes number usable kind low high)
-      (λ page r bad. (bad.0 ∙ decoded.number_is, inr (read, decoded, subst⁻¹ (IsOutOfPlace kind low high read) bad.1 bad.2))) fault (damage-weaken (OutOfOrder read low high) fault bad)
+      (λ page r bad. (bad.0 ∙ decoded.number_is, inr (read, decoded, subst⁻¹ (IsOutOfPlace kind low high read) bad.1 (kind_is, some, bad.2)))) fault (damage-weaken (OutOfOrder read low high) fault bad)
 
   unordered-root : {F : Type 0} (read : TreePage) (fault : TreeFault F) → IsDecoded bytes number usable read → IsDamage (OutOfOrder read None greatest_rowid) fault → IsDamageOrOther (IsBadRoot bytes number usable) fault
   unordered-root read fault decoded bad =
@@ -112,7 +118,7 @@ module _ (bytes : List ℕ) (number usable : ℕ) where
       }
   stands-below parent low high read (Err fault) low_is high_is kind some bad decoded =
       subst (λ (l : Option ℤ). IsDamageOrOther (IsBadPage bytes number usable (tree_kind parent.page.kind) l (high_at parent)) fault) low_is
-      (subst (λ (h : ℤ). IsDamageOrOther (IsBadPage bytes number usable (tree_kind parent.page.kind) low h) fault) high_is (unordered-page (tree_kind parent.page.kind) low high read fault decoded bad))
+      (subst (λ (h : ℤ). IsDamageOrOther (IsBadPage bytes number usable (tree_kind parent.page.kind) low h) fault) high_is (unordered-page (tree_kind parent.page.kind) low high read fault kind some decoded bad))
 
   pub stands-root : {F : Type 0} (read : TreePage) (result : Result Place (TreeFault F)) → OrFault (IsBounded read None greatest_rowid) (IsDamage (OutOfOrder read None greatest_rowid)) result
       → IsDecoded bytes number usable read → EntersRoot bytes number usable result
@@ -127,17 +133,17 @@ module _ (pages : Pages) (size usable count : ℕ) (parent : Place) (above : ℕ
   abbrev IsBadChildPage : ℕ → Rule → Type 0
   IsBadChildPage page r = IsBadPage (pages (child_at parent)) (child_at parent) usable (tree_kind parent.page.kind) (low_at parent) (high_at parent) page r
 
-  bad_page-step : {F : Type 0} (fault : TreeFault F) → IsDamageOrOther IsBadChildPage fault → IsDamageOrOther (IsBadStep pages size usable count parent above) fault
-  bad_page-step = damage-then IsBadChildPage (IsBadStep pages size usable count parent above) (λ page r bad. inr (inr bad))
+  bad_page-step : {F : Type 0} → IsInRange size count (child_at parent) → above < most_above → (fault : TreeFault F) → IsDamageOrOther IsBadChildPage fault → IsDamageOrOther (IsBadStep pages size usable count parent above) fault
+  bad_page-step in_range few = damage-then IsBadChildPage (IsBadStep pages size usable count parent above) (λ page r bad. inr (inr (in_range, few, bad)))
 
   -- a page that is entered below another, by the number of the child
-  pub page-child : {F : Type 0} (number : ℕ) → number ≡ child_at parent → (result : Result Place (TreeFault F)) → EntersPage (pages number) number usable parent result
+  pub page-child : {F : Type 0} (number : ℕ) → number ≡ child_at parent → IsInRange size count number → above < most_above → (result : Result Place (TreeFault F)) → EntersPage (pages number) number usable parent result
       → OrFault (IsChild pages usable parent) (IsDamageOrOther (IsBadStep pages size usable count parent above)) result
-  page-child {F} number is result enters = by result (subst (λ (n : ℕ). EntersPage {F = F} (pages n) n usable parent result) is enters)
+  page-child {F} number is in_range few result enters = by result (subst (λ (n : ℕ). EntersPage {F = F} (pages n) n usable parent result) is enters)
     where
       by : (r : Result Place (TreeFault F)) → EntersPage {F = F} (pages (child_at parent)) (child_at parent) usable parent r → OrFault (IsChild pages usable parent) (IsDamageOrOther (IsBadStep pages size usable count parent above)) r
       by (Ok place) below = below
-      by (Err fault) bad = bad_page-step fault bad
+      by (Err fault) bad = bad_page-step (subst (IsInRange size count) is in_range) few fault bad
 
 -- kinds whose cells are no members
 pub dividers : (kind : PageKind) → has_dividers kind ≡ true → kind ≡ TableInterior
@@ -180,3 +186,7 @@ module _ (sizes : Sizes) (base : Paged) where
   root_not_bad root kind depth members numbers is =
       damage-none (IsBadRoot (base.pages root) root sizes.usable)
       (λ page r bad. root_bad sizes base is.rooted is.is_root page r (subst⁻¹ (λ (n : ℕ). IsBadRoot (base.pages n) n sizes.usable page r) is.root_is bad))
+
+-- the walk stays where cursors go down
+abbrev pub KeepsWalk : Sizes → Paged → Cursor → Cursor → Type 0
+KeepsWalk sizes base old new = (course : Course) → GoesFrom sizes base course old → GoesFrom sizes base course new

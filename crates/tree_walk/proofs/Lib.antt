@@ -3,6 +3,7 @@ pub mod TreeFacts
 pub mod Steps
 pub mod Sought
 pub mod Paths
+pub mod Courses
 pub mod Rows
 pub mod Calls
 pub mod Loops

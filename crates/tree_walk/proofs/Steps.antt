@@ -29,7 +29,7 @@ use Rattle.tree_walk.proofs.TreeFacts.{child_tree, tree_kind-at, leaf-at, interi
 pub reverse-more : {A : Type 0} (xs : List A) (x : A) → reverse (xs ++ x ∷ []) ≡ x ∷ reverse xs
 reverse-more xs x = reverse-append xs (x ∷ [])
 
-not_empty : {A : Type 0} (xs : List A) → xs ≢ [] → 0 < length xs
+pub not_empty : {A : Type 0} (xs : List A) → xs ≢ [] → 0 < length xs
 not_empty [] some = absurd (some refl)
 not_empty (x ∷ xs) some = omega arith
 
@@ -45,8 +45,8 @@ module _ (sizes : Sizes) (base : Paged) (kind : TreeKind) (levels : ℕ) (tree :
       → IsOutOfPlace kind low high read r → ⊥
   not-out some read broken.Kind decoded out = out (read-tree_kind sizes base kind levels tree stands read decoded)
   not-out some read broken.Empty decoded out =
-      omega (arith, some, ap length (sym (read-views sizes base kind levels tree stands read decoded) ∙ out), length-map (own_cells levels tree) (λ (c : TreeCell). c.view))
-  not-out some read broken.Cells decoded out = out (in_order read decoded)
+      omega (arith, some, ap length (sym (read-views sizes base kind levels tree stands read decoded) ∙ out.1), length-map (own_cells levels tree) (λ (c : TreeCell). c.view))
+  not-out some read broken.Cells decoded out = out.2 (in_order read decoded)
   not-out some read broken.Child decoded out = out
   not-out some read broken.Depth decoded out = out
   not-out some read broken.Chain decoded out = out
@@ -156,8 +156,8 @@ module _ (sizes : Sizes) (base : Paged) (kind : TreeKind) where
     where
       bad : (page : ℕ) (r : Rule) → IsBadStep base.pages sizes.size sizes.usable base.count old.here (length old.above.items) page r → ⊥
       bad page r (inl number) = number.2 (child-in_range sizes base kind levels tree old.here is within)
-      bad page r (inr (inl many)) = omega (arith, deep, many.2)
-      bad page r (inr (inr refused)) = child-not_refused sizes base kind levels tree old.here is within r refused.1
+      bad page r (inr (inl many)) = omega (arith, deep, many.3)
+      bad page r (inr (inr refused)) = child-not_refused sizes base kind levels tree old.here is within r refused.2.1
 
   step_by : {F : Type 0} (rest : List Member) (old new : Cursor) (levels : ℕ) (tree : TreeOf levels) (is : IsPlace sizes base kind levels tree old.here) (later : List Member)
       → IsLeft sizes base kind levels (reverse old.above.items) later → rest ≡ from_place kind levels tree old.here.at ++ later → levels + length old.above.items ≤ 24

@@ -5,4 +5,5 @@ pub mod PathsLaws
 pub mod Payloads
 pub mod Walks
 pub mod Rising
+pub mod Courses
 pub mod Seeks

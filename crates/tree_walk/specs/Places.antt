@@ -1,5 +1,5 @@
 -- Places on the way of a cursor: the bounds and the child that a page gives, and which pages may be entered.
-use Rattle.std.specs.Prelude.{◌≡◌, ◌≢◌, ℕ, ℤ, zero, suc, ◌≤◌, ◌⊎◌, List, [], map, Option, Some, None, Result, slice_get}
+use Rattle.std.specs.Prelude.{◌≡◌, ◌≢◌, ℕ, ℤ, zero, suc, ◌<◌, ◌≤◌, ◌⊎◌, List, [], map, Option, Some, None, Result, slice_get}
 use Rattle.common_spec.specs.Reading.{OrFault}
 use Rattle.format_spec.specs.declared.CellView.{CellView}
 use Rattle.page_spec.specs.Pages.{Pages, IsInRange}
@@ -79,11 +79,11 @@ IsChildNumber size count parent result = OrFault (λ number. (number ≡ child_a
 abbrev pub most_above : ℕ
 most_above = 24
 
--- what is wrong with a page that was read, in its place
+-- what is wrong with a page that was read, in its place: of several the first
 abbrev pub IsOutOfPlace : TreeKind → Option ℤ → ℤ → TreePage → Rule → Type 0
 IsOutOfPlace kind low high page broken.Kind = tree_kind page.kind ≢ kind
-IsOutOfPlace kind low high page broken.Empty = page.views ≡ []
-IsOutOfPlace kind low high page broken.Cells = ¬ Rises (tree_kind page.kind) low high page.views
+IsOutOfPlace kind low high page broken.Empty = (tree_kind page.kind ≡ kind) × (page.views ≡ [])
+IsOutOfPlace kind low high page broken.Cells = (tree_kind page.kind ≡ kind) × (page.views ≢ []) × ¬ Rises (tree_kind page.kind) low high page.views
 IsOutOfPlace kind low high page _ = ⊥
 
 -- a page of these bytes is refused: as a page, or in its place
@@ -124,12 +124,12 @@ module _ (pages : Pages) where
   abbrev pub IsChild : ℕ → Place → Place → Type 0
   IsChild usable parent child = IsBelow (pages (child_at parent)) (child_at parent) usable parent child
 
-  -- why the child of a place is not entered: its number is out of range, too many pages are above it, or its page is refused
+  -- why the child of a place is not entered: its number is out of range; else too many pages are above it; else its page is refused
   abbrev pub IsBadStep : ℕ → ℕ → ℕ → Place → ℕ → ℕ → Rule → Type 0
   IsBadStep size usable count parent above page rule =
       IsBadNumber size count parent page rule
-      ⊎ ((page ≡ child_at parent) × (rule ≡ broken.Depth) × (most_above ≤ above))
-      ⊎ IsBadPage (pages (child_at parent)) (child_at parent) usable (tree_kind parent.page.kind) (low_at parent) (high_at parent) page rule
+      ⊎ (IsInRange size count (child_at parent) × (page ≡ child_at parent) × (rule ≡ broken.Depth) × (most_above ≤ above))
+      ⊎ (IsInRange size count (child_at parent) × (above < most_above) × IsBadPage (pages (child_at parent)) (child_at parent) usable (tree_kind parent.page.kind) (low_at parent) (high_at parent) page rule)
 
   -- the child of a place is entered, or not
   abbrev pub EntersChild : {F : Type 0} → ℕ → ℕ → ℕ → Place → ℕ → Result Place (TreeFault F) → Type 0

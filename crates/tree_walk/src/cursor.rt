@@ -7,7 +7,10 @@ ghost use Rattle.tree_spec.specs.Trees.{Member};
 ghost use Rattle.tree_spec.specs.Standing.{Paged, Sizes};
 ghost use Rattle.tree_spec.specs.Faults.{fault_in};
 ghost use Rattle.tree_walk.specs.Pages.{is_leaf as is_leaf_of};
+ghost use Rattle.page_spec.specs.Pages.{IsInRange};
+ghost use Rattle.tree_walk.specs.Courses.{Course, FromCell, GoesOn, IsOn, LandsOn, MovesOver, ReadsFirst, SettlesOn, StartsAt, StartsWalk};
 ghost use Rattle.tree_walk.specs.Paths.{IsKept};
+ghost use Rattle.tree_walk.specs.Places.{child_at};
 ghost use Rattle.tree_walk.specs.Rising.{ComesUp, KeepsHigh, KeepsLow, MovesUp, kind_of, rowid_at};
 ghost use Rattle.tree_walk.specs.Walks.{GoesDown, IsAtCell, IsPast, Lands, MovesOn, ReadsRow, Settles, StandsBelow, StandsFirst, StepsDown};
 
@@ -47,6 +50,7 @@ impl Cursor {
         requires sizes { HasSizes S.PageRead store.old }
         requires inner { is_leaf_of self.old.here.page.kind ≡ false }
         ensures pages { Sees S.PageRead store.old store.new (λ m. StepsDown (record { size = S.size store.old; usable = S.usable store.old }) (record { count = S.count store.old; pages = m }) self.old self.new result) }
+        ensures named { OnOk result (IsInRange (S.size store.old) (S.count store.old) (child_at self.old.here)) }
         ensures room { OnOk result (array_vec_len self.old.above < 24) }
         ensures bound { OnOk result (KeepsLow self.old self.new) }
         ensures longer { OnOk result (array_vec_len self.new.above ≡ array_vec_len self.old.above + 1) }
@@ -70,6 +74,7 @@ impl Cursor {
     ) -> Result<(), TreeFault<S::Fault>>
         requires { HasSizes S.PageRead store.old }
         ensures pages { Sees S.PageRead store.old store.new (λ m. GoesDown (record { size = S.size store.old; usable = S.usable store.old }) (record { count = S.count store.old; pages = m }) self.old self.new result) }
+        ensures walk { Sees S.PageRead store.old store.new (λ m. GoesOn (record { size = S.size store.old; usable = S.usable store.old }) (record { count = S.count store.old; pages = m }) self.old self.new result) }
         ensures leaf { OnOk result (is_leaf_of self.new.here.page.kind ≡ true) }
         ensures bound { OnOk result (KeepsLow self.old self.new) }
         ensures owes { OwesBy S.PageRead fault_in store.old store.new result }
@@ -91,6 +96,7 @@ impl Cursor {
     ) -> Result<bool, TreeFault<S::Fault>>
         requires { HasSizes S.PageRead store.old }
         ensures pages { Sees S.PageRead store.old store.new (λ m. Lands (record { size = S.size store.old; usable = S.usable store.old }) (record { count = S.count store.old; pages = m }) self.old self.new result) }
+        ensures walk { Sees S.PageRead store.old store.new (λ m. LandsOn (record { size = S.size store.old; usable = S.usable store.old }) (record { count = S.count store.old; pages = m }) self.old self.new result) }
         ensures bound { OnOk result (KeepsLow self.old self.new) }
         ensures moved { IfOk result (λ moved. IsTrue moved ↔ ¬ IsPast self.new) }
         ensures owes { OwesBy S.PageRead fault_in store.old store.new result }
@@ -104,6 +110,7 @@ impl Cursor {
     // Leaves the pages of which nothing is left.
     fn climb(&mut self)
         ensures left { (sizes : Sizes) (base : Paged) (kind : TreeKind) (rest : List Member) → IsAtCell sizes base kind rest self.old → IsAtCell sizes base kind rest self.new }
+        ensures walk { (sizes : Sizes) (base : Paged) (course : Course) → IsOn sizes base (FromCell sizes base) course self.old → IsOn sizes base (FromCell sizes base) course self.new }
         ensures bound { KeepsHigh self.old self.new }
         ensures inner { IsPast self.old → ¬ IsPast self.new → is_leaf_of self.new.here.page.kind ≡ false }
         ensures ends { IsPast self.new → self.new.above.items ≡ [] }
@@ -124,6 +131,7 @@ impl Cursor {
     ) -> Result<bool, TreeFault<S::Fault>>
         requires { HasSizes S.PageRead store.old }
         ensures pages { Sees S.PageRead store.old store.new (λ m. Settles (record { size = S.size store.old; usable = S.usable store.old }) (record { count = S.count store.old; pages = m }) self.old self.new result) }
+        ensures walk { Sees S.PageRead store.old store.new (λ m. SettlesOn (record { size = S.size store.old; usable = S.usable store.old }) (record { count = S.count store.old; pages = m }) self.old self.new result) }
         ensures kind { OnOk result (kind_of self.new ≡ kind_of self.old) }
         ensures rises { IfOk result (ComesUp self.old self.new) }
         ensures moved { IfOk result (λ moved. IsTrue moved ↔ ¬ IsPast self.new) }
@@ -149,6 +157,7 @@ impl Cursor {
         requires sizes { HasSizes S.PageRead store.old }
         requires kept { IsKept here }
         ensures pages { Sees S.PageRead store.old store.new (λ m. StandsBelow (record { size = S.size store.old; usable = S.usable store.old }) (record { count = S.count store.old; pages = m }) here result) }
+        ensures walk { Sees S.PageRead store.old store.new (λ m. StartsAt (record { size = S.size store.old; usable = S.usable store.old }) (record { count = S.count store.old; pages = m }) here result) }
         ensures owes { OwesBy S.PageRead fault_in store.old store.new result }
     {
         let mut cursor = Cursor {
@@ -171,6 +180,7 @@ impl Cursor {
         requires first { 1 ≤ root }
         requires within { root ≤ S.count store.old }
         ensures pages { Sees S.PageRead store.old store.new (λ m. StandsFirst (record { size = S.size store.old; usable = S.usable store.old }) (record { count = S.count store.old; pages = m }) root result) }
+        ensures walk { Sees S.PageRead store.old store.new (λ m. StartsWalk (record { size = S.size store.old; usable = S.usable store.old }) (record { count = S.count store.old; pages = m }) root result) }
         ensures owes { OwesBy S.PageRead fault_in store.old store.new result }
     {
         match enter_root(alloc, store, root) {
@@ -187,6 +197,7 @@ impl Cursor {
     ) -> Result<bool, TreeFault<S::Fault>>
         requires { HasSizes S.PageRead store.old }
         ensures pages { Sees S.PageRead store.old store.new (λ m. MovesOn (record { size = S.size store.old; usable = S.usable store.old }) (record { count = S.count store.old; pages = m }) self.old self.new result) }
+        ensures walk { Sees S.PageRead store.old store.new (λ m. MovesOver (record { size = S.size store.old; usable = S.usable store.old }) (record { count = S.count store.old; pages = m }) self.old self.new result) }
         ensures kind { OnOk result (kind_of self.new ≡ kind_of self.old) }
         ensures rises { IfOk result (MovesUp self.old self.new) }
         ensures moved { IfOk result (λ moved. IsTrue moved ↔ ¬ IsPast self.new) }
@@ -210,6 +221,7 @@ impl Cursor {
     ) -> Result<Option<Row>, TreeFault<S::Fault>>
         requires { HasSizes S.PageRead store.old }
         ensures pages { Sees S.PageRead store.old store.new (λ m. ReadsRow (record { size = S.size store.old; usable = S.usable store.old }) (record { count = S.count store.old; pages = m }) self.now result) }
+        ensures walk { Sees S.PageRead store.old store.new (λ m. ReadsFirst (record { size = S.size store.old; usable = S.usable store.old }) (record { count = S.count store.old; pages = m }) self.now result) }
         ensures none { IfOk result (λ row. IsNone row ↔ IsPast self.now) }
         ensures rowid { IfOk result (λ row. IfSome row (λ row. row.rowid ≡ rowid_at self.now)) }
         ensures owes { OwesBy S.PageRead fault_in store.old store.new result }

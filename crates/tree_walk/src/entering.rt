@@ -115,6 +115,7 @@ pub fn enter_child<S: PageRead>(
     requires { HasSizes S.PageRead store.old }
     ensures pages { Sees S.PageRead store.old store.new (λ m. EntersChild m (S.size store.old) (S.usable store.old) (S.count store.old) parent.now above result) }
     ensures under { IfOk result (IsFirstUnder parent.now) }
+    ensures named { OnOk result (IsInRange (S.size store.old) (S.count store.old) (child_at parent.now)) }
     ensures room { OnOk result (above < 24) }
     ensures owes { OwesBy S.PageRead fault_in store.old store.new result }
 {

@@ -2,7 +2,10 @@ use Rattle.std.proofs.Common.{◌≡◌, false, Ok, Err, sym, refl, ◌∙◌}
 use Rattle.std.proofs.lemmas.Option.{IfSome_then}
 use Rattle.common_spec.specs.ToldLaws.{told-both}
 use Rattle.tree_walk.specs.Pages.{is_leaf}
+use Rattle.page_spec.specs.Pages.{IsInRange}
+use Rattle.tree_walk.specs.Places.{child_at}
 use Rattle.tree_walk.specs.Walks.{StepsDown}
+use Rattle.tree_walk.proofs.Courses.{step-entered, step-refused}
 use Rattle.tree_walk.proofs.Calls.{at-sizes, some-all}
 use Rattle.tree_walk.proofs.Steps.{stepped}
 use Rattle.tree_walk.proofs.path.Cursor.descend.Goals as goal
@@ -13,6 +16,7 @@ loop-alloc-init g c = record {
   faults = refl;
   count = refl;
   same = refl;
+  walk = some-all (g.S.PageRead.pages c.args.store.now) (λ m course goes. goes);
   bound = record { kind_is = refl; low_is = refl };
   left = some-all (g.S.PageRead.pages c.args.store.now) (λ m kind rest above. above);
 }
@@ -29,6 +33,10 @@ loop-alloc-preserved g c =
       faults = step.owes.faults.still ∙ inv.faults;
       count = step.pages.count ∙ inv.count;
       same = step.pages.same ∙ inv.same;
+      walk = told-both (g.S.PageRead.pages first) inv.same inv.walk step.pages.answer (λ m walk down. λ course goes.
+          let steps = at-sizes g.S.PageRead inv.stays inv.count (λ s u n. StepsDown {F = g.row.S-Fault.Denot} (record { size = s; usable = u }) (record { count = n; pages = m }) old c.step_down.new.self (Ok tt)) down in
+          step-entered (record { size = g.S.PageRead.size first; usable = g.S.PageRead.usable first }) (record { count = g.S.PageRead.count first; pages = m }) course old c.step_down.new.self inner steps.0 step.room
+          (at-sizes g.S.PageRead inv.stays inv.count (λ s u n. IsInRange s n (child_at old.here)) step.named) steps.1 (walk course goes));
       bound = record { kind_is = step.bound.kind_is ∙ inv.bound.kind_is; low_is = step.bound.low_is ∙ inv.bound.low_is };
       left = told-both (g.S.PageRead.pages first) inv.same inv.left step.pages.answer (λ m left down. λ kind rest above.
           stepped (record { size = g.S.PageRead.size first; usable = g.S.PageRead.usable first }) (record { count = g.S.PageRead.count first; pages = m }) kind {F = g.row.S-Fault.Denot} rest old c.step_down.new.self
@@ -55,4 +63,25 @@ returns-in-Err-clause-pages g c =
           stepped (record { size = g.S.PageRead.size first; usable = g.S.PageRead.usable first }) (record { count = g.S.PageRead.count first; pages = m }) kind {F = g.row.S-Fault.Denot} rest old c.step_down.new.self
           (Err c.in-Err.fault) inner
           (at-sizes g.S.PageRead inv.stays inv.count (λ s u n. StepsDown {F = g.row.S-Fault.Denot} (record { size = s; usable = u }) (record { count = n; pages = m }) old c.step_down.new.self (Err c.in-Err.fault)) down) (left kind rest above));
+    }
+
+pub returns-clause-walk : goal.returns-clause-walk
+returns-clause-walk g c =
+    let inv = c.loop-alloc.invariant in
+    record { same = inv.same; count = inv.count; answer = IfSome_then (g.S.PageRead.pages c.args.store.now) inv.walk (λ m walk. λ course goes. walk course goes) }
+
+pub returns-in-Err-clause-walk : goal.returns-in-Err-clause-walk
+returns-in-Err-clause-walk g c =
+    let inv = c.loop-alloc.invariant in
+    let step = c.in-Err.ensures in
+    let first = c.args.store.now in
+    let old = c.loop-alloc.self in
+    let inner : is_leaf old.here.page.kind ≡ false = sym c.is_leaf.ensures ∙ c.loop-alloc-test.true in
+    record {
+      same = step.pages.same ∙ inv.same;
+      count = step.pages.count ∙ inv.count;
+      answer = told-both (g.S.PageRead.pages first) inv.same inv.walk step.pages.answer (λ m walk down. λ course goes.
+          step-refused (record { size = g.S.PageRead.size first; usable = g.S.PageRead.usable first }) (record { count = g.S.PageRead.count first; pages = m }) course old c.in-Err.fault inner
+          (at-sizes g.S.PageRead inv.stays inv.count (λ s u n. StepsDown {F = g.row.S-Fault.Denot} (record { size = s; usable = u }) (record { count = n; pages = m }) old c.step_down.new.self (Err c.in-Err.fault)) down)
+          (walk course goes));
     }

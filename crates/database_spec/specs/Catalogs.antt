@@ -1,26 +1,23 @@
 -- The catalog of a database: what the rows of its schema say of its tables and indexes (The Schema Table, section 2), and which rows are right.
-use Rattle.std.specs.Prelude.{◌≡◌, ℕ, suc, ◌<◌, ◌==◌, ◌&&◌, ◌||◌, Bool, true, false, IsTrue, IsFalse, IfOk, if◌then◌else◌, List, [], ◌∷◌, ◌++◌, length, map, filter, filter_map, AllPairs, IsPermutation, not, Option, Some, None, is_none, Result, Ok, Err, decimal, codes}
-use Rattle.std.specs.List.{list_any, AllZip}
+use Rattle.std.specs.Prelude.{◌≡◌, ℕ, suc, ◌<◌, ◌==◌, ◌&&◌, Bool, true, false, if◌then◌else◌, List, [], ◌∷◌, ◌++◌, map, filter, AllPairs, IsPermutation, not, Option, Some, None, Result, Ok, Err, decimal, codes}
+use Rattle.std.specs.List.{AllZip}
 use Rattle.rbu_value.specs.declared.order.Collation.{Collation}
 use Rattle.common_spec.specs.Reading.{OrNone, OrFault}
 use Rattle.format_spec.specs.Header.{schema_format}
-use Rattle.schema_spec.specs.declared.schema.Clause.TheVariants.{View as ViewClause, Virtual as VirtualClause}
+use Rattle.schema_spec.specs.declared.schema.Clause.TheVariants.{View as ViewClause}
 use Rattle.schema_spec.specs.declared.schema.SqlFault.{SqlFault}
 use Rattle.schema_spec.specs.declared.schema.SqlFault.TheVariants.{OutsideProfile}
 use Rattle.schema_spec.specs.declared.schema.Table.{Table}
 use Rattle.schema_spec.specs.declared.schema.Index.{Index}
 use Rattle.schema_spec.specs.Words.{same_name}
 use Rattle.schema_spec.specs.Texts.{MeansTable, HasTableFault, MeansIndex, HasIndexFault}
-use Rattle.tree_spec.specs.declared.TreeKind.TheVariants.{Table as TableTree}
 use Rattle.tree_spec.specs.Trees.{Member}
-use Rattle.tree_spec.specs.Standing.{Sizes, Paged, IsNumber}
+use Rattle.tree_spec.specs.Standing.{Paged}
 use Rattle.database_spec.specs.declared.catalog.SchemaKind.{SchemaKind}
 use Rattle.database_spec.specs.declared.catalog.SchemaKind.TheVariants as kind
-use Rattle.database_spec.specs.declared.catalog.Entry.{Entry}
 use Rattle.database_spec.specs.declared.catalog.NamedEntry.{NamedEntry}
 use Rattle.database_spec.specs.declared.catalog.Catalog.{Catalog}
 use Rattle.database_spec.specs.SchemaRows.{SchemaRow, IsSchemaRow}
-use Rattle.database_spec.specs.Walks.{IsList}
 
 -- a table, a virtual table or a view: what has a name among tables
 abbrev pub is_table : SchemaRow → Bool

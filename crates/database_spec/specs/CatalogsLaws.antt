@@ -1,5 +1,5 @@
 -- A database has one catalog, or one fault for which it has none: crates above cite these facts in their proofs.
-use Rattle.std.proofs.Common.{◌≡◌, ◌<◌, ℕ, ℤ, pos, ◌==◌, Bool, true, false, ◌⊎◌, IsTrue, IsFalse, List, [], ◌∷◌, ◌++◌, length, map, Option, Some, None, Result, Ok, Err, refl, sym, ap, ap₂, ◌∙◌, subst, inl, inr, arith}
+use Rattle.std.proofs.Common.{◌≡◌, ◌<◌, ℕ, pos, ◌==◌, List, [], ◌∷◌, ◌++◌, length, Option, Some, None, Result, Ok, Err, refl, sym, ap, ◌∙◌, inl, inr, arith}
 use Rattle.std.specs.Prelude.{filter, slice_index, if◌then◌else◌}
 use Rattle.std.proofs.Math.Path.{subst⁻¹}
 use Rattle.std.specs.List.{AllZip}
@@ -12,8 +12,7 @@ use Rattle.record_codec.specs.RecordLaws.{record-same}
 use Rattle.refusal.specs.declared.Rule.{Rule}
 use Rattle.schema_spec.specs.declared.schema.SqlFault.{SqlFault}
 use Rattle.schema_spec.specs.declared.schema.Table.{Table}
-use Rattle.schema_spec.specs.declared.schema.Index.{Index}
-use Rattle.schema_spec.specs.Texts.{MeansTable, HasTableFault, MeansIndex, HasIndexFault}
+use Rattle.schema_spec.specs.Texts.{HasIndexFault}
 use Rattle.schema_spec.specs.TextsLaws.{one_table_answer, one_index, one_index_fault, index_no_fault}
 use Rattle.tree_spec.specs.declared.TreeKind.{TreeKind}
 use Rattle.tree_spec.specs.declared.TreeKind.TheVariants.{Table as TableTree}
@@ -21,17 +20,15 @@ use Rattle.tree_spec.specs.Trees.{Member}
 use Rattle.tree_spec.specs.Standing.{Sizes, Paged}
 use Rattle.database_spec.specs.declared.catalog.SchemaKind.{SchemaKind}
 use Rattle.database_spec.specs.declared.catalog.SchemaKind.TheVariants as kind
-use Rattle.database_spec.specs.declared.catalog.Entry.{Entry}
-use Rattle.database_spec.specs.declared.catalog.NamedEntry.{NamedEntry}
 use Rattle.database_spec.specs.declared.catalog.Catalog.{Catalog}
 use Rattle.database_spec.specs.declared.fault.FileFault.{FileFault}
-use Rattle.database_spec.specs.declared.fault.FileFault.TheVariants.{TreeDamaged, SchemaRow as SchemaRowFault, DuplicateName}
-use Rattle.database_spec.specs.Walks.{Finding, IsWalk, IsList, StopsAt, stops, members_found}
-use Rattle.database_spec.specs.WalksLaws.{walk-one}
+use Rattle.database_spec.specs.declared.fault.FileFault.TheVariants.{TreeDamaged}
+use Rattle.database_spec.specs.Walks.{IsList, StopsAt, stops, members_found}
+use Rattle.database_spec.specs.WalksLaws.{truth-apart, walk-one}
 use Rattle.database_spec.specs.ListsLaws.{beside-one, order-one}
 use Rattle.database_spec.specs.SchemaRows.{SchemaRow, IsSchemaRow, kind_word, IsRootValue, IsSqlValue, row_values}
-use Rattle.database_spec.specs.Catalogs.{is_table, IsMeaning, IsTableMeaning, index_under, automatic_index, automatic_columns, IsAutomatic, MeansUnder, IsReadMeaning, IsIndexMeaning, IsIndexEntry, index_rows, roots_named, IsEntry, IsCatalog, AreRows, format_of}
-use Rattle.database_spec.specs.RightRows.{IsRightRow, repeats_name, found_name, rows_of, RowHasFault, IsFaultless, AreFaultless, FirstRowFault, HasCatalog, CatalogHasFault}
+use Rattle.database_spec.specs.Catalogs.{is_table, IsTableMeaning, index_under, automatic_columns, IsAutomatic, MeansUnder, IsReadMeaning, IsIndexMeaning, IsIndexEntry, index_rows, roots_named, IsEntry, IsCatalog, AreRows, format_of}
+use Rattle.database_spec.specs.RightRows.{repeats_name, rows_of, RowHasFault, IsFaultless, AreFaultless, FirstRowFault, HasCatalog, CatalogHasFault}
 
 -- a cursor gives one list, or meets one fault
 pub list-one : (sizes : Sizes) (base : Paged) (kind : TreeKind) (root : ℕ) → IsOne (IsList sizes base kind root)
@@ -155,10 +152,6 @@ has_catalog-one sizes base a b p q =
     let are = subst⁻¹ (λ (m : List Member). AreRows m q.found) members q.are_rows in
     let found = rows-one p.members p.found q.found p.are_rows are in
     catalog-one (format_of base) (rows_of p.found) a b p.is_catalog (subst⁻¹ (λ (f : List (Option SchemaRow)). IsCatalog (format_of base) (rows_of f) b) found q.is_catalog)
-
-truth-apart : (b : Bool) → IsTrue b → IsFalse b → ⊥
-truth-apart true t f = absurd (let h : ◌≡◌ {A = Bool} true false = sym t ∙ f in let no : ⊥ = cc in no)
-truth-apart false t f = absurd (let h : ◌≡◌ {A = Bool} true false = sym t ∙ f in let no : ⊥ = cc in no)
 
 module _ (sizes : Sizes) (base : Paged) (rows : List SchemaRow) where
   row_fault-one : (before : List SchemaRow) (member : Member) (row : Option SchemaRow) → IsOne (RowHasFault sizes base rows before member row)

@@ -1,5 +1,5 @@
 -- A database by its header and its lists, and when it is whole and sound: this project's words for what SQLite's integrity check asks (Database File Format; PRAGMA integrity_check).
-use Rattle.std.specs.Prelude.{◌≡◌, ℕ, ◌==◌, Bool, IsTrue, ◌⊎◌, if◌then◌else◌, IfOk, List, [], ◌∷◌, ◌++◌, map, flat_map, filter, take, slice_range, Result, Ok, Err, is_ok}
+use Rattle.std.specs.Prelude.{◌≡◌, ℕ, ◌==◌, Bool, IsTrue, ◌⊎◌, if◌then◌else◌, IfOk, List, [], ◌∷◌, ◌++◌, map, flat_map, filter, take, slice_range, Result, Ok, is_ok}
 use Rattle.std.specs.List.{list_any, AllZip, AllByRecursion}
 use Rattle.rbu_value.specs.declared.value.Value.{Value}
 use Rattle.format_spec.specs.Record.{IsRecord}
@@ -12,7 +12,6 @@ use Rattle.tree_spec.specs.declared.TreeKind.TheVariants as tree
 use Rattle.tree_spec.specs.Trees.{Rooted, Member, root_of, list_in}
 use Rattle.tree_spec.specs.Standing.{Sizes, Paged}
 use Rattle.tree_spec.specs.Worlds.{World, IsWorld}
-use Rattle.database_spec.specs.declared.catalog.Entry.{Entry}
 use Rattle.database_spec.specs.declared.catalog.NamedEntry.{NamedEntry}
 use Rattle.database_spec.specs.declared.catalog.Catalog.{Catalog}
 use Rattle.database_spec.specs.RightRows.{HasCatalog}

@@ -1,5 +1,5 @@
 -- The first fault of a file: what is found is gone through in its order, and the first thing that is wrong after all before it is answered. The rules are those of a sound database (PRAGMA integrity_check), as far as this project has them.
-use Rattle.std.specs.Prelude.{◌≡◌, ◌≢◌, ℕ, ℤ, suc, ◌==◌, ◌&&◌, not, Bool, true, false, IsTrue, IsFalse, ◌⊎◌, List, [], ◌∷◌, ◌++◌, length, map, filter_map, Any, Contains, Option, Some, None}
+use Rattle.std.specs.Prelude.{◌≡◌, ◌≢◌, ℕ, ℤ, suc, ◌==◌, ◌&&◌, not, Bool, false, IsTrue, IsFalse, ◌⊎◌, List, [], ◌∷◌, ◌++◌, length, map, filter_map, Any, Contains, Option, Some, None}
 use Rattle.std.specs.List.{list_any, AllZip}
 use Rattle.rbu_value.specs.declared.value.Value.{Value}
 use Rattle.rbu_value.specs.declared.value.Value.TheVariants.{Int}

@@ -1,5 +1,5 @@
 -- A file has at most one first fault: crates above cite these facts in their proofs.
-use Rattle.std.proofs.Common.{◌≡◌, ℕ, ℤ, ◌<◌, ◌⊎◌, Bool, true, false, IsTrue, IsFalse, List, [], ◌∷◌, ◌++◌, map, Result, Ok, Err, refl, sym, ap, ap₂, ◌∙◌, subst, inl, inr, arith}
+use Rattle.std.proofs.Common.{◌≡◌, ℕ, ◌<◌, List, [], ◌∷◌, ◌++◌, map, Result, Ok, refl, sym, ap, ap₂, ◌∙◌, subst, inl, inr, arith}
 use Rattle.std.proofs.Math.Path.{subst⁻¹}
 use Rattle.std.specs.Prelude.{IsPermutation}
 use Rattle.std.specs.List.{AllZip, flat_map}
@@ -7,22 +7,19 @@ use Rattle.rbu_value.specs.declared.value.Value.{Value}
 use Rattle.format_spec.specs.Record.{IsRecord}
 use Rattle.common_spec.specs.ReadingLaws.{IsOne}
 use Rattle.schema_spec.specs.declared.schema.SqlFault.{SqlFault}
-use Rattle.schema_spec.specs.declared.schema.Table.{Table}
 use Rattle.schema_spec.specs.declared.schema.Index.{Index}
 use Rattle.tree_spec.specs.Trees.{Member}
 use Rattle.tree_spec.specs.Standing.{Sizes, Paged}
 use Rattle.database_spec.specs.declared.catalog.Entry.{Entry}
 use Rattle.database_spec.specs.declared.catalog.NamedEntry.{NamedEntry}
 use Rattle.database_spec.specs.declared.catalog.Catalog.{Catalog}
-use Rattle.database_spec.specs.declared.fault.FileFault.{FileFault}
 use Rattle.database_spec.specs.declared.fault.FileFault.TheVariants.{IndexDisagrees}
-use Rattle.database_spec.specs.Walks.{Finding, Finds, Ends, Holds, Breaks, Disorders, Bares, IsWalk}
+use Rattle.database_spec.specs.Walks.{Finding, Finds, Ends, Holds, Breaks, Disorders, Bares}
 use Rattle.database_spec.specs.WalksLaws.{walk-one}
 use Rattle.database_spec.specs.ListsLaws.{beside-one, order-one}
-use Rattle.database_spec.specs.Rows.{TableRow, IsPlain}
+use Rattle.database_spec.specs.Rows.{TableRow}
 use Rattle.database_spec.specs.RowsLaws.{record-one, plain-one}
 use Rattle.database_spec.specs.KeysLaws.{tied-rowid}
-use Rattle.database_spec.specs.RightRows.{HasCatalog, CatalogHasFault}
 use Rattle.database_spec.specs.CatalogsLaws.{has_catalog-one, catalog_fault-one, catalog-no_fault}
 use Rattle.database_spec.specs.FileFindings.{Content, Rows, Entries, Anything, Subject, Walked, Found, InTree, Frees, Tears, Counts, Needs, Compares, own_subject, IsIndexContent, IsIndexSubject, AreSubjectsOf, schema_subject, AreSubjects, IsWalked, freelist_found, pages_needed, tree_found, compared, AreFound}
 use Rattle.database_spec.specs.FileFaults.{IsEntry, IsWrongMember, IsWrongInTree, Disagrees, FirstDisagrees, IsWrong, FirstWrong, CheckFinds, FileHasFault}

@@ -1,5 +1,5 @@
 -- All that a check finds in a file, in its order: the trees by rising roots, each depth first from its left; the freelist; each page that has to be found; the plain indexes by rising roots. The order is this project's rule.
-use Rattle.std.specs.Prelude.{◌≡◌, ℕ, zero, suc, ◌<◌, ◌==◌, ◌&&◌, not, nat_le, nat_lt, Bool, true, false, if◌then◌else◌, List, [], ◌∷◌, ◌++◌, map, flat_map, filter, AllPairs, IsPermutation, Result, Ok, Err, is_ok}
+use Rattle.std.specs.Prelude.{◌≡◌, ℕ, zero, suc, ◌<◌, ◌==◌, ◌&&◌, not, nat_le, nat_lt, Bool, true, false, if◌then◌else◌, List, [], ◌∷◌, ◌++◌, map, flat_map, filter, AllPairs, IsPermutation, Result, Ok, is_ok}
 use Rattle.std.specs.List.{AllZip, range_with_len}
 use Rattle.format_spec.specs.Header.{freelist_trunk, freelist_pages}
 use Rattle.page_spec.specs.Pages.{lock_byte_page, next_page}

@@ -15,7 +15,8 @@ use Rattle.database_spec.specs.Rows.{TableRow}
 use Rattle.database_spec.specs.Keys.{column_cmp, columns_cmp, order_of, last_value, entry_cmp, IsBefore, entry_of, IsProjection}
 use Rattle.database_spec.specs.ListsLaws.{order-one}
 
-reverse-then : (o p : Ordering) → ordering_reverse (ordering_then o p) ≡ ordering_then (ordering_reverse o) (ordering_reverse p)
+-- an order by two keys, turned round
+pub reverse-then : (o p : Ordering) → ordering_reverse (ordering_then o p) ≡ ordering_then (ordering_reverse o) (ordering_reverse p)
 reverse-then Less p = refl
 reverse-then Equal p = refl
 reverse-then Greater p = refl

@@ -16,3 +16,6 @@ pub mod FileFaultsLaws
 pub mod TreeWalksLaws
 pub mod LittleTarget
 pub mod LittleTargetLaws
+pub mod SameDatabases
+pub mod SameDatabasesLaws
+pub mod DatabasesLaws

@@ -1,7 +1,7 @@
 -- A database of three pages of 512 bytes, as SQLite 3.40.1 wrote it: a row on which definitions are computed. It has a table of three rows at root 2, and its automatic index at root 3.
-use Rattle.std.specs.Prelude.{ℕ, ℤ, pos, ◌==◌, Bool, true, false, if◌then◌else◌, List, [], ◌∷◌, ◌++◌, length, replicate, Option, Some, None, Ok, codes}
+use Rattle.std.specs.Prelude.{ℕ, pos, ◌==◌, true, false, if◌then◌else◌, List, [], ◌∷◌, ◌++◌, length, replicate, Some, None, Ok, codes}
 use Rattle.rbu_value.specs.declared.value.Value.{Value}
-use Rattle.rbu_value.specs.declared.value.Value.TheVariants.{Null, Int, Text}
+use Rattle.rbu_value.specs.declared.value.Value.TheVariants.{Int, Text}
 use Rattle.rbu_value.specs.declared.affinity.Affinity.TheVariants.{Integer as IntegerAffinity, Text as TextAffinity, Blob as BlobAffinity}
 use Rattle.rbu_value.specs.declared.order.Collation.TheVariants.{Binary}
 use Rattle.schema_spec.specs.declared.schema.Table.{Table}
@@ -143,3 +143,10 @@ target_database = record {
   header = codes "SQLite format 3" ++ 0 ∷ 2 ∷ 0 ∷ 1 ∷ 1 ∷ 0 ∷ 64 ∷ 32 ∷ 32 ∷ 0 ∷ 0 ∷ 0 ∷ 2 ∷ 0 ∷ 0 ∷ 0 ∷ 1 ∷ 0 ∷ 0 ∷ 0 ∷ 4 ∷ replicate 11 0 ++ 1 ∷ replicate 35 0 ++ 2 ∷ 0 ∷ 46 ∷ 99 ∷ 1 ∷ [];
   lists = (1, members_in schema_cells) ∷ (2, members_in row_cells) ∷ (3, members_in entry_cells) ∷ [];
 }
+
+-- the index's row with the root of the table, and the members of the index with 21 in place of 20
+abbrev pub misplaced_row : SchemaRow
+misplaced_row = record { rowid = pos 2; kind = kind.Index; name = codes "sqlite_autoindex_t1_1"; table = codes "t1"; root = 2; sql = None }
+
+abbrev pub changed_members : List Member
+changed_members = members_in (entry_cell (3 ∷ 1 ∷ 9 ∷ 10 ∷ []) ∷ entry_cell (3 ∷ 1 ∷ 1 ∷ 21 ∷ 2 ∷ []) ∷ entry_cell (3 ∷ 1 ∷ 1 ∷ 30 ∷ 3 ∷ []) ∷ [])

@@ -1,5 +1,5 @@
 -- Which rows of a schema are right, and the first fault of one that is not (The Schema Table, section 2; that a fault is answered by its row is this project's rule).
-use Rattle.std.specs.Prelude.{◌≡◌, ℕ, suc, ◌<◌, ◌==◌, ◌&&◌, ◌||◌, Bool, true, false, IsTrue, IsFalse, IfOk, ◌⊎◌, List, [], ◌∷◌, ◌++◌, length, filter_map, Option, Some, None, is_none, Result, Ok, Err}
+use Rattle.std.specs.Prelude.{◌≡◌, ℕ, suc, ◌<◌, ◌==◌, ◌&&◌, ◌||◌, Bool, true, false, IsTrue, IsFalse, IfOk, ◌⊎◌, List, [], ◌∷◌, ◌++◌, length, filter_map, Option, Some, None, is_none, Result, Err}
 use Rattle.std.specs.List.{list_any}
 use Rattle.refusal.specs.declared.Rule.{Rule}
 use Rattle.schema_spec.specs.declared.schema.Clause.TheVariants.{Virtual}
@@ -11,11 +11,10 @@ use Rattle.schema_spec.specs.Words.{same_name}
 use Rattle.tree_spec.specs.declared.TreeKind.TheVariants.{Table as TableTree}
 use Rattle.tree_spec.specs.Trees.{Member}
 use Rattle.tree_spec.specs.Standing.{Sizes, Paged, IsNumber}
-use Rattle.database_spec.specs.declared.catalog.SchemaKind.{SchemaKind}
 use Rattle.database_spec.specs.declared.catalog.SchemaKind.TheVariants as kind
 use Rattle.database_spec.specs.declared.catalog.Catalog.{Catalog}
 use Rattle.database_spec.specs.declared.fault.FileFault.{FileFault}
-use Rattle.database_spec.specs.declared.fault.FileFault.TheVariants.{TreeDamaged, SchemaRow as SchemaRowFault, DuplicateName, PageTwice, PageLost, KeyOrder, IndexDisagrees, Damaged}
+use Rattle.database_spec.specs.declared.fault.FileFault.TheVariants.{TreeDamaged, SchemaRow as SchemaRowFault, DuplicateName}
 use Rattle.database_spec.specs.SchemaRows.{SchemaRow}
 use Rattle.database_spec.specs.Walks.{IsList, StopsAt}
 use Rattle.database_spec.specs.Catalogs.{is_table, is_index, is_real, IsTableMeaning, IsIndexMeaning, automatic_name, IsCatalog, AreRows, format_of}

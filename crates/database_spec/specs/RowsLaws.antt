@@ -1,8 +1,7 @@
 -- A member is one row, and a plain table has one list of rows: crates above cite these facts in their proofs.
-use Rattle.std.proofs.Common.{◌≡◌, ℕ, List, [], Result, Ok, refl, sym, ap, ◌∙◌}
+use Rattle.std.proofs.Common.{◌≡◌, ℕ, List, [], Ok, refl, sym, ap, ◌∙◌}
 use Rattle.std.proofs.Math.Path.{subst⁻¹}
 use Rattle.std.specs.List.{AllZip}
-use Rattle.rbu_value.specs.declared.value.Value.{Value}
 use Rattle.format_spec.specs.Record.{IsRecord}
 use Rattle.common_spec.specs.ReadingLaws.{IsOne}
 use Rattle.record_codec.specs.RecordLaws.{record-same}

@@ -1,7 +1,7 @@
 -- A walk over a standing tree finds its members and comes to the end: crates above cite these facts in their proofs.
-use Rattle.std.proofs.Common.{◌≡◌, ℕ, ℤ, zero, suc, ◌+◌, ◌<◌, ◌≤◌, ◌<ℤ◌, ◌==◌, Bool, true, false, IsFalse, List, [], ◌∷◌, ◌++◌, length, map, if◌then◌else◌, refl, sym, ap, ap₂, ◌∙◌, subst, inl, inr, arith, length-append, append_assoc}
+use Rattle.std.proofs.Common.{◌≡◌, ℕ, ℤ, zero, suc, ◌<◌, ◌<ℤ◌, ◌==◌, Bool, true, false, List, [], ◌∷◌, ◌++◌, length, map, if◌then◌else◌, refl, sym, ap, ap₂, ◌∙◌, subst, inl, inr, arith, length-append, append_assoc}
 use Rattle.std.proofs.Math.Path.{subst⁻¹}
-use Rattle.std.specs.List.{flat_map, filter_map, AllByRecursion}
+use Rattle.std.specs.List.{flat_map, AllByRecursion}
 use Rattle.std.proofs.lemmas.Int.{ints}
 use Rattle.std.proofs.lemmas.List.{length-map}
 use Rattle.std.proofs.lemmas.List.Elements.{filter_map-append}
@@ -13,8 +13,8 @@ use Rattle.tree_spec.specs.declared.TreeKind.TheVariants.{Table, Index}
 use Rattle.tree_spec.specs.Trees.{TreeCell, TreeOf, Rooted, Member, member, between, leaf_kind, interior_kind, page_of, own_cells, cells_behind, list_of, list_beside, IsFull, IsFullBelow, root_of, list_in, greatest_depth}
 use Rattle.tree_spec.specs.Bounds.{RisesIn, BesideIn, InOrder, IsOrdered, below_rowids, greatest_rowid}
 use Rattle.tree_spec.specs.BoundsLaws.{rises-bounds, InOrder-rises, rowids}
-use Rattle.tree_spec.specs.Standing.{Sizes, Paged, IsHeld, IsBehind, Stands, StandsBefore, StandsLast, IsRoot, IsTree}
-use Rattle.database_spec.specs.Walks.{Finding, Finds, Ends, Holds, Breaks, Disorders, Bares, Seen, bytes_seen, is_empty, bare, IsRising, IsAccepted, IsCellVisit, AreCellVisits, IsChildVisit, AreChildVisits, IsVisit, IsWalk, stop_of, stops, member_of, members_found, IsList}
+use Rattle.tree_spec.specs.Standing.{Sizes, Paged, IsHeld, Stands, StandsBefore, StandsLast, IsRoot, IsTree}
+use Rattle.database_spec.specs.Walks.{Finding, Finds, Ends, Holds, Bares, Seen, bytes_seen, is_empty, bare, IsRising, IsAccepted, IsCellVisit, AreCellVisits, IsChildVisit, AreChildVisits, IsVisit, IsWalk, stop_of, stops, member_of, members_found, IsList}
 
 -- something finds these members, and nothing that ends the way of a cursor
 pub record FindsAll (Visit : List Finding → Type 0) (members : List Member) : Type 0 where

@@ -1,5 +1,5 @@
 -- What a walk over a tree finds, whatever the pages hold (Database File Format, section 1.6): depth first from the left, as far as pages are accepted.
-use Rattle.std.specs.Prelude.{◌≡◌, ◌≢◌, ℕ, ℤ, zero, suc, ◌-◌, ◌==◌, ◌&&◌, not, Bool, true, false, ◌⊎◌, IsTrue, IsFalse, if◌then◌else◌, List, [], ◌∷◌, ◌++◌, map, filter_map, Option, Some, None}
+use Rattle.std.specs.Prelude.{◌≡◌, ◌≢◌, ℕ, ℤ, zero, suc, ◌-◌, ◌==◌, Bool, true, false, ◌⊎◌, IsTrue, IsFalse, if◌then◌else◌, List, [], ◌∷◌, ◌++◌, map, filter_map, Option, Some, None}
 use Rattle.std.specs.List.{AllByRecursion}
 use Rattle.format_spec.specs.declared.PageKind.{PageKind}
 use Rattle.format_spec.specs.declared.CellView.{CellView}

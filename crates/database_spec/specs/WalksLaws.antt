@@ -5,15 +5,13 @@ use Rattle.std.proofs.lemmas.Bool.{cases_lt}
 use Rattle.std.specs.List.{AllByRecursion}
 use Rattle.common_spec.specs.ReadingLaws.{IsOne}
 use Rattle.format_spec.specs.declared.PageKind.{PageKind}
-use Rattle.format_spec.specs.declared.PageKind.TheVariants.{IndexInterior, TableInterior, IndexLeaf, TableLeaf}
 use Rattle.format_spec.specs.declared.CellView.{CellView}
 use Rattle.format_spec.specs.Cell.{IsCell}
-use Rattle.format_spec.specs.Page.{header_place}
 use Rattle.cell_codec.specs.CellLaws.{cell-same}
 use Rattle.page_spec.specs.Chains.{pages_for, named_behind, last_linked, IsBroken}
 use Rattle.page_spec.specs.Pages.{IsInRange}
 use Rattle.page_spec.specs.ChainsLaws.{same_linked, named-in_range, chain-not_broken}
-use Rattle.page_layout.specs.Views.{HasKind, IsRefused}
+use Rattle.page_layout.specs.Views.{IsRefused}
 use Rattle.page_layout.specs.ViewsLaws.{kind_byte-same}
 use Rattle.refusal.specs.declared.Rule.{Rule}
 use Rattle.refusal.specs.declared.Rule.TheVariants as broken
@@ -21,16 +19,17 @@ use Rattle.tree_spec.specs.declared.TreeKind.{TreeKind}
 use Rattle.tree_spec.specs.declared.TreeKind.TheVariants.{Table, Index}
 use Rattle.tree_spec.specs.Trees.{TreeCell, Member, member, between, leaf_kind, interior_kind, greatest_depth}
 use Rattle.tree_spec.specs.Bounds.{below_rowids, greatest_rowid}
-use Rattle.tree_spec.specs.Standing.{Sizes, Paged, IsNumber, IsHeld}
+use Rattle.tree_spec.specs.Standing.{Sizes, Paged}
 use Rattle.tree_spec.specs.PagesLaws.{page-same}
 use Rattle.tree_spec.specs.OneTreeLaws.{held-one}
-use Rattle.database_spec.specs.Walks.{Finding, Finds, Ends, Holds, Breaks, Disorders, Bares, Seen, bytes_seen, is_empty, bare, IsRising, IsAccepted, IsWhole, IsTorn, IsCellVisit, AreCellVisits, IsChildVisit, AreChildVisits, GoesOn, IsInside, IsRead, IsVisit, IsWalk}
+use Rattle.database_spec.specs.Walks.{Finding, Finds, Ends, Holds, Breaks, Seen, bytes_seen, is_empty, bare, IsAccepted, IsWhole, IsTorn, IsCellVisit, AreCellVisits, IsChildVisit, AreChildVisits, GoesOn, IsInside, IsRead, IsVisit, IsWalk}
 
 -- two things that are made alike of the same are the same
 made : {A B : Type 0} (f : A → B) (a b : B) (x y : A) → a ≡ f x → b ≡ f y → x ≡ y → a ≡ b
 made f a b x y p q e = p ∙ ap f e ∙ sym q
 
-truth-apart : (b : Bool) → IsTrue b → IsFalse b → ⊥
+-- a test does not pass and fail
+pub truth-apart : (b : Bool) → IsTrue b → IsFalse b → ⊥
 truth-apart true t f = absurd (let h : ◌≡◌ {A = Bool} true false = sym t ∙ f in let no : ⊥ = cc in no)
 truth-apart false t f = absurd (let h : ◌≡◌ {A = Bool} true false = sym t ∙ f in let no : ⊥ = cc in no)
 

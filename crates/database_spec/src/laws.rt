@@ -6,6 +6,9 @@ ghost use Rattle.schema_spec.specs.declared.schema.Index.{Index};
 ghost use Rattle.tree_spec.specs.declared.TreeKind.{TreeKind};
 ghost use Rattle.tree_spec.specs.Trees.{Member};
 ghost use Rattle.tree_spec.specs.Standing.{Sizes, Paged, IsTree};
+ghost use Rattle.database_spec.specs.declared.catalog.Catalog.{Catalog};
+ghost use Rattle.database_spec.specs.SameDatabases.{SameDatabase};
+ghost use Rattle.database_spec.specs.Databases.{Database, IsWhole, IsSound};
 ghost use Rattle.database_spec.specs.Walks.{IsWalk, IsList, StopsAt};
 ghost use Rattle.database_spec.specs.RightRows.{HasCatalog, CatalogHasFault};
 ghost use Rattle.database_spec.specs.Rows.{TableRow};
@@ -33,4 +36,11 @@ pub fn table_has_one_projection()
 /// A file has at most one first fault.
 pub fn file_has_one_fault()
     ensures { (sizes : Sizes) (base : Paged) → IsOne (FileHasFault sizes base) }
+{}
+
+/// What agrees on the pages that matter is the same database: it has the same catalog, and is as sound. Whole pages are one database.
+pub fn same_pages_are_the_same_database()
+    ensures catalog { (sizes : Sizes) (old new : Paged) → SameDatabase sizes old new → (catalog : Catalog) → HasCatalog sizes old catalog → HasCatalog sizes new catalog }
+    ensures sound { (sizes : Sizes) (old new : Paged) → SameDatabase sizes old new → (catalog : Catalog) (db : Database) → IsSound sizes old catalog db → IsSound sizes new catalog db }
+    ensures one { (sizes : Sizes) (base : Paged) (catalog : Catalog) → IsOne (IsWhole sizes base catalog) }
 {}

@@ -1,22 +1,21 @@
 -- What a transaction of all prepared rows comes to, and the database midway (The RBU Extension, section 2; that it is one transaction of all batches is this project's rule).
-use Rattle.std.specs.Prelude.{◌≡◌, ◌≢◌, ℕ, pos, ◌+◌, ◌-◌, ◌%◌, ◌^◌, ◌==◌, ◌&&◌, ◌||◌, not, Bool, true, false, ◌⊎◌, if◌then◌else◌, List, [], ◌∷◌, ◌++◌, length, map, filter, flat_map, AllPairs, IsPermutation, Contains, Option, Some, None}
+use Rattle.std.specs.Prelude.{◌≡◌, ℕ, pos, ◌+◌, ◌-◌, ◌%◌, ◌^◌, ◌==◌, not, Bool, false, if◌then◌else◌, List, [], ◌∷◌, ◌++◌, map, filter, flat_map, AllPairs, IsPermutation, Some, None}
 use Rattle.std.specs.List.{list_any, AllZip}
 use Rattle.byte_fields.specs.Numbers.{number_at, with_number_at}
 use Rattle.rbu_value.specs.declared.value.Value.{Value}
 use Rattle.format_spec.specs.Record.{IsRecord, canonical_record}
-use Rattle.rbu_rows.specs.declared.prepared.Prepared.{Prepared}
 use Rattle.rbu_rows.specs.declared.prepared.Batch.{Batch}
 use Rattle.schema_spec.specs.declared.schema.Index.{Index}
 use Rattle.tree_spec.specs.Trees.{Member}
 use Rattle.database_spec.specs.declared.catalog.Catalog.{Catalog}
 use Rattle.database_spec.specs.Rows.{TableRow}
-use Rattle.database_spec.specs.Keys.{IsBefore, entry_of, IsProjection}
+use Rattle.database_spec.specs.Keys.{IsBefore, IsProjection}
 use Rattle.database_spec.specs.Databases.{Database, list_at}
 use Rattle.prepared_spec.specs.declared.violation.Violation.{Violation}
 use Rattle.prepared_spec.specs.declared.violation.Change.{Change}
 use Rattle.prepared_spec.specs.declared.violation.Change.TheVariants.{Remove, Add}
 use Rattle.prepared_spec.specs.Tables.{same_values, IsAfter}
-use Rattle.prepared_spec.specs.Plans.{IndexPlan, TablePlan, ArePlans, row_steps, plan_steps, all_faults, up_to_fault, last_fault, firsts}
+use Rattle.prepared_spec.specs.Plans.{IndexPlan, TablePlan, ArePlans, row_steps, plan_steps, all_faults, last_fault, firsts}
 
 -- fields of a header without offsets 28 to 39: those behind lie 12 bytes before their offsets (Database File Format, section 1.3)
 abbrev pub kept_counter : ℕ
@@ -48,21 +47,18 @@ next_header header =
 abbrev pub row_member : TableRow → Member
 row_member row = record { rowid = row.rowid; payload = row.payload }
 
--- an entry of an index with the record that holds it
+-- an entry of an index with the member that holds it
 pub record Entered : Type 0 where
   pub entry : List Value
-  pub payload : List ℕ
-
-abbrev pub entered_member : Entered → Member
-entered_member entered = record { rowid = pos 0; payload = entered.payload }
+  pub member : Member
 
 -- the members of an index's tree as entries
 abbrev pub AreEntered : List Member → List Entered → Type 0
-AreEntered members entered = AllZip (λ member one. IsRecord member.payload one.entry × (one.payload ≡ member.payload)) members entered
+AreEntered members entered = AllZip (λ member one. IsRecord member.payload one.entry × (one.member ≡ member)) members entered
 
 -- an entry that is written has the canonical record
 abbrev pub written_entry : ℕ → List Value → Entered
-written_entry format entry = record { entry = entry; payload = canonical_record format entry }
+written_entry format entry = record { entry = entry; member = record { rowid = pos 0; payload = canonical_record format entry } }
 
 abbrev pub is_removed : List Value → Change → Bool
 is_removed entry (Remove other) = same_values entry other
@@ -80,7 +76,7 @@ pub record IsIndexAfter (format : ℕ) (index : Index) (changes : List Change) (
   pub after : List Entered
   pub all : IsPermutation (filter (λ one. not (list_any (is_removed one.entry) changes)) before ++ map (written_entry format) (added_entries changes)) after
   pub sorted : AllPairs (λ (a b : Entered). IsBefore index a.entry b.entry) after
-  pub members_are : new ≡ map entered_member after
+  pub members_are : new ≡ map (λ one. one.member) after
 
 -- The lists of a plan's trees behind its first n steps: the table has the rows after its prepared rows among them, and each index the changes among them.
 pub record TreesAfter : Type 0 where
@@ -131,14 +127,18 @@ pub record IsMid (catalog : Catalog) (old : Database) (groups : List (List Batch
   pub header : mid.header ≡ old.header
   pub lists : mid.lists ≡ with_trees old.lists plans trees
 
--- what an index has to hold behind a transaction: the projection of its table's new rows; an entry that stood before keeps its record, every other one has the canonical one
+-- an entry with its record: the one that it had before, or the canonical one
+abbrev pub recorded : ℕ → List Entered → List Value → Entered
+recorded format [] entry = written_entry format entry
+recorded format (one ∷ before) entry = if same_values one.entry entry then one else recorded format before entry
+
+-- What an index has to hold behind a transaction: the projection of its table's new rows. An entry that stood before keeps its record, every other one has the canonical one.
 pub record IsIndexNew (format : ℕ) (index : Index) (after : List TableRow) (old new : List Member) : Type 0 where
   pub before : List Entered
   pub are_before : AreEntered old before
-  pub entries : List Entered
-  pub projection : IsProjection index after (map (λ one. one.entry) entries)
-  pub kept : (one : Entered) → Contains entries one → Contains before one ⊎ ((one ≡ written_entry format one.entry) × ¬ Contains (map (λ other. other.entry) before) one.entry)
-  pub members_are : new ≡ map entered_member entries
+  pub entries : List (List Value)
+  pub projection : IsProjection index after entries
+  pub members_are : new ≡ map (λ entry. (recorded format before entry).member) entries
 
 abbrev pub IsNewIndexList : ℕ → List (ℕ × List Member) → List TableRow → IndexPlan → List Member → Type 0
 IsNewIndexList format lists after plan members = IsIndexNew format plan.index after (list_at lists plan.root) members

@@ -1,5 +1,5 @@
 -- The steps of a transaction: what is done with each targeted table and its indexes, in order (this project's rule).
-use Rattle.std.specs.Prelude.{◌≡◌, ℕ, ℤ, zero, suc, ◌+◌, ◌-◌, if◌then◌else◌, List, [], ◌∷◌, ◌++◌, length, map, flat_map, take, Option, Some, None, is_some, Result, Ok, sum_by}
+use Rattle.std.specs.Prelude.{◌≡◌, ℕ, ℤ, suc, ◌+◌, ◌-◌, if◌then◌else◌, List, [], ◌∷◌, ◌++◌, length, flat_map, take, Option, Some, None, Result, Ok, sum_by}
 use Rattle.std.specs.List.{AllZip}
 use Rattle.rbu_rows.specs.declared.prepared.Prepared.{Prepared}
 use Rattle.rbu_rows.specs.declared.prepared.Batch.{Batch}
@@ -8,7 +8,6 @@ use Rattle.schema_spec.specs.declared.schema.Table.{Table}
 use Rattle.schema_spec.specs.declared.schema.Index.{Index}
 use Rattle.schema_spec.specs.Words.{same_name}
 use Rattle.tree_spec.specs.Trees.{Member}
-use Rattle.database_spec.specs.declared.catalog.Entry.{Entry}
 use Rattle.database_spec.specs.declared.catalog.NamedEntry.{NamedEntry}
 use Rattle.database_spec.specs.declared.catalog.Catalog.{Catalog}
 use Rattle.database_spec.specs.Rows.{TableRow, IsRow}
@@ -16,7 +15,7 @@ use Rattle.database_spec.specs.Databases.{list_at}
 use Rattle.prepared_spec.specs.declared.violation.Violation.{Violation}
 use Rattle.prepared_spec.specs.declared.violation.Change.{Change}
 use Rattle.prepared_spec.specs.RowKeys.{IsInKeyOrder}
-use Rattle.prepared_spec.specs.Tables.{greatest_of, is_new, count_new, IsAfterBatch, IsAfterBatches, IsAfter}
+use Rattle.prepared_spec.specs.Tables.{greatest_of, is_new, count_new, IsAfterBatch, IsAfter}
 use Rattle.prepared_spec.specs.StepFaults.{row_fault, AreChanges, IsChangeFault}
 
 -- what is done with an index: its changes in order, and the fault of each

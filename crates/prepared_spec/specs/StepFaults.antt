@@ -1,5 +1,5 @@
 -- The constraint faults of steps (The RBU Extension, section 2; CREATE TABLE, section 3.7): of a prepared row, and of an entry that is added to a unique index.
-use Rattle.std.specs.Prelude.{◌≡◌, ◌≢◌, ℕ, ℤ, zero, suc, pos, ◌+◌, ◌+ℤ◌, int_lt, ◌==◌, ◌&&◌, not, Bool, true, false, IsTrue, ◌⊎◌, if◌then◌else◌, List, [], ◌∷◌, ◌++◌, length, map, replicate, AllPairs, Contains, Option, Some, None}
+use Rattle.std.specs.Prelude.{◌≡◌, ◌≢◌, ℕ, ℤ, suc, pos, ◌+ℤ◌, int_lt, ◌==◌, ◌&&◌, not, Bool, true, false, IsTrue, ◌⊎◌, if◌then◌else◌, List, ◌∷◌, length, map, replicate, AllPairs, Contains, Option, Some, None}
 use Rattle.std.specs.Ordering.{nat_cmp, ordering_then}
 use Rattle.std.specs.declared.cmp.Ordering.{Ordering}
 use Rattle.std.specs.declared.cmp.Ordering.TheVariants.{Less, Equal}

@@ -1,5 +1,5 @@
 -- A table after prepared rows: each row of a batch by itself, over the rows as they stand before that batch (The RBU Extension, section 2.1; that batches of one target go one after the other is this project's rule).
-use Rattle.std.specs.Prelude.{◌≡◌, ℕ, ℤ, zero, suc, pos, ◌+◌, ◌+ℤ◌, ◌<ℤ◌, int_lt, ◌&&◌, not, Bool, true, false, if◌then◌else◌, List, [], ◌∷◌, ◌++◌, length, filter, filter_map, find, AllPairs, IsPermutation, slice_set, slice_index_or, Option, Some, None}
+use Rattle.std.specs.Prelude.{◌≡◌, ℕ, ℤ, suc, pos, ◌+◌, ◌+ℤ◌, ◌<ℤ◌, int_lt, ◌&&◌, not, Bool, true, false, if◌then◌else◌, List, [], ◌∷◌, ◌++◌, length, filter, filter_map, find, AllPairs, IsPermutation, slice_set, slice_index_or, Option, Some, None}
 use Rattle.std.specs.Ordering.{is_eq}
 use Rattle.rbu_value.specs.declared.order.Collation.TheVariants.{Binary}
 use Rattle.rbu_value.specs.declared.value.Value.{Value}

@@ -12,11 +12,19 @@ pub enum Violation {
         column: Bytes,
     },
     /// A row is inserted whose key is there. The rowid is that of the prepared row.
-    KeyPresent { table: Bytes, data_rowid: i64 },
+    KeyPresent {
+        table: Bytes,
+        data_rowid: i64,
+    },
     /// Two entries of a unique index would agree in their columns. The values of the entry that is at fault, the rowid last.
-    NotUnique { index: Bytes, key: OwnedList<Value> },
+    NotUnique {
+        index: Bytes,
+        key: OwnedList<Value>,
+    },
     /// A new row would have a rowid over 9223372036854775807.
-    RowidsSpent { table: Bytes },
+    RowidsSpent {
+        table: Bytes,
+    },
 }
 
 /// A change of one entry of an index. The values of the indexed columns, and then the rowid.

@@ -1,26 +1,22 @@
-use Rattle.std.proofs.Common.{◌≡◌, ℕ, ℤ, zero, suc, pos, ◌+◌, ◌-◌, ◌*◌, ◌<◌, ◌≤◌, ◌==◌, ◌&&◌, Bool, true, false, nat_le, List, [], ◌∷◌, ◌++◌, length, map, take, drop, slice_index, slice_index_or, Option, Some, None, Result, Ok, refl, sym, ap, subst, ◌∙◌, inl, inr, arith, rules}
+use Rattle.std.proofs.Common.{◌≡◌, ℕ, zero, suc, pos, ◌<◌, ◌≤◌, ◌==◌, ◌&&◌, Bool, true, false, nat_le, List, [], ◌∷◌, ◌++◌, length, map, take, drop, slice_index_or, Some, Ok, refl, sym, ap, subst, ◌∙◌, inl, inr, arith, rules}
 use Rattle.std.proofs.Math.Path.{subst⁻¹}
 use Rattle.std.specs.Prelude.{codes, AllPairs, IsTrue}
 use Rattle.std.specs.Fmt.{digits}
-use Rattle.std.specs.List.{AllByRecursion, AllZip, IsDistinct, list_any}
+use Rattle.std.specs.List.{AllZip, IsDistinct, list_any}
 use Rattle.std.specs.declared.cmp.Ordering.{Ordering}
 use Rattle.std.specs.declared.cmp.Ordering.TheVariants.{Less, Equal}
-use Rattle.byteorder.specs.Endian.{big_number, twos_complement}
 use Rattle.std.specs.Int.{w64, cast_signed}
 use Rattle.std.proofs.lemmas.Bool.{cases_lt, and_parts, leb-true, eqb-true, agree_below, agree_below_at}
 use Rattle.std.proofs.lemmas.Bool.Decides.{nat_tests}
 use Rattle.std.proofs.lemmas.Int.{ints}
 use Rattle.std.proofs.lemmas.List.{append-nil}
 use Rattle.std.proofs.lemmas.List.Sorted.{IsPermutation-refl}
-use Rattle.rbu_value.specs.declared.value.Value.{Value}
 use Rattle.rbu_value.specs.declared.value.Value.TheVariants.{Null, Int, Text}
 use Rattle.rbu_value.specs.Order.{value_cmp}
-use Rattle.format_spec.specs.declared.PageKind.{PageKind}
 use Rattle.format_spec.specs.declared.PageKind.TheVariants.{TableLeaf, IndexLeaf}
-use Rattle.format_spec.specs.Varint.{IsVarint}
-use Rattle.format_spec.specs.Record.{IsRecord, AreFields, IsField}
-use Rattle.format_spec.specs.Cell.{IsCell, payload_limit, local_size, overflow_size}
-use Rattle.format_spec.specs.Page.{IsPage, IsCellAt, AreApart, RightChild, header_place, kind_byte, cell_count, cell_place, cell_room}
+use Rattle.format_spec.specs.Record.{IsRecord}
+use Rattle.format_spec.specs.Cell.{IsCell, local_size, overflow_size}
+use Rattle.format_spec.specs.Page.{IsPage, IsCellAt, AreApart, cell_place, cell_room}
 use Rattle.page_spec.specs.Pages.{IsInRange}
 use Rattle.page_spec.specs.Chains.{IsChain}
 use Rattle.page_spec.specs.Counts.{hit, times}
@@ -29,21 +25,19 @@ use Rattle.page_spec.specs.FreePagesLaws.{due-past}
 use Rattle.schema_spec.specs.declared.schema.Table.{Table}
 use Rattle.schema_spec.specs.Texts.{MeansTable}
 use Rattle.tree_spec.specs.declared.TreeKind.TheVariants as tree
-use Rattle.tree_spec.specs.Trees.{TreeCell, Rooted, Member, member}
-use Rattle.tree_spec.specs.Standing.{IsHeld, IsRoot, IsTree}
+use Rattle.tree_spec.specs.Trees.{TreeCell}
+use Rattle.tree_spec.specs.Standing.{IsRoot}
 use Rattle.tree_spec.specs.Worlds.{IsWorld}
 use Rattle.tree_spec.specs.WorldsLaws.{world-tree}
 use Rattle.database_spec.specs.Walks.{IsList}
 use Rattle.database_spec.specs.TreeWalksLaws.{tree-list}
 use Rattle.database_spec.specs.ListsLaws.{beside-one}
-use Rattle.database_spec.specs.SchemaRows.{IsSchemaRow}
-use Rattle.database_spec.specs.Catalogs.{IsCatalog}
-use Rattle.database_spec.specs.RightRows.{is_automatic, HasCatalog, IsRightTable, IsRightIndex, IsOwnRoot}
-use Rattle.database_spec.specs.Rows.{TableRow, IsRow, IsPlain}
+use Rattle.database_spec.specs.RightRows.{is_automatic, HasCatalog}
+use Rattle.database_spec.specs.Rows.{TableRow, IsRow}
 use Rattle.database_spec.specs.RowsLaws.{row-one}
-use Rattle.database_spec.specs.Keys.{IsBefore, Clash, IsProjection, IsIndexOf}
-use Rattle.database_spec.specs.Databases.{HasItsKind, IsWhole, IsSound, HoldsProjection, HoldsProjections}
-use Rattle.database_spec.specs.LittleTarget.{target_sizes, target_text, table_record, index_record, row_record, row_cell, entry_cell, schema_cells, row_cells, entry_cells, schema_page, table_page, index_page, target_base, target_trees, target_world, table_row, index_row, target_table, target_index, target_entry, target_catalog, target_row, target_rows, target_entries, members_in, target_database}
+use Rattle.database_spec.specs.Keys.{IsBefore, Clash, IsIndexOf}
+use Rattle.database_spec.specs.Databases.{IsWhole, HoldsProjections}
+use Rattle.database_spec.specs.LittleTarget.{target_sizes, target_text, table_record, index_record, row_record, row_cell, entry_cell, schema_cells, row_cells, entry_cells, schema_page, table_page, index_page, target_base, target_trees, target_world, table_row, index_row, target_table, target_index, target_entry, target_catalog, target_rows, target_entries, members_in, target_database}
 use Rattle.database_spec.specs.LittleTargetLaws.{one_byte, row_values, entry_values, first_values, target-rows, pairs_three}
 use Rattle.database_spec.proofs.worked.worked_target.Goals as goal
 

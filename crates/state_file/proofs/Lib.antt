@@ -3,6 +3,8 @@ pub mod RowsRead
 pub mod Payloads
 pub mod StateSteps
 pub mod StateCalls
+pub mod StatesRead
+pub mod Spelled
 pub mod Placings
 pub mod Filling
 pub mod FirstPage

@@ -1,5 +1,5 @@
 -- Rows and their payloads as they are read.
-use Rattle.std.proofs.Common.{◌≡◌, ℕ, ◌+◌, ◌-◌, ◌<◌, ◌≤◌, ◌^◌, List, [], ◌∷◌, ◌++◌, length, take, drop, Option, Some, None, Result, Ok, Err, refl, sym, ap, ◌∙◌, subst, arith, length-append}
+use Rattle.std.proofs.Common.{◌≡◌, ℕ, ◌+◌, ◌-◌, ◌<◌, ◌≤◌, ◌^◌, List, [], ◌∷◌, ◌++◌, length, take, drop, Bool, true, false, Option, Some, None, Result, Ok, Err, refl, sym, ap, ◌∙◌, subst, arith, length-append}
 use Rattle.std.proofs.lemmas.List.{take_at, drop_at, take_rest}
 use Rattle.std.specs.declared.alloc.AllocError.{AllocError}
 use Rattle.rbu_value.specs.declared.value.Value.{Value}
@@ -67,3 +67,7 @@ payload-behind cell payload key n p m k small short e first second =
 -- a row is longer than its payload
 pub payload-within : (cell payload : List ℕ) (key : ℕ) → cell ≡ varint (length payload) ++ (varint key ++ payload) → length payload ≤ length cell
 payload-within cell payload key e = omega (arith, ap length e, length-append (varint (length payload)) (varint key ++ payload), length-append (varint key) payload)
+
+-- a test that holds and does not
+pub not-both : (b : Bool) → b ≡ false → b ≡ true → ⊥
+not-both b fails holds = let e : false ≡ true = sym fails ∙ holds in absurd (cc)

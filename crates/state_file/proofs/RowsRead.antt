@@ -30,11 +30,11 @@ pub record IsLeft (page : List ℕ) (all read : List Value) (index end : ℕ) : 
   pub small : key + 2 * length rest < 100
   pub count : index + length rest ≡ length all
 
-length-stacked : (cells : List (List ℕ)) → length (stacked cells) ≡ content cells
+pub length-stacked : (cells : List (List ℕ)) → length (stacked cells) ≡ content cells
 length-stacked [] = refl
 length-stacked (cell ∷ cells) = let rest = length-stacked cells in omega (arith, length-append (stacked cells) cell, sum_by-cons length cell cells)
 
-length-array : (size : ℕ) (cells : List (List ℕ)) → length (flat_map (big_bytes 2) (places_below size cells)) ≡ 2 * length cells
+pub length-array : (size : ℕ) (cells : List (List ℕ)) → length (flat_map (big_bytes 2) (places_below size cells)) ≡ 2 * length cells
 length-array size [] = refl
 length-array size (cell ∷ cells) = let rest = length-array (size - length cell) cells in omega arith
 
@@ -49,6 +49,23 @@ behind_header size cells = flat_map (big_bytes 2) (places_below size cells) ++ (
 packed_leaf-parts : (size : ℕ) (cells : List (List ℕ)) → packed_leaf size cells ≡ packed_header size cells ++ behind_header size cells
 unfolding packed_leaf behind_header
 packed_leaf-parts size cells = refl
+
+-- a packed leaf is as long as it is said to be
+pub packed_leaf-length : (size : ℕ) (cells : List (List ℕ)) → leaf_room cells ≤ size → length (packed_leaf size cells) ≡ size
+unfolding behind_header
+packed_leaf-length size cells room =
+    let array : List ℕ = flat_map (big_bytes 2) (places_below size cells) in
+    let zeros : List ℕ = replicate (size - (8 + 2 * length cells + content cells)) 0 in
+    omega (
+      arith,
+      ap length (packed_leaf-parts size cells),
+      length-append (packed_header size cells) (array ++ (zeros ++ stacked cells)),
+      length-append array (zeros ++ stacked cells),
+      length-append zeros (stacked cells),
+      length-array size cells,
+      length-stacked cells,
+      length-replicate {A = ℕ} (size - (8 + 2 * length cells + content cells)) 0,
+    )
 
 packed_leaf-count : (size : ℕ) (cells : List (List ℕ)) → length cells < 65536 → number_at 3 2 (packed_leaf size cells) ≡ length cells
 unfolding packed_leaf

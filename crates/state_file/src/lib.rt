@@ -3,14 +3,19 @@
 //! The layer above writes a `SavedState` by `state_bytes`, and saves it by `save`, which writes a temporary file and gives it the name of the state file. In `specs/`, `StateFile` says which bytes such a file has, `State` what stands under its keys, and `Saving` what a crash leaves while it is saved; `Phases` is of use to proofs alone.
 #![tactic(auto)]
 
+mod keys;
 mod lent;
 mod reading;
 mod rows;
 mod saving;
 mod schema;
+mod sizes;
+mod spelling;
 mod state;
 mod writing;
 
+pub use keys::{StateFault, StateKey};
 pub use saving::save;
+pub use spelling::read_state;
 pub use state::{DataKey, SavedState};
 pub use writing::state_bytes;

@@ -14,7 +14,7 @@ use byteorder::{BigEndian, ByteOrder};
 use cell_codec::write_varint;
 use record_codec::{body_size, int_serial_type};
 
-// Writes bytes in front of a place, and answers where they begin.
+/// Writes bytes in front of a place, and answers where they begin.
 pub fn put_before(page: &mut [u8], place: usize, bytes: &[u8]) -> usize
     requires inside { place ≤ length page.old }
     requires room { length bytes.now ≤ place }
@@ -66,8 +66,8 @@ fn put_body(page: &mut [u8], place: usize, value: &Lent) -> usize
     }
 }
 
-// The serial type of a value in its canonical record.
-fn serial_type(value: &Lent) -> u64
+/// The serial type of a value in its canonical record.
+pub fn serial_type(value: &Lent) -> u64
     requires { length (body 4 (value_of value.now)) < 2 ^ 32 }
     ensures { result ≡ type_of 4 (value_of value.now) }
 {
@@ -95,8 +95,8 @@ fn put_row(page: &mut [u8], place: usize, key: u64, value: &Lent) -> usize
     put_varint(page, rowid, (place - payload) as u64)
 }
 
-// The key behind another one.
-fn next_key(key: u64) -> u64
+/// The key behind another one.
+pub fn next_key(key: u64) -> u64
     requires { key < 2 ^ 32 }
     ensures { result ≡ key_behind key }
 {

@@ -116,4 +116,3 @@ AreRows members found = AllZip (λ member row. OrNone (IsSchemaRow member) row) 
 -- the schema format that counts: 0 is read as 1 (Database File Format, section 1.3.10)
 abbrev pub format_of : Paged → ℕ
 format_of base = if schema_format (base.pages 1) == 0 then 1 else schema_format (base.pages 1)
-

@@ -85,7 +85,7 @@ sql-one (Blob z) other r s e p q = absurd p
 pub schema_row-one : (member : Member) → IsOne (IsSchemaRow member)
 schema_row-one member a b p q =
     let same : row_values a p.root_value p.sql_value ≡ row_values b q.root_value q.sql_value =
-      (record-same (row_values a p.root_value p.sql_value) (row_values b q.root_value q.sql_value) member.payload member.payload [] [] p.is_record q.is_record refl).0 in
+    (record-same (row_values a p.root_value p.sql_value) (row_values b q.root_value q.sql_value) member.payload member.payload [] [] p.is_record q.is_record refl).0 in
     let word : kind_word a.kind ≡ kind_word b.kind = cc in
     let kind : a.kind ≡ b.kind = sym (kind_of-word a.kind) ∙ ap kind_of word ∙ kind_of-word b.kind in
     let name : a.name ≡ b.name = cc in

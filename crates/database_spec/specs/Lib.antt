@@ -14,3 +14,5 @@ pub mod RowsLaws
 pub mod KeysLaws
 pub mod FileFaultsLaws
 pub mod TreeWalksLaws
+pub mod LittleTarget
+pub mod LittleTargetLaws

@@ -220,8 +220,13 @@ module _ (sizes : Sizes) (base : Paged) where
           is_visit = (
             Ends tree.page depth ∷ found.findings,
             refl,
-            inr (leaf_kind kind, seen tree.cells, 0, accepted-own (leaf_kind kind) tree.page 0 tree.cells stands.0 stands.1,
-            inr (inl (refl, (found.findings, refl, inr (inr (some, own-rises kind zero low high tree full bounded, found.is_visit)))))),
+            inr (
+              leaf_kind kind,
+              seen tree.cells,
+              0,
+              accepted-own (leaf_kind kind) tree.page 0 tree.cells stands.0 stands.1,
+              inr (inl (refl, (found.findings, refl, inr (inr (some, own-rises kind zero low high tree full bounded, found.is_visit))))),
+            ),
           );
           goes_on = found.goes_on;
           members_are = found.members_are;
@@ -237,9 +242,13 @@ module _ (sizes : Sizes) (base : Paged) where
           is_visit = (
             bare root tree.page cells ++ found.findings,
             refl,
-            inr (interior_kind kind, cells, page_of levels tree.last,
-            accepted-own (interior_kind kind) tree.page (page_of levels tree.last) (cells_behind tree.children) stands.0 (held_behind levels tree.children stands.1.0),
-            inr (inr (refl, (found.findings, refl, inr (inr (some, own-rises kind (suc levels) low high tree full bounded, found.is_visit)))))),
+            inr (
+              interior_kind kind,
+              cells,
+              page_of levels tree.last,
+              accepted-own (interior_kind kind) tree.page (page_of levels tree.last) (cells_behind tree.children) stands.0 (held_behind levels tree.children stands.1.0),
+              inr (inr (refl, (found.findings, refl, inr (inr (some, own-rises kind (suc levels) low high tree full bounded, found.is_visit))))),
+            ),
           );
           goes_on = stops-join (bare root tree.page cells) found.findings (bare-goes_on root tree.page cells) found.goes_on;
           members_are = members-join (bare root tree.page cells) found.findings [] (list_beside kind levels tree.children tree.last) (bare-members root tree.page cells) found.members_are;

@@ -70,10 +70,12 @@ broken-numbers base size usable first bytes a b =
   where
     few : {p : ℕ} (x : IsBroken base.pages size usable base.count first bytes p) → (length x.numbers < pages_for usable bytes) ⊎ (length x.numbers ≡ pages_for usable bytes)
     few x = elim x.wrong [ inl w ↦ inl w.0 | inr w ↦ inr w.0 ]
+
     too_short : ((length a.numbers < pages_for usable bytes) × ¬ IsInRange size base.count (named_behind base.pages first a.numbers)) ⊎ ((length a.numbers ≡ pages_for usable bytes) × (named_behind base.pages first a.numbers ≢ 0))
         → length a.numbers < length b.numbers → ⊥
     too_short (inl w) less = w.1 (named-in_range base.pages size base.count first a.numbers b.numbers a.linked b.linked less)
     too_short (inr w) less = elim (few b) [ inl v ↦ omega (arith, w.0, v, less) | inr v ↦ omega (arith, w.0, v, less) ]
+
     too_long : ((length b.numbers < pages_for usable bytes) × ¬ IsInRange size base.count (named_behind base.pages first b.numbers)) ⊎ ((length b.numbers ≡ pages_for usable bytes) × (named_behind base.pages first b.numbers ≢ 0))
         → length b.numbers < length a.numbers → ⊥
     too_long (inl w) less = w.1 (named-in_range base.pages size base.count first b.numbers a.numbers b.linked a.linked less)

@@ -5,6 +5,12 @@
 
 mod catalog;
 mod fault;
+mod laws;
+mod worked;
 
 pub use catalog::{Catalog, Entry, NamedEntry, SchemaKind};
 pub use fault::FileFault;
+pub use laws::{
+    database_has_one_catalog, file_has_one_fault, table_has_one_projection, walks_find_one_list,
+};
+pub use worked::worked_target;

@@ -10,5 +10,5 @@ pub use schema_spec::{Token, TokenKind};
 pub use tokenizer::tokens;
 pub use words::{
     begins_constraint, is_blob, is_keyword, is_literal, is_name, is_number_token, is_sign, is_sql,
-    is_type_word, is_word_of, name_of, same_name, spelling,
+    is_type_word, is_word_of, name_of, part, same_name, spelling,
 };

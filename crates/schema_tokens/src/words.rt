@@ -71,8 +71,8 @@ const RESERVED_WORDS: [&[u8]; 58] = [
     b"WHERE",
 ];
 
-// The bytes between two places of a text, as far as it goes.
-fn part(text: &[u8], start: usize, end: usize) -> &[u8]
+/// The bytes between two places of a text, as far as it goes.
+pub fn part(text: &[u8], start: usize, end: usize) -> &[u8]
     ensures { result.now ≡ slice_range text.now start end }
 {
     let end = end.min(text.len());
@@ -86,7 +86,7 @@ fn byte_at(text: &[u8], place: usize) -> u8
     if place < text.len() { text[place] } else { 0 }
 }
 
-// The bytes of a token.
+/// The bytes of a token.
 pub fn spelling(text: &[u8], token: Token) -> &[u8]
     ensures { result.now ≡ spelling text.now token }
 {
@@ -104,7 +104,7 @@ fn inner(text: &[u8], token: Token) -> &[u8]
     )
 }
 
-// Two names are one, where the case of ASCII letters does not count.
+/// Two names are one, where the case of ASCII letters does not count.
 pub fn same_name(a: &[u8], b: &[u8]) -> bool
     ensures { result ≡ same_name a.now b.now }
 {
@@ -125,7 +125,7 @@ fn is_one_of(words: &[&[u8]], text: &[u8]) -> bool
     false
 }
 
-// The token is one of the words.
+/// The token is one of the words.
 pub fn is_word_of(words: &[&[u8]], text: &[u8], token: Token) -> bool
     ensures { result ≡ is_word_of (map (λ word. word.now) words.now) text.now token }
 {
@@ -135,7 +135,7 @@ pub fn is_word_of(words: &[&[u8]], text: &[u8], token: Token) -> bool
     }
 }
 
-// The token is the word.
+/// The token is the word.
 pub fn is_keyword(word: &[u8], text: &[u8], token: Token) -> bool
     ensures { result ≡ is_keyword word.now text.now token }
 {
@@ -164,7 +164,7 @@ fn is_constraint_word(text: &[u8]) -> bool
     is_one_of(&CONSTRAINT_WORDS, text)
 }
 
-// The token is a word with which a constraint of a column begins.
+/// The token is a word with which a constraint of a column begins.
 pub fn begins_constraint(text: &[u8], token: Token) -> bool
     ensures { result ≡ is_word_of constraint_words text.now token }
 {
@@ -174,7 +174,7 @@ pub fn begins_constraint(text: &[u8], token: Token) -> bool
     }
 }
 
-// The token is a word of a type.
+/// The token is a word of a type.
 pub fn is_type_word(text: &[u8], token: Token) -> bool
     ensures { result ≡ is_type_word text.now token }
 {
@@ -191,7 +191,7 @@ fn is_reserved(text: &[u8]) -> bool
     is_one_of(&RESERVED_WORDS, text)
 }
 
-// The token is a name.
+/// The token is a name.
 pub fn is_name(text: &[u8], token: Token) -> bool
     ensures { result ≡ is_name text.now token }
 {
@@ -202,7 +202,7 @@ pub fn is_name(text: &[u8], token: Token) -> bool
     }
 }
 
-// The token is the sign.
+/// The token is the sign.
 pub fn is_sign(sign: u8, text: &[u8], token: Token) -> bool
     ensures { result ≡ is_sign sign text.now token }
 {
@@ -342,7 +342,7 @@ fn is_number(text: &[u8]) -> bool
     }
 }
 
-// The token is a number.
+/// The token is a number.
 pub fn is_number_token(text: &[u8], token: Token) -> bool
     ensures { result ≡ is_number_token text.now token }
 {
@@ -352,7 +352,7 @@ pub fn is_number_token(text: &[u8], token: Token) -> bool
     }
 }
 
-// The token is one of SQL.
+/// The token is one of SQL.
 pub fn is_sql(text: &[u8], token: Token) -> bool
     ensures { result ≡ is_sql text.now token }
 {
@@ -363,14 +363,14 @@ pub fn is_sql(text: &[u8], token: Token) -> bool
     }
 }
 
-// The token is a literal or a word, as DEFAULT takes it.
+/// The token is a literal or a word, as DEFAULT takes it.
 pub fn is_literal(text: &[u8], token: Token) -> bool
     ensures { result ≡ is_literal text.now token }
 {
     is_number_token(text, token) || is_keyword(b"NULL", text, token) || is_name(text, token)
 }
 
-// The token is X, and behind it stands an even number of hexadecimal digits in single quotes.
+/// The token is X, and behind it stands an even number of hexadecimal digits in single quotes.
 pub fn is_blob(text: &[u8], x: Token, content: Token) -> bool
     ensures { result ≡ is_blob text.now x content }
 {

@@ -43,10 +43,10 @@ some-all (Some f) all = all f
 -- what a call owes whose error is no fault of the store
 pub owes-free : {P F T : Type 0} (g : Ghosts P F) {before after : P} (result : Result T (TreeFault F)) → Stays g before after → g.faults after ≡ g.faults before → IfErr result (λ fault. fault_in fault ≡ None)
     → OwesBy g fault_in before after result
-owes-free g {before} {after} (Ok done) stays same none = record { stays = stays; faults = record { later = omega (arith, same); still = same; cause = tt } }
+owes-free g {before} {after} (Ok done) stays same none = record { stays = stays; faults = record { later = omega (arith, ap g.fault_count same); still = same; cause = tt } }
 owes-free {P} {F} {T} g {before} {after} (Err fault) stays same none = record {
   stays = stays;
-  faults = record { later = omega (arith, same); still = tt; cause = subst⁻¹ (λ (o : Option F). IsCause g.wants_memory o (g.faults before) (g.faults after)) none same };
+  faults = record { later = omega (arith, ap g.fault_count same); still = tt; cause = subst⁻¹ (λ (o : Option F). IsCause g.Fails o (g.faults before) (g.faults after)) none same };
 }
 
 -- what a walk over a chain owes, its error being told of the tree

@@ -252,6 +252,19 @@ module _ (sizes : Sizes) (base : Paged) (kind : TreeKind) where
     within = subst⁻¹ (λ (l : Option ℤ). IsWithin kind levels l new.high tree) low (subst⁻¹ (λ (h : ℤ). IsWithin kind levels old.low h tree) high is.within);
   }
 
+  -- a cursor at the same place
+  pub same-place : (from : (levels : ℕ) → TreeOf levels → ℕ → List Member) (rest : List Member) (old new : Cursor) → new.above.items ≡ old.above.items → new.here ≡ old.here → IsIn sizes base kind from rest old
+      → IsIn sizes base kind from rest new
+  same-place from rest old new above_are here_is is = record {
+    levels = is.levels;
+    tree = is.tree;
+    place_is = subst⁻¹ (IsPlace sizes base kind is.levels is.tree) here_is is.place_is;
+    later = is.later;
+    left_above = subst⁻¹ (λ (places : List Place). IsLeft sizes base kind is.levels (reverse places) is.later) above_are is.left_above;
+    rest_is = is.rest_is ∙ ap (λ (place : Place). from is.levels is.tree place.at ++ is.later) (sym here_is);
+    deep = omega (arith, is.deep, ap length above_are);
+  }
+
   -- the cursor at the next cell or child of its page
   pub record IsNextOf (old new : Cursor) : Type 0 where
     pub above_are : new.above.items ≡ old.above.items

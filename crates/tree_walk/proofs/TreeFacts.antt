@@ -249,7 +249,7 @@ bound_same x y [] at low = absurd (omega arith)
 bound_same x y (v ∷ views) zero low = refl
 bound_same x y (v ∷ views) (suc at) low = bound_same x y views at (omega arith)
 
-low-next : (low : Option ℤ) (v : CellView) (views : List CellView) (at : ℕ) → at ≤ length views → low_in (Some v.rowid) views at ≡ bound_or low (slice_get (v ∷ views) at)
+pub low-next : (low : Option ℤ) (v : CellView) (views : List CellView) (at : ℕ) → at ≤ length views → low_in (Some v.rowid) views at ≡ bound_or low (slice_get (v ∷ views) at)
 low-next low v views zero within = refl
 low-next low v views (suc before) within = bound_same (Some v.rowid) low views before (omega arith)
 

@@ -3,6 +3,7 @@ ghost use Rattle.std.specs.Prelude.{◌≡◌, ◌≤◌, ◌≤ℤ◌, ◌↔�
 ghost use Rattle.page_store.specs.Store.{HasSizes, OwesBy, Sees};
 ghost use Rattle.tree_spec.specs.Faults.{fault_in};
 ghost use Rattle.tree_walk.specs.Pages.{is_leaf as is_leaf_of};
+ghost use Rattle.tree_walk.specs.Paths.{IsKept};
 ghost use Rattle.tree_walk.specs.Places.{rowids};
 ghost use Rattle.tree_walk.specs.Seeks.{ComesTo, IsAimed, IsIndexOf, SeeksDown, SeeksFrom, StandsFrom};
 
@@ -92,7 +93,8 @@ impl Cursor {
         here: Place,
         rowid: i64,
     ) -> Result<Cursor, TreeFault<S::Fault>>
-        requires { HasSizes S.PageRead store.old }
+        requires sizes { HasSizes S.PageRead store.old }
+        requires kept { IsKept here }
         ensures pages { Sees S.PageRead store.old store.new (λ m. SeeksFrom (record { size = S.size store.old; usable = S.usable store.old }) (record { count = S.count store.old; pages = m }) rowid here result) }
         ensures owes { OwesBy S.PageRead fault_in store.old store.new result }
     {

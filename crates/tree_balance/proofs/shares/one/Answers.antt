@@ -1,4 +1,4 @@
-use Rattle.std.proofs.Common.{rules, ◌≡◌, ℕ, ◌<◌, List, [], ◌∷◌, length, arith}
+use Rattle.std.proofs.Common.{rules, ◌≡◌, ◌<◌, List, [], ◌∷◌, length}
 use Rattle.std.proofs.Math.Path.{subst⁻¹}
 use Rattle.tree_balance.specs.declared.share.Share.{Share}
 use Rattle.tree_balance.specs.Shares.{AreLaid}

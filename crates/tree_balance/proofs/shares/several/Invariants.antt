@@ -1,4 +1,4 @@
-use Rattle.std.proofs.Common.{ℕ, ◌+◌, ◌-◌, ◌<◌, ◌≤◌, List, ◌++◌, length, take, drop}
+use Rattle.std.proofs.Common.{◌+◌, ◌-◌, ◌<◌, ◌≤◌, List, ◌++◌, length, take, drop}
 use Rattle.page_spec.specs.Rooms.{needs}
 use Rattle.tree_balance.specs.declared.share.Share.{Share}
 use Rattle.tree_balance.specs.Shares.{AreLaid}

@@ -13,6 +13,7 @@ loop-alloc-init g c = record {
   faults = refl;
   count = refl;
   same = refl;
+  bound = record { kind_is = refl; low_is = refl };
   left = some-all (g.S.PageRead.pages c.args.store.now) (λ m kind rest above. above);
 }
 
@@ -28,6 +29,7 @@ loop-alloc-preserved g c =
       faults = step.owes.faults.still ∙ inv.faults;
       count = step.pages.count ∙ inv.count;
       same = step.pages.same ∙ inv.same;
+      bound = record { kind_is = step.bound.kind_is ∙ inv.bound.kind_is; low_is = step.bound.low_is ∙ inv.bound.low_is };
       left = told-both (g.S.PageRead.pages first) inv.same inv.left step.pages.answer (λ m left down. λ kind rest above.
           stepped (record { size = g.S.PageRead.size first; usable = g.S.PageRead.usable first }) (record { count = g.S.PageRead.count first; pages = m }) kind {F = g.row.S-Fault.Denot} rest old c.step_down.new.self
           (Ok tt) inner

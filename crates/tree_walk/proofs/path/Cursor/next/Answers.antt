@@ -1,8 +1,9 @@
-use Rattle.std.proofs.Common.{◌≡◌, false, true, sym, refl, ◌∙◌}
+use Rattle.std.proofs.Common.{◌≡◌, false, true, reverse, sym, refl, ◌∙◌}
 use Rattle.std.proofs.lemmas.Option.{IfSome_then}
 use Rattle.tree_walk.specs.Pages.{is_leaf}
 use Rattle.tree_walk.specs.Walks.{IsPast}
 use Rattle.tree_walk.proofs.Calls.{some-all}
+use Rattle.tree_walk.proofs.Paths.{path-moved, next-up, behind-up}
 use Rattle.tree_walk.proofs.Steps.{stays_past, next_of_leaf, next_of_index}
 use Rattle.tree_walk.proofs.path.Cursor.next.Goals as goal
 
@@ -48,3 +49,14 @@ returns-clause-pages g c =
           (next_of_index (record { size = g.S.PageRead.size store; usable = g.S.PageRead.usable store }) (record { count = g.S.PageRead.count store; pages = m }) kind rest old _
           (record { above_are = refl; page_is = refl; low_is = refl; high_is = refl; at_is = refl }) not_past inner stands));
     }
+
+pub invariant_of-self : goal.invariant_of-self
+invariant_of-self g c = let old = c.args.self.now in record { path = path-moved (reverse old.above.items) old.here _ (record { page_is = refl; low_is = refl; high_is = refl }) old.path }
+
+pub returns-then-is_leaf-clause-rises : goal.returns-then-is_leaf-clause-rises
+returns-then-is_leaf-clause-rises g c =
+    next-up c.args.self.now c.settle.new.self _ c.settle.result (λ past. let bad = c.is_past.ensures.1 past in cc) (record { page_is = refl; low_is = refl; high_is = refl }) refl c.settle.ensures.rises
+
+pub returns-clause-rises : goal.returns-clause-rises
+returns-clause-rises g c =
+    behind-up c.args.self.now _ c.land.new.self c.land.result (λ past. let bad = c.is_past.ensures.1 past in cc) (record { page_is = refl; low_is = refl; high_is = refl }) refl c.land.ensures.bound c.land.ensures.moved

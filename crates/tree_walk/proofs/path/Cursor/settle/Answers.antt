@@ -1,8 +1,9 @@
-use Rattle.std.proofs.Common.{◌≡◌, false, true, sym, refl, ◌∙◌}
+use Rattle.std.proofs.Common.{◌≡◌, false, true, reverse, sym, refl, ◌∙◌}
 use Rattle.std.proofs.lemmas.Option.{IfSome_then}
 use Rattle.tree_walk.specs.Pages.{has_dividers}
 use Rattle.tree_walk.specs.Walks.{IsPast}
 use Rattle.tree_walk.proofs.Calls.{some-all, dividers, no_dividers}
+use Rattle.tree_walk.proofs.Paths.{path-moved, landed-up}
 use Rattle.tree_walk.proofs.Steps.{settled-past, settled-cell, next_of_table}
 use Rattle.tree_walk.proofs.path.Cursor.settle.Goals as goal
 
@@ -46,3 +47,11 @@ returns-clause-pages g c =
           (record { above_are = refl; page_is = refl; low_is = refl; high_is = refl; at_is = refl }) not_past
           (dividers c.climb.new.self.here.page.kind some) (c.climb.ensures.left _ _ kind rest at)));
     }
+
+pub invariant_of-self : goal.invariant_of-self
+invariant_of-self g c = let higher = c.climb.new.self in record { path = path-moved (reverse higher.above.items) higher.here _ (record { page_is = refl; low_is = refl; high_is = refl }) higher.path }
+
+pub returns-clause-rises : goal.returns-clause-rises
+returns-clause-rises g c =
+    landed-up c.args.self.now c.climb.new.self _ c.land.new.self c.land.result c.climb.ensures.bound (λ past. let bad = c.is_past.ensures.1 past in cc)
+    (record { page_is = refl; low_is = refl; high_is = refl }) refl c.land.ensures.bound c.land.ensures.moved

@@ -1,4 +1,4 @@
--- The sizes of cells, and sums of what they need.
+-- The sizes of cells, and sums of what they need: crates above cite these facts in their proofs.
 use Rattle.std.proofs.Common.{◌≡◌, ℕ, suc, ◌+◌, ◌*◌, ◌<◌, ◌≤◌, List, [], ◌∷◌, ◌++◌, length, take, drop, get_or, leb, cond, ap, ◌∙◌, arith, length-append, take-append-drop, inl, inr}
 use Rattle.std.proofs.Math.Nat.{mul-le-mul_left}
 use Rattle.std.proofs.lemmas.Bool.{cases_lt}

@@ -46,16 +46,20 @@ fn is_left(disk: &MemoryDisk) -> bool {
         && disk.refused() == 0
 }
 
-// A fused disk, which sees the disk below through the trait alone, passes all of these calls on, and fails one more.
-fn fused_disk_passes_its_calls(alloc: Global) -> Result<(), Fail> {
-    let mut fused = FusedDisk::new(empty_disk(alloc, &[])?, 13);
-    make_all(&mut fused)?;
-    ensure(looks(&mut fused)?, "what the changes left")?;
+fn passes_its_calls(disk: &mut FusedDisk<MemoryDisk>) -> Result<(), Fail> {
+    make_all(disk)?;
+    ensure(looks(disk)?, "what the changes left")?;
     let fault = DiskFault {
         file: FileName::Wal,
         call: DiskCall::Sync,
     };
-    ensure(fused.sync(FileName::Wal) == Err(fault), "a call more")?;
+    ensure(disk.sync(FileName::Wal) == Err(fault), "a call more")
+}
+
+// A fused disk, which sees the disk below through the trait alone, passes all of these calls on, and fails one more.
+fn fused_disk_passes_its_calls(alloc: Global) -> Result<(), Fail> {
+    let mut fused = FusedDisk::new(empty_disk(alloc, &[])?, 13);
+    passes_its_calls(&mut fused)?;
     ensure(is_left(&fused.into_inner()), "the disk below")
 }
 
@@ -65,13 +69,17 @@ const ZEROS: [(Change, &[u8]); 2] = [
     (Change::SetLen(FileName::Target, 7), b"\0\0\0ab\0\0"),
 ];
 
-fn zeros_are_written(alloc: Global) -> Result<(), Fail> {
-    let mut disk = empty_disk(alloc, &[])?;
+fn writes_zeros(disk: &mut MemoryDisk) -> Result<(), Fail> {
     for (change, bytes) in ZEROS {
-        make(&mut disk, change)?;
+        make(disk, change)?;
         ensure(disk.contents(FileName::Target) == Some(bytes), "zeros")?;
     }
     Ok(())
+}
+
+fn zeros_are_written(alloc: Global) -> Result<(), Fail> {
+    let mut disk = empty_disk(alloc, &[])?;
+    writes_zeros(&mut disk)
 }
 
 // Changes that fail, and how many calls found no memory then: an end over the limit is no want of memory, and one at the
@@ -82,13 +90,17 @@ const LIMITS: [(Change, u64); 3] = [
     (Change::SetLen(FileName::Rbu, 1 << 62), 1),
 ];
 
-fn no_file_ends_over_the_limit(alloc: Global) -> Result<(), Fail> {
-    let mut disk = empty_disk(alloc, &[])?;
+fn has_limit(disk: &mut MemoryDisk) -> Result<(), Fail> {
     for (change, refused) in LIMITS {
-        ensure(make(&mut disk, change).is_err(), "an end over the limit")?;
+        ensure(make(disk, change).is_err(), "an end over the limit")?;
         ensure(disk.refused() == refused, "calls without memory")?;
     }
     ensure(disk.contents(FileName::Rbu).is_none(), "no file")
+}
+
+fn no_file_ends_over_the_limit(alloc: Global) -> Result<(), Fail> {
+    let mut disk = empty_disk(alloc, &[])?;
+    has_limit(&mut disk)
 }
 
 #[test]
@@ -107,13 +119,17 @@ const THIRD_FAILS: [(Change, bool, Option<&[u8]>); 4] = [
     (Change::Remove(FileName::State), false, None),
 ];
 
-fn third_call_fails(alloc: Global) -> Result<(), Fail> {
-    let mut disk = empty_disk(alloc, &[2])?;
+fn fails_at_third_call(disk: &mut MemoryDisk) -> Result<(), Fail> {
     for (change, fails, bytes) in THIRD_FAILS {
-        ensure(make(&mut disk, change).is_err() == fails, "the third call")?;
+        ensure(make(disk, change).is_err() == fails, "the third call")?;
         ensure(disk.contents(FileName::State) == bytes, "the state")?;
     }
     ensure(disk.refused() == 0, "no want of memory")
+}
+
+fn third_call_fails(alloc: Global) -> Result<(), Fail> {
+    let mut disk = empty_disk(alloc, &[2])?;
+    fails_at_third_call(&mut disk)
 }
 
 // Texts for an output whose third write fails.
@@ -125,14 +141,18 @@ const THIRD_WRITE_FAILS: [(&str, bool); 5] = [
     ("\n", false),
 ];
 
-fn third_write_fails(alloc: Global) -> Result<(), Fail> {
-    let mut sink = MemorySink::new(alloc, Vec::from_slice(alloc, &[2])?);
+fn fails_at_third_write(sink: &mut MemorySink) -> Result<(), Fail> {
     for (text, fails) in THIRD_WRITE_FAILS {
         let failed = sink.write_all(text.as_bytes()).is_err();
         ensure(failed == fails, "the third write")?;
     }
-    ensure(sink.written() == b"one\nthree\n".as_slice(), "the text")?;
-    ensure(sink.refused() == 0, "no want of memory")
+    let is_text = sink.written() == b"one\nthree\n".as_slice();
+    ensure(is_text && sink.refused() == 0, "the text")
+}
+
+fn third_write_fails(alloc: Global) -> Result<(), Fail> {
+    let mut sink = MemorySink::new(alloc, Vec::from_slice(alloc, &[2])?);
+    fails_at_third_write(&mut sink)
 }
 
 #[test]

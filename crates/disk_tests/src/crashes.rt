@@ -142,14 +142,27 @@ const FAILURES: [Row; 5] = [
     ),
 ];
 
-fn crashes_leave(alloc: Global, failing: &[u64], rows: &[Row]) -> Result<(), Fail> {
-    let mut disk = small_disk(alloc, failing)?;
+fn crashes_are(
+    alloc: Global,
+    disk: &MemoryDisk,
+    choices: u64,
+    images: &str,
+) -> Result<bool, AllocError> {
+    let text = crashes(alloc, disk, choices)?;
+    Ok(text.as_slice() == images.as_bytes())
+}
+
+fn rows_hold(alloc: Global, disk: &mut MemoryDisk, rows: &[Row]) -> Result<(), Fail> {
     for Row(change, fails, choices, images) in rows {
-        ensure(make(&mut disk, *change).is_err() == *fails, images)?;
-        let text = crashes(alloc, &disk, *choices)?;
-        ensure(text.as_slice() == images.as_bytes(), images)?;
+        ensure(make(disk, *change).is_err() == *fails, images)?;
+        ensure(crashes_are(alloc, disk, *choices, images)?, images)?;
     }
     Ok(())
+}
+
+fn crashes_leave(alloc: Global, failing: &[u64], rows: &[Row]) -> Result<(), Fail> {
+    let mut disk = small_disk(alloc, failing)?;
+    rows_hold(alloc, &mut disk, rows)
 }
 
 #[test]

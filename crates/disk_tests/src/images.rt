@@ -324,23 +324,40 @@ fn are_allowed(alloc: Global, disk: &MemoryDisk, rules: &Rules) -> Result<bool, 
     Ok(true)
 }
 
-fn assert_list(alloc: Global, random: &mut Random) -> Result<(), Fail> {
-    let mut disk = first_disk(alloc)?;
-    let mut rules = first_rules(alloc)?;
+fn images_are_allowed(
+    alloc: Global,
+    random: &mut Random,
+    disk: &mut MemoryDisk,
+    rules: &mut Rules,
+) -> Result<(), Fail> {
     for _ in 0..10 {
-        change_both(alloc, random, &mut disk, &mut rules)?;
+        change_both(alloc, random, disk, rules)?;
     }
     ensure(
-        are_allowed(alloc, &disk, &rules)?,
+        are_allowed(alloc, disk, rules)?,
         "an image that the rules do not allow",
     )
+}
+
+fn disk_keeps_the_rules(
+    alloc: Global,
+    random: &mut Random,
+    disk: &mut MemoryDisk,
+) -> Result<(), Fail> {
+    let mut rules = first_rules(alloc)?;
+    images_are_allowed(alloc, random, disk, &mut rules)
+}
+
+fn list_keeps_the_rules(alloc: Global, random: &mut Random) -> Result<(), Fail> {
+    let mut disk = first_disk(alloc)?;
+    disk_keeps_the_rules(alloc, random, &mut disk)
 }
 
 #[test]
 fn images_of_random_lists_of_calls_are_allowed(rt: HostRuntime) -> Result<(), Fail> {
     let mut random = Random { state: 1 };
     for _ in 0..1000 {
-        assert_list(rt.alloc(), &mut random)?;
+        list_keeps_the_rules(rt.alloc(), &mut random)?;
     }
     Ok(())
 }

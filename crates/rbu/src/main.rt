@@ -4,8 +4,6 @@
 //! files at the three paths.
 #![tactic(auto)]
 
-#[cfg(test)]
-mod example;
 mod program;
 #[cfg(test)]
 mod tests;

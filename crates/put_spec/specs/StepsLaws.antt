@@ -29,7 +29,7 @@ use Rattle.put_spec.specs.ChildrenLaws.{child-stands, child-within, keeps-fewer}
 use Rattle.put_spec.specs.Puts.{Before, After, hand_before, hand_after, child_before, interior_after, leaf_after, IsCut, cut_after, moved, deeper, IsReady, IsOpened, IsPut, IsRootPut}
 use Rattle.put_spec.specs.PutsLaws.{pages-parts, cut-count, put-above, put-cut, put-settled, put-stays, put-deepens, put-rises, hand-parts, moved-page}
 use Rattle.put_spec.specs.LeavesLaws.{belongs-within, leaf-inserted, leaf-met}
-use Rattle.put_spec.specs.Steps.{Spelled, spelled, bytes_in, views_in, HasCells, child_page, with_dividers, IsRaised, AreParts, before_at, Took, IsFronted, IsSpread, IsSettled, IsMovedOut, PutDone, PutBelow, RootDone, PutAt, PutUnder, PutInto, IsDeepened, IsLeafEdit}
+use Rattle.put_spec.specs.Steps.{Spelled, spelled, bytes_in, views_in, HasCells, child_page, with_dividers, IsRaised, AreParts, before_at, Took, IsFronted, IsSpread, IsSettled, IsMovedOut, IsRooted, PutDone, PutBelow, RootDone, PutAt, PutUnder, PutInto, IsDeepened, IsLeafEdit}
 
 -- Lists of cells.
 
@@ -444,6 +444,50 @@ module _ (sizes : Sizes) (kind : TreeKind) where
         dividers_are = grown.dividers_are ∙ ap (λ (s : List (TreeOf levels × TreeCell)). map spelled (cells_behind s) ++ dividers) none;
       }
 
+  -- A put that is done but for a page that is to have these cells and this right child, whose tree it is in.
+  pub record HasOpened (levels : ℕ) (before : Before levels) (cells : List Spelled) (right first bytes : ℕ) (base : Paged) : Type 0 where
+    pub after : After levels
+    pub base_is : after.base ≡ base
+    pub first_is : after.first ≡ first
+    pub bytes_is : after.bytes ≡ bytes
+    pub free : IsFree sizes after.base after.trunks
+    pub opened : IsOpened sizes kind levels before after
+    pub none : after.siblings ≡ []
+    pub cells_are : cells ≡ map spelled (own_cells levels after.home)
+    pub right_is : right ≡ own_right levels after.home
+
+  -- its page is settled
+  pub opened-settled : (levels page : ℕ) (before : Before levels) (cells : List Spelled) (right first bytes : ℕ) (base new : Paged) (dividers : List Spelled) → page_of levels before.tree ≡ page
+      → HasOpened levels before cells right first bytes base → IsSettled sizes levels kind page right cells base new dividers → PutDone sizes kind levels before new dividers first bytes
+  opened-settled levels page before cells right first bytes base new dividers is o settle =
+      subst (λ (f : ℕ). PutDone sizes kind levels before new dividers f bytes) o.first_is
+      (subst (λ (b : ℕ). PutDone sizes kind levels before new dividers o.after.first b) o.bytes_is
+      (settled-done dividers levels before o.after cells right new o.free o.opened o.none o.cells_are o.right_is
+      (subst⁻¹ (λ (p : ℕ). IsSettled sizes levels kind p right cells o.after.base new dividers) (o.opened.page ∙ is)
+      (subst⁻¹ (λ (b : Paged). IsSettled sizes levels kind page right cells b new dividers) o.base_is settle))))
+
+  -- or its page is a root's, which keeps its cells, or from which they are moved out
+  pub opened-rooted : (levels root : ℕ) (before : Before levels) (cells : List Spelled) (right first bytes : ℕ) (base new : Paged) → page_of levels before.tree ≡ root
+      → HasOpened levels before cells right first bytes base → IsRooted sizes levels kind root right cells base new → RootDone sizes kind levels before new first bytes
+  opened-rooted levels root before cells right first bytes base new is o rooted =
+      elim rooted as (λ _. RootDone sizes kind levels before new first bytes) [
+        | inl settle ↦ done-stays (opened-settled levels root before cells right first bytes base new [] is o settle)
+        | inr out ↦
+            subst (λ (f : ℕ). RootDone sizes kind levels before new f bytes) o.first_is
+            (subst (λ (b : ℕ). RootDone sizes kind levels before new o.after.first b) o.bytes_is
+            (moved-out levels before o.after root right cells new o.free o.opened o.none (o.opened.page ∙ is) o.cells_are o.right_is
+            (subst⁻¹ (λ (b : Paged). IsMovedOut sizes levels kind root right cells b new) o.base_is out)))
+      ]
+    where
+      done-stays : PutDone sizes kind levels before new [] first bytes → RootDone sizes kind levels before new first bytes
+      done-stays done = record {
+        rooted = record { kind = kind; levels = levels; tree = done.home };
+        trunks = done.trunks;
+        chain = done.chain;
+        put = put-stays sizes kind levels before (record { base = new; siblings = done.siblings; home = done.home; trunks = done.trunks; first = first; bytes = bytes; chain = done.chain }) done.put
+            (none-map (λ (child : TreeOf levels × TreeCell). spelled child.1) done.siblings (sym (map-map spelled (λ (child : TreeOf levels × TreeCell). child.1) done.siblings) ∙ done.dividers_are));
+      }
+
   -- An interior page.
 
   behind-append : {Child : Type 0} (xs ys : List (Child × TreeCell)) → map spelled (cells_behind (xs ++ ys)) ≡ map spelled (cells_behind xs) ++ map spelled (cells_behind ys)
@@ -487,12 +531,12 @@ module _ (sizes : Sizes) (kind : TreeKind) where
         held = ready.held;
       }
 
-  -- A put below the child at the place where the cell belongs, and the page with the dividers that came, is a put below the page.
-  pub interior-step : (levels page : ℕ) (cell : Spelled) (old : Paged) (cells : List Spelled) (right at : ℕ) (between : Paged) (grew : List Spelled) (first bytes : ℕ) (new : Paged) (dividers : List Spelled)
-      → HasCells sizes old (interior_kind kind) page cells right → at ≤ length cells → (kind ≡ Table → Belongs cell.view.rowid at (views_in cells))
-      → PutBelow sizes kind levels (child_page at cells right) cell old between grew first bytes
-      → IsSettled sizes (suc levels) kind page right (with_dividers cells at grew) between new dividers → PutBelow sizes kind (suc levels) page cell old new dividers first bytes
-  interior-step levels page cell old cells right at between grew first bytes new dividers has within here put settle tree trunks payload chain is free ready =
+  -- A put below the child at the place where the cell belongs leaves the page, which is to have the dividers that came.
+  pub interior-opened : (levels page : ℕ) (cell : Spelled) (old : Paged) (cells : List Spelled) (right at : ℕ) (between : Paged) (grew : List Spelled) (first bytes : ℕ) (tree : TreeOf (suc levels))
+      (trunks : List Trunk) (payload chain : List ℕ) → HasCells sizes old (interior_kind kind) page cells right → at ≤ length cells → (kind ≡ Table → Belongs cell.view.rowid at (views_in cells))
+      → PutBelow sizes kind levels (child_page at cells right) cell old between grew first bytes → page_of (suc levels) tree ≡ page → IsFree sizes old trunks
+      → IsReady sizes kind (suc levels) (before_at old tree trunks cell payload chain) → HasOpened (suc levels) (before_at old tree trunks cell payload chain) (with_dividers cells at grew) right first bytes between
+  interior-opened levels page cell old cells right at between grew first bytes tree trunks payload chain has within here put is free ready =
       let before : Before (suc levels) = before_at old tree trunks cell payload chain in
       let told = page-tells sizes old kind (suc levels) page tree cells right is has ready.stands in
       let few : at ≤ length tree.children = omega (arith, within, ap length told.0, cells-many tree.children) in
@@ -501,15 +545,28 @@ module _ (sizes : Sizes) (kind : TreeKind) where
       let done = put (child_at at tree.children tree.last) trunks payload chain child free (child-ready levels before at ready) in
       let after : After levels = record { base = between; siblings = done.siblings; home = done.home; trunks = done.trunks; first = first; bytes = bytes; chain = done.chain } in
       let place = λ (table : kind ≡ Table). subst (λ (views : List CellView). Belongs cell.view.rowid at views) (ap views_in told.0 ∙ views-of (cells_behind tree.children)) (here table) in
-      let opened = put-above sizes kind levels before at after ready.within ready.stands place done.put in
-      settled-done dividers (suc levels) before (interior_after levels before at after) (with_dividers cells at grew) right new (done.put.opened.turns.freelist free) opened refl
-      (
-      ap (λ (cs : List Spelled). with_dividers cs at grew) told.0
-      ∙ ap (λ (ds : List Spelled). with_dividers (map spelled (cells_behind tree.children)) at ds) (sym done.dividers_are)
-      ∙ dividers-put at tree.children done.siblings done.home few
-      )
-      (told.1 ∙ right-same levels at tree.children tree.last done.home done.put.opened.page)
-      (subst⁻¹ (λ (p : ℕ). IsSettled sizes (suc levels) kind p right (with_dividers cells at grew) between new dividers) is settle)
+      record {
+        after = interior_after levels before at after;
+        base_is = refl;
+        first_is = refl;
+        bytes_is = refl;
+        free = done.put.opened.turns.freelist free;
+        opened = put-above sizes kind levels before at after ready.within ready.stands place done.put;
+        none = refl;
+        cells_are = ap (λ (cs : List Spelled). with_dividers cs at grew) told.0
+            ∙ ap (λ (ds : List Spelled). with_dividers (map spelled (cells_behind tree.children)) at ds) (sym done.dividers_are)
+            ∙ dividers-put at tree.children done.siblings done.home few;
+        right_is = told.1 ∙ right-same levels at tree.children tree.last done.home done.put.opened.page;
+      }
+
+  -- A put below the child at the place where the cell belongs, and the page with the dividers that came, is a put below the page.
+  pub interior-step : (levels page : ℕ) (cell : Spelled) (old : Paged) (cells : List Spelled) (right at : ℕ) (between : Paged) (grew : List Spelled) (first bytes : ℕ) (new : Paged) (dividers : List Spelled)
+      → HasCells sizes old (interior_kind kind) page cells right → at ≤ length cells → (kind ≡ Table → Belongs cell.view.rowid at (views_in cells))
+      → PutBelow sizes kind levels (child_page at cells right) cell old between grew first bytes
+      → IsSettled sizes (suc levels) kind page right (with_dividers cells at grew) between new dividers → PutBelow sizes kind (suc levels) page cell old new dividers first bytes
+  interior-step levels page cell old cells right at between grew first bytes new dividers has within here put settle tree trunks payload chain is free ready =
+      opened-settled (suc levels) page (before_at old tree trunks cell payload chain) (with_dividers cells at grew) right first bytes between new dividers is
+      (interior-opened levels page cell old cells right at between grew first bytes tree trunks payload chain has within here put is free ready) settle
 
   children-alone : {Child : Type 0} (i : ℕ) (children : List (Child × TreeCell)) (home : Child) → cells_behind (children_with i children [] home) ≡ cells_behind children
   children-alone i [] home = refl
@@ -656,44 +713,110 @@ index-map f [] i d = refl
 index-map f (y ∷ ys) zero d = refl
 index-map f (y ∷ ys) (suc i) d = index-map f ys i d
 
+-- A cell put among the cells of a leaf of an index leaves the leaf, which is to have them.
+entry-opened : (sizes : Sizes) (page : ℕ) (cell : Spelled) (old : Paged) (cells : List Spelled) (right at : ℕ) (tree : TreeOf zero) (trunks : List Trunk) (payload chain : List ℕ)
+    → HasCells sizes old (leaf_kind Index) page cells right → at ≤ length cells → page_of zero tree ≡ page → IsFree sizes old trunks
+    → IsReady sizes Index zero (before_at old tree trunks cell payload chain) → HasOpened sizes Index zero (before_at old tree trunks cell payload chain) (insert cells at cell) 0 0 0 old
+entry-opened sizes page cell old cells right at tree trunks payload chain has within is free ready =
+    let before : Before zero = before_at old tree trunks cell payload chain in
+    let told = page-tells sizes old Index zero page tree cells right is has ready.stands in
+    let few : at ≤ length tree.cells = omega (arith, within, ap length told.0, length-of spelled tree.cells) in
+    record {
+      after = leaf_after before (insert tree.cells at before.cell) 0 0 [];
+      base_is = refl;
+      first_is = refl;
+      bytes_is = refl;
+      free = free;
+      opened = leaf-inserted sizes Index before at ready few (λ table. absurd (let h : ⊥ = cc in h));
+      none = refl;
+      cells_are = ap (λ (cs : List Spelled). insert cs at cell) told.0 ∙ insert-map spelled tree.cells at before.cell few;
+      right_is = refl;
+    }
+
 -- A cell put among the cells of an index's leaf, which are then settled.
 pub entry-step : (sizes : Sizes) (page : ℕ) (cell : Spelled) (old : Paged) (cells : List Spelled) (right at : ℕ) (new : Paged) (dividers : List Spelled) → HasCells sizes old (leaf_kind Index) page cells right
     → at ≤ length cells → IsSettled sizes zero Index page 0 (insert cells at cell) old new dividers → PutBelow sizes Index zero page cell old new dividers 0 0
 entry-step sizes page cell old cells right at new dividers has within settle tree trunks payload chain is free ready =
-    let before : Before zero = before_at old tree trunks cell payload chain in
-    let told = page-tells sizes old Index zero page tree cells right is has ready.stands in
-    let few : at ≤ length tree.cells = omega (arith, within, ap length told.0, length-of spelled tree.cells) in
-    let opened = leaf-inserted sizes Index before at ready few (λ table. absurd (let h : ⊥ = cc in h)) in
-    settled-done sizes Index dividers zero before (leaf_after before (insert tree.cells at before.cell) 0 0 []) (insert cells at cell) 0 new free opened refl
-    (ap (λ (cs : List Spelled). insert cs at cell) told.0 ∙ insert-map spelled tree.cells at before.cell few) refl
-    (subst⁻¹ (λ (p : ℕ). IsSettled sizes zero Index p 0 (insert cells at cell) old new dividers) is settle)
+    opened-settled sizes Index zero page (before_at old tree trunks cell payload chain) (insert cells at cell) 0 0 0 old new dividers is
+    (entry-opened sizes page cell old cells right at tree trunks payload chain has within is free ready) settle
 
--- A cell put among the cells of a table's leaf, or in place of the one of its rowid.
-pub leaf-step : (sizes : Sizes) (page : ℕ) (cell : Spelled) (old : Paged) (cells : List Spelled) (right : ℕ) (edited : List Spelled) (first bytes : ℕ) (new : Paged) (dividers : List Spelled)
-    → HasCells sizes old (leaf_kind Table) page cells right → IsLeafEdit cells cell edited first bytes → IsSettled sizes zero Table page 0 edited old new dividers
-    → PutBelow sizes Table zero page cell old new dividers first bytes
-leaf-step sizes page cell old cells right edited first bytes new dividers has edit settle tree trunks payload chain is free ready =
+-- A cell put among the cells of a leaf of a table, or in place of the one of its rowid, leaves the leaf, which is to have them.
+leaf-opened : (sizes : Sizes) (page : ℕ) (cell : Spelled) (old : Paged) (cells : List Spelled) (right : ℕ) (edited : List Spelled) (first bytes : ℕ) (tree : TreeOf zero) (trunks : List Trunk) (payload chain : List ℕ)
+    → HasCells sizes old (leaf_kind Table) page cells right → IsLeafEdit cells cell edited first bytes → page_of zero tree ≡ page → IsFree sizes old trunks
+    → IsReady sizes Table zero (before_at old tree trunks cell payload chain) → HasOpened sizes Table zero (before_at old tree trunks cell payload chain) edited 0 first bytes old
+leaf-opened sizes page cell old cells right edited first bytes tree trunks payload chain has edit is free ready =
     let before : Before zero = before_at old tree trunks cell payload chain in
     let at = edit.place in
     let told = page-tells sizes old Table zero page tree cells right is has ready.stands in
     let views : views_in cells ≡ views_of tree.cells = ap views_in told.0 ∙ views-of tree.cells in
     let here = subst (Belongs cell.view.rowid at) views edit.here in
     let few = belongs-within cell.view.rowid at tree.cells here in
-    let settled_there = subst⁻¹ (λ (p : ℕ). IsSettled sizes zero Table p 0 edited old new dividers) is settle in
-    elim edit.is as (λ _. PutDone sizes Table zero before new dividers first bytes) [
+    elim edit.is as (λ _. HasOpened sizes Table zero before edited 0 first bytes old) [
       | inl put ↦
           let apart = λ (meets : Meets cell.view.rowid at (views_of tree.cells)). put.0 (subst⁻¹ (Meets cell.view.rowid at) views meets) in
-          let opened = leaf-inserted sizes Table before at ready few (λ table. (here, apart)) in
-          subst⁻¹ (λ (f : ℕ). PutDone sizes Table zero before new dividers f bytes) put.2
-          (subst⁻¹ (λ (b : ℕ). PutDone sizes Table zero before new dividers 0 b) put.3
-          (settled-done sizes Table dividers zero before (leaf_after before (insert tree.cells at before.cell) 0 0 []) edited 0 new free opened refl
-          (put.1 ∙ ap (λ (cs : List Spelled). insert cs at cell) told.0 ∙ insert-map spelled tree.cells at before.cell few) refl settled_there))
+          record {
+            after = leaf_after before (insert tree.cells at before.cell) 0 0 [];
+            base_is = refl;
+            first_is = sym put.2;
+            bytes_is = sym put.3;
+            free = free;
+            opened = leaf-inserted sizes Table before at ready few (λ table. (here, apart));
+            none = refl;
+            cells_are = put.1 ∙ ap (λ (cs : List Spelled). insert cs at cell) told.0 ∙ insert-map spelled tree.cells at before.cell few;
+            right_is = refl;
+          }
       | inr put ↦
           let meets = subst (Meets cell.view.rowid at) views put.0 in
           let was = slice_index_or tree.cells at before.cell in
           let same : slice_index_or cells at cell ≡ spelled was = ap (λ (cs : List Spelled). slice_index_or cs at cell) told.0 ∙ index-map spelled tree.cells at before.cell in
-          subst⁻¹ (λ (f : ℕ). PutDone sizes Table zero before new dividers f bytes) (put.2 ∙ ap (λ (c : Spelled). c.view.overflow) same)
-          (subst⁻¹ (λ (b : ℕ). PutDone sizes Table zero before new dividers was.view.overflow b) (put.3 ∙ ap (λ (c : Spelled). c.view.payload - c.view.local) same)
-          (settled-done sizes Table dividers zero before (leaf_after before (set tree.cells at before.cell) was.view.overflow (was.view.payload - was.view.local) was.chain) edited 0 new free
-          (leaf-met sizes before at ready meets) refl (put.1 ∙ ap (λ (cs : List Spelled). set cs at cell) told.0 ∙ set-map spelled tree.cells at before.cell) refl settled_there))
+          record {
+            after = leaf_after before (set tree.cells at before.cell) was.view.overflow (was.view.payload - was.view.local) was.chain;
+            base_is = refl;
+            first_is = sym (put.2 ∙ ap (λ (c : Spelled). c.view.overflow) same);
+            bytes_is = sym (put.3 ∙ ap (λ (c : Spelled). c.view.payload - c.view.local) same);
+            free = free;
+            opened = leaf-met sizes before at ready meets;
+            none = refl;
+            cells_are = put.1 ∙ ap (λ (cs : List Spelled). set cs at cell) told.0 ∙ set-map spelled tree.cells at before.cell;
+            right_is = refl;
+          }
     ]
+
+-- The leaf is settled then.
+pub leaf-step : (sizes : Sizes) (page : ℕ) (cell : Spelled) (old : Paged) (cells : List Spelled) (right : ℕ) (edited : List Spelled) (first bytes : ℕ) (new : Paged) (dividers : List Spelled)
+    → HasCells sizes old (leaf_kind Table) page cells right → IsLeafEdit cells cell edited first bytes → IsSettled sizes zero Table page 0 edited old new dividers
+    → PutBelow sizes Table zero page cell old new dividers first bytes
+leaf-step sizes page cell old cells right edited first bytes new dividers has edit settle tree trunks payload chain is free ready =
+    opened-settled sizes Table zero page (before_at old tree trunks cell payload chain) edited 0 first bytes old new dividers is
+    (leaf-opened sizes page cell old cells right edited first bytes tree trunks payload chain has edit is free ready) settle
+
+-- A root, whatever levels its tree has.
+
+-- a root that is a leaf has the cell where it keeps the cells that it is to have, or they are moved out
+pub leaf-rooted : (sizes : Sizes) (root : ℕ) (cell : Spelled) (old : Paged) (cells : List Spelled) (right : ℕ) (edited : List Spelled) (first bytes : ℕ) (new : Paged)
+    → HasCells sizes old (leaf_kind Table) root cells right → IsLeafEdit cells cell edited first bytes → IsRooted sizes zero Table root 0 edited old new → PutInto sizes Table root cell old new first bytes
+leaf-rooted sizes root cell old cells right edited first bytes new has edit rooted zero tree trunks payload chain is free ready =
+    opened-rooted sizes Table zero root (before_at old tree trunks cell payload chain) edited 0 first bytes old new is
+    (leaf-opened sizes root cell old cells right edited first bytes tree trunks payload chain has edit is free ready) rooted
+leaf-rooted sizes root cell old cells right edited first bytes new has edit rooted (suc levels) tree trunks payload chain is free ready =
+    absurd (none-suc sizes Table levels (leaf-levels sizes old Table (suc levels) root tree (bytes_in cells) right is has.is_page ready.stands.0))
+
+-- and one that is interior, where the child at the place of the cell has it
+pub interior-rooted : (sizes : Sizes) (kind : TreeKind) (root : ℕ) (cell : Spelled) (old : Paged) (cells : List Spelled) (right at : ℕ) (between : Paged) (grew : List Spelled) (first bytes : ℕ) (new : Paged)
+    → HasCells sizes old (interior_kind kind) root cells right → at ≤ length cells → (kind ≡ Table → Belongs cell.view.rowid at (views_in cells))
+    → PutUnder sizes kind (child_page at cells right) cell old between grew first bytes
+    → ((levels : ℕ) → IsRooted sizes (suc levels) kind root right (with_dividers cells at grew) between new) → PutInto sizes kind root cell old new first bytes
+interior-rooted sizes kind root cell old cells right at between grew first bytes new has within here put rooted zero tree trunks payload chain is free ready =
+    absurd (interior-levels sizes old kind zero root tree (bytes_in cells) right is has.is_page ready.stands.0 refl)
+interior-rooted sizes kind root cell old cells right at between grew first bytes new has within here put rooted (suc levels) tree trunks payload chain is free ready =
+    opened-rooted sizes kind (suc levels) root (before_at old tree trunks cell payload chain) (with_dividers cells at grew) right first bytes between new is
+    (interior-opened sizes kind levels root cell old cells right at between grew first bytes tree trunks payload chain has within here (put levels) is free ready) (rooted levels)
+
+-- or it stays as it is, where no divider came
+pub interior-stays : (sizes : Sizes) (kind : TreeKind) (root : ℕ) (cell : Spelled) (old : Paged) (cells : List Spelled) (right at : ℕ) (new : Paged) (first bytes : ℕ)
+    → HasCells sizes old (interior_kind kind) root cells right → (kind ≡ Table → Belongs cell.view.rowid at (views_in cells))
+    → PutUnder sizes kind (child_page at cells right) cell old new [] first bytes → PutInto sizes kind root cell old new first bytes
+interior-stays sizes kind root cell old cells right at new first bytes has here put zero tree trunks payload chain is free ready =
+    absurd (interior-levels sizes old kind zero root tree (bytes_in cells) right is has.is_page ready.stands.0 refl)
+interior-stays sizes kind root cell old cells right at new first bytes has here put (suc levels) tree trunks payload chain is free ready =
+    root-step sizes kind (suc levels) root cell old new first bytes (interior-untouched sizes kind levels root cell old cells right at new first bytes has here (put levels)) tree trunks payload chain is free ready

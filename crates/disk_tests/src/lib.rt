@@ -1,4 +1,4 @@
-//! Tests of the disks and the output in memory: each call once, calls that fail, and what crashes leave.
+//! Tests of the disks and the output in memory: each call once, calls that fail, and what crashes leave; and of saves of a state over such a disk.
 //!
 //! They stand in a crate of their own, over the crates that they call, since a crate with tests is proved twice.
 #![tactic(auto)]
@@ -9,3 +9,5 @@ mod calls;
 mod crashes;
 #[cfg(test)]
 mod images;
+#[cfg(test)]
+mod saves;

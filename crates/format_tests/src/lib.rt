@@ -18,4 +18,6 @@ mod small_files;
 #[cfg(test)]
 mod small_updates;
 #[cfg(test)]
+mod states;
+#[cfg(test)]
 mod values;

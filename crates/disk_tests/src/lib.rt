@@ -1,4 +1,4 @@
-//! Tests of the disks and the output in memory, and of whole commands over them.
+//! Tests of the disks and the output in memory, and of saves of a state and whole commands over them.
 //!
 //! Of the disks: each call once, calls that fail, and what crashes leave. Of commands: rows, refusals in their order, constraint faults,
 //! each failing call, crashes of an update that was stopped after each call, a failing output, and words.
@@ -24,6 +24,8 @@ mod images;
 mod refusals;
 #[cfg(test)]
 mod runs;
+#[cfg(test)]
+mod saves;
 #[cfg(test)]
 mod stops;
 #[cfg(test)]

@@ -20,4 +20,6 @@ mod small_files;
 #[cfg(test)]
 mod small_updates;
 #[cfg(test)]
+mod states;
+#[cfg(test)]
 mod values;

@@ -2,15 +2,12 @@
 ghost use Rattle.std.specs.Prelude.{IfOk};
 ghost use Rattle.state_file.specs.State.{CanSave};
 
+use crate::ensure::ensure;
 use disk_memory::MemoryDisk;
 use rbu_disk::FileName;
 use state_file::{DataKey, SavedState, save, state_bytes};
 use std::alloc::{AllocError, Global};
 use std::test::Fail;
-
-fn ensure(holds: bool, what: &'static str) -> Result<(), Fail> {
-    if holds { Ok(()) } else { Err(Fail::new(what)) }
-}
 
 // A state without names behind so many steps.
 fn state(steps: u32) -> SavedState

@@ -15,24 +15,16 @@ fn has_rows(left: &Left, front: &[u8], back: &[u8]) -> bool {
     }
 }
 
-fn is_updated(alloc: Global, disk: &MemoryDisk) -> Result<(), Fail> {
-    ensure(are_updated(alloc, disk)?, "the updated files")
-}
-
 fn inserts_drei(alloc: Global, before: &MemoryDisk) -> Result<(), Fail> {
     let left = updated(alloc, before, 0, "done\n")?;
-    is_updated(alloc, &left.disk)
-}
-
-fn inserts_drei_into_target(alloc: Global, before: &MemoryDisk) -> Result<(), Fail> {
-    let is_target = has_sum(alloc, before, FileName::Target, TARGET_BEFORE)?;
-    ensure(is_target, "the target before")?;
-    inserts_drei(alloc, before)
+    ensure(are_updated(alloc, &left.disk)?, "the updated files")
 }
 
 fn example_is_updated(alloc: Global) -> Result<(), Fail> {
     let before = example_disk(alloc)?;
-    inserts_drei_into_target(alloc, &before)
+    let is_example = has_sum(alloc, &before, FileName::Target, TARGET_BEFORE)?;
+    ensure(is_example, "the target before")?;
+    inserts_drei(alloc, &before)
 }
 
 fn target_with_gaps_is_updated(alloc: Global) -> Result<(), Fail> {

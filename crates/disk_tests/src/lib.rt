@@ -6,6 +6,10 @@
 #[cfg(test)]
 mod calls;
 #[cfg(test)]
+mod changes;
+#[cfg(test)]
 mod crashes;
+#[cfg(test)]
+mod ensure;
 #[cfg(test)]
 mod images;

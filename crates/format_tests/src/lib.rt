@@ -14,6 +14,8 @@ mod logs;
 #[cfg(test)]
 mod records;
 #[cfg(test)]
+mod schema_texts;
+#[cfg(test)]
 mod small_files;
 #[cfg(test)]
 mod small_updates;

@@ -1,4 +1,4 @@
-//! Tests of pages as lists of cells, of page stores, overflow chains and the freelist, and of the pages that a writer of trees takes, over pages in memory.
+//! Tests of pages as lists of cells, of the shares of a list of cells, of page stores, overflow chains and the freelist, and of the pages that a writer of trees takes, over pages in memory.
 //!
 //! They stand in a crate of their own, over the crates that they call, since a crate with tests is proved twice.
 #![tactic(auto)]
@@ -11,5 +11,7 @@ mod free_lists;
 mod layouts;
 #[cfg(test)]
 mod overflow;
+#[cfg(test)]
+mod shares;
 #[cfg(test)]
 mod stores;

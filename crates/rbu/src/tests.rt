@@ -1,6 +1,5 @@
 // Whole commands over disks in memory, and the program over runtimes that fail.
 use crate::example::{empty_disk, example_disk};
-use crate::output::Output;
 use crate::program::program;
 use disk_memory::{FusedDisk, MemoryDisk, MemorySink};
 use rbu_disk::{Disk, DiskFault, FileName};
@@ -758,35 +757,39 @@ const NO_TEXT: &[&[u8]] = &[b"rbu", b"apply", b"a", b"b", b"c", b"\xff"];
 
 const TOO_FEW: &[&[u8]] = &[b"rbu", b"apply", b"a", b"b"];
 
-// The program ends with this status, and its output, which has room for no more, is this.
+// The program, with these words on files of which none exists, ends with this status and output.
 fn ends_with(
-    alloc: Global,
+    rt: &HostRuntime,
     words: &'static [&'static [u8]],
     has_salt: bool,
     status: u8,
     output: &'static str,
 ) -> Result<(), Fail> {
+    let alloc = rt.alloc();
     let machine = Machine {
         words,
         has_salt,
         alloc,
     };
-    let mut bytes = vec![in alloc; 0; output.len()]?;
-    let ended = program(&machine, &mut Output::new(bytes.as_mut_slice()));
+    let mut fails = Vec::new(alloc);
+    if status == 8 {
+        fails.push(0)?;
+    }
+    let mut out = MemorySink::new(alloc, fails);
+    let ended = program(&machine, rt, &mut out);
     ensure(
-        ended == status && bytes.as_slice() == output.as_bytes(),
+        ended == status && (status == 8 || out.written() == output.as_bytes()),
         output,
     )
 }
 
 #[test]
 fn program_ends_with_each_status(rt: HostRuntime) -> Result<(), Fail> {
-    ends_with(rt.alloc(), WHOLE_UPDATE, true, 0, "done\n")?;
-    ends_with(rt.alloc(), NO_TEXT, true, 2, "usage\n")?;
-    ends_with(rt.alloc(), TOO_FEW, true, 2, "usage\n")?;
-    ends_with(rt.alloc(), &[], true, 2, "usage\n")?;
-    ends_with(rt.alloc(), WHOLE_UPDATE, false, 7, "\0")?;
-    ends_with(rt.alloc(), WHOLE_UPDATE, true, 8, "done")?;
-    ends_with(rt.alloc(), NO_TEXT, true, 8, "")?;
-    ends_with(rt.alloc(), TOO_FEW, true, 8, "usa")
+    ends_with(&rt, WHOLE_UPDATE, true, 4, "refused 1 NotYet target\n")?;
+    ends_with(&rt, NO_TEXT, true, 2, "usage\n")?;
+    ends_with(&rt, TOO_FEW, true, 2, "usage\n")?;
+    ends_with(&rt, &[], true, 2, "usage\n")?;
+    ends_with(&rt, WHOLE_UPDATE, false, 7, "")?;
+    ends_with(&rt, WHOLE_UPDATE, true, 8, "refused")?;
+    ends_with(&rt, TOO_FEW, true, 8, "usage")
 }

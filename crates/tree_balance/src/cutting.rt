@@ -10,9 +10,9 @@ use cell_codec::PageKind;
 use page_layout::needs;
 use rbu_value::Bytes;
 
-// The bytes that a page other than page 1 has for cells and their places.
-fn room_of(kind: PageKind, usable: u32) -> u64
-    requires { IsUsable usable }
+/// The bytes that a page other than page 1 has for cells and their places.
+pub fn room_of(kind: PageKind, usable: u32) -> u64
+    requires { 12 ≤ usable }
     ensures { result ≡ page_room kind usable }
 {
     match kind {
@@ -21,8 +21,8 @@ fn room_of(kind: PageKind, usable: u32) -> u64
     }
 }
 
-// How many cells go up where a page is cut.
-fn risen(kind: PageKind) -> usize
+/// How many cells go up where a page is cut: one, but none of a table's leaf, which keeps them all.
+pub fn risen(kind: PageKind) -> usize
     ensures { result ≡ cells_risen kind }
 {
     match kind {
@@ -31,12 +31,31 @@ fn risen(kind: PageKind) -> usize
     }
 }
 
-// The bytes that one cell needs.
-fn need(cell: &Bytes) -> u64
+/// The bytes that one cell needs.
+pub fn need(cell: &Bytes) -> u64
     requires { cell_room cell.now ≤ 65536 }
     ensures { result ≡ cell_room cell.now + 2 }
 {
     cell.as_slice().len().max(4) as u64 + 2
+}
+
+/// How many cells from the left need no more bytes than a limit.
+pub fn filled(cells: &[Bytes], limit: u64) -> usize
+    requires limit { limit ≤ 65536 }
+    requires each { All (λ cell. cell_room cell ≤ 65536) cells.now }
+    ensures within { result ≤ length cells.now }
+    ensures fits { bytes_needed (take result cells.now) ≤ limit }
+    ensures full { result < length cells.now → limit < bytes_needed (take (result + 1) cells.now) }
+{
+    let mut sum = 0;
+    for (at, cell) in cells.iter().enumerate() {
+        let more = sum + need(cell);
+        if more > limit {
+            return at;
+        }
+        sum = more;
+    }
+    cells.len()
 }
 
 // How many cells at the front need no more than a limit, one at least and not more than `most`.
@@ -51,15 +70,7 @@ fn front_within(cells: &[Bytes], room: u64, limit: u64, most: usize) -> usize
     ensures fits { bytes_needed (take result cells.now) ≤ room }
     ensures full { result < most → limit < bytes_needed (take (result + 1) cells.now) }
 {
-    let mut sum = need(&cells[0]);
-    for at in 1..most {
-        let more = sum + need(&cells[at]);
-        if more > limit {
-            return at;
-        }
-        sum = more;
-    }
-    most
+    filled(&cells[..most], limit).max(1)
 }
 
 /// Where cells that one page has no room for are cut: so many of them go to a new page in front, and of the others the first goes up to the parent, but in a table's leaf. `place` is the index of the cell that is new. Where it comes last a new page begins with it, so that cells that come in order leave full pages; else the front takes half of the bytes. The time is linear in the cells.

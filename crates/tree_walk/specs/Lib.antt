@@ -1,4 +1,8 @@
 pub mod Pages
 pub mod Places
+pub mod Paths
+pub mod PathsLaws
 pub mod Payloads
 pub mod Walks
+pub mod Rising
+pub mod Seeks

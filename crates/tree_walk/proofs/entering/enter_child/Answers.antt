@@ -1,6 +1,7 @@
-use Rattle.std.proofs.Common.{◌≡◌, Err, refl, inl, inr}
+use Rattle.std.proofs.Common.{Err, refl, inl, inr}
 use Rattle.std.proofs.Math.Path.{subst⁻¹}
 use Rattle.std.proofs.lemmas.Option.{IfSome_then}
+use Rattle.tree_spec.specs.Faults.{IsDamageOrOther}
 use Rattle.tree_walk.specs.Places.{IsBadStep}
 use Rattle.tree_walk.proofs.Calls.{owes-free, some-all, bad_number-step, page-child}
 use Rattle.tree_walk.proofs.entering.enter_child.Goals as goal
@@ -24,7 +25,7 @@ returns-then-above-ge24-clause-pages g c =
       same = refl;
       count = refl;
       answer = some-all (g.S.PageRead.pages store) (λ m.
-          subst⁻¹ (IsBadStep m (g.S.PageRead.size store) (g.S.PageRead.usable store) (g.S.PageRead.count store) a.parent.now a.above) c.damaged.ensures.is
+          subst⁻¹ (λ f. IsDamageOrOther (IsBadStep m (g.S.PageRead.size store) (g.S.PageRead.usable store) (g.S.PageRead.count store) a.parent.now a.above) f) c.damaged.ensures.is
           (inr (inl (c.in-Ok.ensures.answer.0, refl, c.if-above-ge24.true))));
     }
 

@@ -1,0 +1,4 @@
+pub mod Deletes
+pub mod DeletesLaws
+pub mod NeighboursLaws
+pub mod WorldsLaws

@@ -1,0 +1,5 @@
+pub mod RowKeys
+pub mod Tables
+pub mod StepFaults
+pub mod Plans
+pub mod Outcomes

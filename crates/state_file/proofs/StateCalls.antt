@@ -2,7 +2,7 @@
 use Rattle.std.proofs.Common.{◌≡◌, ℕ, ◌+◌, ◌-◌, List, ◌++◌, length, take, drop, replicate, Option, Some, None, option_map, Result, Ok, Err, OnOk, IfSome, refl, sym, ap, ◌∙◌, subst, inl, inr, arith, length-append}
 use Rattle.std.proofs.lemmas.List.{take_at}
 use Rattle.common_spec.specs.Told.{Leads}
-use Rattle.common_spec.specs.ToldLaws.{Leads-then, Leads-weaken, Leads-known}
+use Rattle.common_spec.specs.ToldLaws.{Leads-then, Leads-weaken, Leads-known, Leads-both, part-Leads}
 use Rattle.byte_fields.specs.Bytes.{resized, overwritten}
 use Rattle.byte_fields.specs.BytesLaws.{overwritten-front, resized-short}
 use Rattle.file_spec.specs.declared.FileName.{FileName}
@@ -32,18 +32,6 @@ led-by x y (Err e) Done Failed S led done failed = Leads-weaken led failed
 pub led-then : {T E Q : Type 0} {x y : Option Trail} (Done Failed : Trail → Trail → Type 0) (result : Result T E) → LeadsBy result Done Failed x y → (Leads Done x y → Q) → OnOk result Q
 led-then Done Failed (Ok v) led w = w led
 led-then Done Failed (Err e) led w = tt
-
--- two relations of one step
-pub Leads-both : {S : Type 0} {P Q : S → S → Type 0} {x y : Option S} → Leads P x y → Leads Q x y → Leads (λ a b. P a b × Q a b) x y
-Leads-both {x = None} p q = record { goes_on = p.goes_on; step = tt }
-Leads-both {x = Some a} {y = None} p q = record { goes_on = p.goes_on; step = tt }
-Leads-both {x = Some a} {y = Some b} p q = record { goes_on = p.goes_on; step = (p.step, q.step) }
-
-part-Leads : {S T : Type 0} (part : S → T) (R : T → T → Type 0) (x y : Option S) → Leads R (option_map part x) (option_map part y) → Leads (λ a b. R (part a) (part b)) x y
-part-Leads part R None None led = record { goes_on = refl; step = tt }
-part-Leads part R None (Some b) led = absurd (let e = led.goes_on in cc)
-part-Leads part R (Some a) None led = absurd (let e = led.goes_on in cc)
-part-Leads part R (Some a) (Some b) led = record { goes_on = refl; step = led.step }
 
 -- what is said of the shown files, said of the records
 pub records-go : {D : Type 0} (d : Ghosts D) (tied : (disk : D) → d.shown disk ≡ option_map (λ (t : Trail). shown_files t.now.at) (d.trail disk)) (R : Files → Files → Type 0) (before after : D)
@@ -177,7 +165,3 @@ saving-done bytes sound kept stable takes =
 pub on-ok : {X E : Type 0} {P : Type 0} (r : Result X E) → P → OnOk r P
 on-ok (Ok x) p = p
 on-ok (Err e) p = tt
-
-pub on-ok-map : {X E : Type 0} {P Q : Type 0} (r : Result X E) → OnOk r P → (P → Q) → OnOk r Q
-on-ok-map (Ok x) p f = f p
-on-ok-map (Err e) p f = tt

@@ -1,6 +1,5 @@
 -- What a save leaves of the files, and what a crash may leave while it is made.
 use Rattle.std.specs.Prelude.{◌≡◌, ◌⊎◌, ℕ, true, false, List, Some, None}
-use Rattle.common_spec.specs.Told.{Leads}
 use Rattle.file_spec.specs.declared.FileName.{FileName}
 use Rattle.file_spec.specs.declared.FileName.TheVariants.{State, StateTemp}
 use Rattle.file_spec.specs.Files.{Files, is_name, with_file}
@@ -43,10 +42,6 @@ abbrev pub LeavesNew : List ℕ → Trail → Trail → Type 0
 LeavesNew bytes a b = HasFirmNames a.now.at → Every (λ left. LeavesOldOrNew bytes a.now.at left × (left State ≡ Some bytes)) b.now.at
 
 module _ {D : Type 0} (g : Ghosts D) where
-  -- the disk's moments went on by R, where it tells them
-  abbrev pub GoesOn : D → D → (Trail → Trail → Type 0) → Type 0
-  GoesOn before after R = Leads R (g.trail before) (g.trail after)
-
   -- the calls of a save are allowed
   pub record AllowsSave (disk : D) : Type 0 where
     pub writes : (at : ℕ) (bytes : List ℕ) → g.test disk (Writes StateTemp at bytes) ≡ true

@@ -2,9 +2,9 @@
 ghost use Rattle.std.specs.Prelude.{◌≡◌, ◌⊎◌, Some, OnOk, OnErr, length};
 ghost use Rattle.file_spec.specs.declared.FileName.TheVariants.{State, StateTemp};
 ghost use Rattle.file_spec.specs.Files.{with_file, after_rename, OnlyChanges};
-ghost use Rattle.rbu_disk.specs.Disk.{Goes, Owes};
+ghost use Rattle.rbu_disk.specs.Disk.{Goes, GoesOn, Owes};
 ghost use Rattle.state_file.specs.State.{CanSave};
-ghost use Rattle.state_file.specs.Saving.{AllowsSave, CrashesSaving, GoesOn, HasOldOrNew, LeavesNew, saved_bytes, with_state};
+ghost use Rattle.state_file.specs.Saving.{AllowsSave, CrashesSaving, HasOldOrNew, LeavesNew, saved_bytes, with_state};
 ghost use Rattle.state_file.specs.Phases.{HasTaken, HasTemporary, KeepsWriting, TakesName};
 
 use crate::state::SavedState;

@@ -25,15 +25,15 @@ leaf_no_dividers TableInterior leaf = absurd (let e : false ≡ true = leaf in c
 leaf_no_dividers IndexLeaf leaf = refl
 leaf_no_dividers IndexInterior leaf = absurd (let e : false ≡ true = leaf in cc)
 
-on_leaf : (leaf : Bool) (A B : Type 0) → leaf ≡ true → OnLeaf leaf A B → A
+pub on_leaf : (leaf : Bool) (A B : Type 0) → leaf ≡ true → OnLeaf leaf A B → A
 on_leaf true A B is on = on
 on_leaf false A B is on = absurd (let e : false ≡ true = is in cc)
 
-on_inner : (leaf : Bool) (A B : Type 0) → leaf ≡ false → OnLeaf leaf A B → B
+pub on_inner : (leaf : Bool) (A B : Type 0) → leaf ≡ false → OnLeaf leaf A B → B
 on_inner true A B is on = absurd (let e : true ≡ false = is in cc)
 on_inner false A B is on = on
 
-to_leaf : (leaf : Bool) (A B : Type 0) → leaf ≡ true → A → OnLeaf leaf A B
+pub to_leaf : (leaf : Bool) (A B : Type 0) → leaf ≡ true → A → OnLeaf leaf A B
 to_leaf true A B is a = a
 to_leaf false A B is a = absurd (let e : false ≡ true = is in cc)
 

@@ -4,6 +4,7 @@ pub mod Steps
 pub mod Sought
 pub mod Paths
 pub mod Courses
+pub mod SoughtCourses
 pub mod Rows
 pub mod Calls
 pub mod Loops

@@ -7,3 +7,4 @@ pub mod Walks
 pub mod Rising
 pub mod Courses
 pub mod Seeks
+pub mod SoughtCourses

@@ -5,6 +5,7 @@ ghost use Rattle.tree_spec.specs.Faults.{fault_in};
 ghost use Rattle.tree_walk.specs.Pages.{is_leaf as is_leaf_of};
 ghost use Rattle.tree_walk.specs.Paths.{IsKept};
 ghost use Rattle.tree_walk.specs.Places.{rowids};
+ghost use Rattle.tree_walk.specs.SoughtCourses.{ComesOn, SeeksOn, SeeksWalk, SoughtAt};
 ghost use Rattle.tree_walk.specs.Seeks.{ComesTo, IsAimed, IsIndexOf, SeeksDown, SeeksFrom, StandsFrom};
 
 use crate::entering::enter_root;
@@ -53,6 +54,7 @@ impl Cursor {
     ) -> Result<(), TreeFault<S::Fault>>
         requires { HasSizes S.PageRead store.old }
         ensures pages { Sees S.PageRead store.old store.new (λ m. SeeksDown (record { size = S.size store.old; usable = S.usable store.old }) (record { count = S.count store.old; pages = m }) rowid self.old self.new result) }
+        ensures walk { Sees S.PageRead store.old store.new (λ m. SeeksOn (record { size = S.size store.old; usable = S.usable store.old }) (record { count = S.count store.old; pages = m }) rowid self.old self.new result) }
         ensures owes { OwesBy S.PageRead fault_in store.old store.new result }
     {
         self.aim(rowid);
@@ -74,6 +76,7 @@ impl Cursor {
     ) -> Result<(), TreeFault<S::Fault>>
         requires { HasSizes S.PageRead store.old }
         ensures pages { Sees S.PageRead store.old store.new (λ m. ComesTo (record { size = S.size store.old; usable = S.usable store.old }) (record { count = S.count store.old; pages = m }) rowid self.old self.new result) }
+        ensures walk { Sees S.PageRead store.old store.new (λ m. ComesOn (record { size = S.size store.old; usable = S.usable store.old }) (record { count = S.count store.old; pages = m }) rowid self.old self.new result) }
         ensures owes { OwesBy S.PageRead fault_in store.old store.new result }
     {
         match self.seek_down(alloc, store, rowid) {
@@ -96,6 +99,7 @@ impl Cursor {
         requires sizes { HasSizes S.PageRead store.old }
         requires kept { IsKept here }
         ensures pages { Sees S.PageRead store.old store.new (λ m. SeeksFrom (record { size = S.size store.old; usable = S.usable store.old }) (record { count = S.count store.old; pages = m }) rowid here result) }
+        ensures walk { Sees S.PageRead store.old store.new (λ m. SoughtAt (record { size = S.size store.old; usable = S.usable store.old }) (record { count = S.count store.old; pages = m }) rowid here result) }
         ensures owes { OwesBy S.PageRead fault_in store.old store.new result }
     {
         let mut cursor = Cursor {
@@ -119,6 +123,7 @@ impl Cursor {
         requires first { 1 ≤ root }
         requires within { root ≤ S.count store.old }
         ensures pages { Sees S.PageRead store.old store.new (λ m. StandsFrom (record { size = S.size store.old; usable = S.usable store.old }) (record { count = S.count store.old; pages = m }) root rowid result) }
+        ensures walk { Sees S.PageRead store.old store.new (λ m. SeeksWalk (record { size = S.size store.old; usable = S.usable store.old }) (record { count = S.count store.old; pages = m }) root rowid result) }
         ensures owes { OwesBy S.PageRead fault_in store.old store.new result }
     {
         match enter_root(alloc, store, root) {

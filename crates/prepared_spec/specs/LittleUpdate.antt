@@ -81,3 +81,26 @@ little_new = record {
       ∷ (2, little_member 1 (row_record 19 (codes "one") 11) ∷ little_member 3 (row_record 21 (codes "drei") 20) ∷ little_member 4 (row_record 21 (codes "four") 40) ∷ [])
       ∷ (3, little_member 0 (3 ∷ 1 ∷ 9 ∷ 11 ∷ []) ∷ little_member 0 (3 ∷ 1 ∷ 1 ∷ 20 ∷ 3 ∷ []) ∷ little_member 0 (3 ∷ 1 ∷ 1 ∷ 40 ∷ 4 ∷ []) ∷ []) ∷ [];
 }
+
+-- the rows behind four insertions, of which two have 77 for c and two NULL
+abbrev pub inserted_row : ℕ → List ℕ → Value → TableRow
+inserted_row rowid b c = record { rowid = pos rowid; values = Int (pos rowid) ∷ Text b ∷ c ∷ []; payload = [] }
+
+abbrev pub clash_rows : List TableRow
+clash_rows =
+    target_rows
+    ++ inserted_row 5 (codes "p") (Int (pos 77)) ∷ inserted_row 6 (codes "q") (Int (pos 77)) ∷ inserted_row 7 (codes "r") Null ∷ inserted_row 8 (codes "s") Null ∷ []
+
+-- two batches for one target: the second changes what the first inserts, and deletes another row
+abbrev pub two_batches : List (List Prepared)
+two_batches =
+    (little_row 1 4 (Text (codes "v")) (Int (pos 40)) Insert ∷ [])
+    ∷ (little_row 2 2 Null Null Delete ∷ little_row 1 4 Null (Int (pos 41)) (Update (false ∷ false ∷ true ∷ [])) ∷ []) ∷ []
+
+abbrev pub rows_between : List TableRow
+rows_between = target_rows ++ target_row 4 (row_record 15 (codes "v") 40) (codes "v") 40 ∷ []
+
+abbrev pub rows_behind : List TableRow
+rows_behind =
+    target_row 1 (row_record 19 (codes "one") 10) (codes "one") 10 ∷ target_row 3 (row_record 23 (codes "three") 30) (codes "three") 30
+    ∷ target_row 4 (row_record 15 (codes "v") 41) (codes "v") 41 ∷ []

@@ -23,4 +23,4 @@ pub use laws::{
     no_rows_change_only_counters, prepared_rows_are_one_list, transaction_has_one_outcome,
 };
 pub use violation::{Change, Violation};
-pub use worked::{worked_faults, worked_rows, worked_update};
+pub use worked::{worked_batches, worked_clash, worked_faults, worked_rows, worked_update};

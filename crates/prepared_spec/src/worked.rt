@@ -2,14 +2,15 @@
 ghost use Rattle.std.specs.Prelude.{◌≡◌, pos, [], ◌∷◌, true, false, map, filter_map, codes};
 ghost use Rattle.rbu_value.specs.declared.value.Value.TheVariants.{Null, Int, Text};
 ghost use Rattle.rbu_rows.specs.declared.control.Control.TheVariants.{Insert, Delete, Update};
-ghost use Rattle.database_spec.specs.LittleTarget.{target_catalog, target_database, target_table, target_rows};
+ghost use Rattle.database_spec.specs.LittleTarget.{target_catalog, target_database, target_table, target_rows, target_index};
 ghost use Rattle.prepared_spec.specs.declared.violation.Violation.{Violation};
-ghost use Rattle.prepared_spec.specs.Tables.{greatest_of, new_rows, row_after};
-ghost use Rattle.prepared_spec.specs.StepFaults.{row_fault};
+ghost use Rattle.prepared_spec.specs.declared.violation.Change.{Change};
+ghost use Rattle.prepared_spec.specs.Tables.{greatest_of, new_rows, row_after, IsAfter};
+ghost use Rattle.prepared_spec.specs.StepFaults.{row_fault, IsChangeFault};
 ghost use Rattle.prepared_spec.specs.DataTables.{target_in};
 ghost use Rattle.prepared_spec.specs.PreparedRows.{in_target_order};
 ghost use Rattle.prepared_spec.specs.Outcomes.{IsOutcome, Makes};
-ghost use Rattle.prepared_spec.specs.LittleUpdate.{little_batch, little_new, little_row};
+ghost use Rattle.prepared_spec.specs.LittleUpdate.{little_batch, little_new, little_row, little_entry, clash_rows, two_batches, rows_between, rows_behind};
 ghost use Rattle.prepared_spec.specs.LittleRows.{text_key_table, no_key_table, not_null_table, crossed_table, text_row, text_prepared, rowid_prepared, last_rowid};
 
 /// Of the rows (1, 'one', 10), (2, 'two', 20) and (3, 'three', 30) one transaction changes the first's c to 11, deletes the second, replaces the third by (3, 'drei', 20) and inserts (4, 'four', 40). The index loses and gains three entries.
@@ -34,4 +35,18 @@ pub fn worked_faults()
     ensures spent { row_fault (codes "p") text_key_table last_rowid 0 (text_row last_rowid (codes "b") 1 ∷ []) (text_prepared 1 (codes "c") 3 Insert) ≡ Some (Violation.RowidsSpent (codes "p")) }
     ensures null { row_fault (codes "q") not_null_table (pos 0) 0 [] (rowid_prepared 7 1 Null Insert) ≡ Some (Violation.NotNull (codes "q") (pos 7) (codes "v")) }
     ensures missing { row_fault (codes "q") not_null_table (pos 0) 0 [] (rowid_prepared 7 1 Null (Update (true ∷ []))) ≡ None }
+{}
+
+/// Of four rows that are inserted two have one value in a unique column: the fault is at the second of their entries. Two that have NULL there are none.
+pub fn worked_clash()
+    ensures second { IsChangeFault target_index target_rows clash_rows (Change.Add (little_entry 77 6)) (Some (Violation.NotUnique (codes "sqlite_autoindex_t1_1") (little_entry 77 6))) }
+    ensures first { IsChangeFault target_index target_rows clash_rows (Change.Add (little_entry 77 5)) None }
+    ensures null { IsChangeFault target_index target_rows clash_rows (Change.Add (Null ∷ Int (pos 8) ∷ [])) None }
+{}
+
+/// Two batches of one target go one after the other: the second changes the row that the first inserts, and would not insert it again.
+#[tactic(auto, unfolding(rbu_value::specs::Order::value_cmp))]
+pub fn worked_batches()
+    ensures rows { IsAfter 4 target_table target_rows two_batches rows_behind }
+    ensures present { row_fault (codes "t1") target_table (greatest_of target_rows) 1 rows_between (little_row 1 4 (Text (codes "w")) (Int (pos 50)) Insert) ≡ Some (Violation.KeyPresent (codes "t1") (pos 1)) }
 {}

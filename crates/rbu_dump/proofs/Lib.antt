@@ -1,0 +1,4 @@
+mod Lines
+mod Records
+mod Stores
+mod Walking

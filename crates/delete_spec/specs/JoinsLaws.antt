@@ -22,18 +22,18 @@ use Rattle.tree_spec.specs.Changes.{Within, Turns, Writes}
 use Rattle.tree_spec.specs.ChangesLaws.{Turns-keeps}
 use Rattle.put_spec.specs.Children.{child_at, children_with, last_with}
 use Rattle.put_spec.specs.ChildrenLaws.{beside-first, child-stands}
-use Rattle.put_spec.specs.Puts.{After, hand_after, IsInteriorCut}
+use Rattle.put_spec.specs.Puts.{After, hand_after, IsInteriorCut, moved}
 use Rattle.put_spec.specs.PutsLaws.{pages-parts}
 use Rattle.put_spec.specs.Steps.{Spelled, spelled, bytes_in, HasCells, child_page}
 use Rattle.put_spec.specs.StepsLaws.{page-tells}
 use Rattle.delete_spec.specs.Deletes.{hand_of, alone, pair, became, parent_with, IsOpened, IsLoose, IsDeleted}
 use Rattle.delete_spec.specs.NeighboursLaws.{alone-among, pair-among, group-count}
 use Rattle.delete_spec.specs.DeletesLaws.{cells-same, last-same, left-loose, right-loose, pair-joined, group-above, delete-settled, divider-chain}
-use Rattle.delete_spec.specs.Steps.{IsReady, Gives, EmptiedDone, EmptiesBelow, DeleteBelow}
-use Rattle.delete_spec.specs.StepsLaws.{around-map, spelled-children, bytes-spelled, child-page, child-number, child-ready, not-free, HasOpened, interior-written}
+use Rattle.delete_spec.specs.Steps.{IsReady, Gives, EmptiedDone, EmptiesBelow, DeleteBelow, RootDone, DeleteAt}
+use Rattle.delete_spec.specs.StepsLaws.{around-map, spelled-children, bytes-spelled, child-page, child-number, child-ready, not-free, HasOpened, interior-written, sunk}
 
 -- the divider of a table has no payload
-divider-payload : (sizes : Sizes) (base : Paged) (divider : TreeCell) → IsHeld sizes base (interior_kind Table) divider → divider.payload ≡ []
+pub divider-payload : (sizes : Sizes) (base : Paged) (divider : TreeCell) → IsHeld sizes base (interior_kind Table) divider → divider.payload ≡ []
 divider-payload sizes base divider held =
     held.whole
     ∙ ap (λ (n : ℕ). part_of divider.bytes divider.view.local_at n ++ chain_bytes base.pages sizes.usable divider.chain (divider.view.payload - divider.view.local)) held.is_cell.local
@@ -57,8 +57,15 @@ module _ (sizes : Sizes) (gone : Member) (levels : ℕ) where
     page : page_of (suc levels) home ≡ page_of (suc levels) right
     some : 0 < length (own_cells (suc levels) home)
 
+  -- and this is spelled so
+  record HasWhole (old : Paged) (left : TreeOf (suc levels)) (divider : TreeCell) (right : TreeOf (suc levels)) (trunks : List Trunk) (given : Paged) (first bytes : ℕ) (cells : List Spelled) (last : ℕ) : Type 0 where
+    home : TreeOf (suc levels)
+    joined : HasJoined old left divider right trunks home given first bytes
+    cells_are : cells ≡ map spelled (cells_behind home.children)
+    last_is : last ≡ page_of levels home.last
+
   -- a written interior page is that of its tree
-  own-page : (base : Paged) (tree : TreeOf (suc levels)) (page : ℕ) (cells : List Spelled) (right : ℕ) → tree.page ≡ page → cells ≡ map spelled (cells_behind tree.children) → right ≡ page_of levels tree.last
+  pub own-page : (base : Paged) (tree : TreeOf (suc levels)) (page : ℕ) (cells : List Spelled) (right : ℕ) → tree.page ≡ page → cells ≡ map spelled (cells_behind tree.children) → right ≡ page_of levels tree.last
       → IsPage (base.pages page) page sizes.usable TableInterior (bytes_in cells) right → HasOwnPage sizes base Table (suc levels) tree
   own-page base tree page cells right is same right_is written =
       subst⁻¹ (λ (p : ℕ). IsPage (base.pages p) p sizes.usable TableInterior (map (λ (c : TreeCell). c.bytes) (cells_behind tree.children)) (page_of levels tree.last)) is
@@ -77,7 +84,7 @@ module _ (sizes : Sizes) (gone : Member) (levels : ℕ) where
     -- The right one has no cell any more: the cells of the left one and the divider go in front of its only child.
     right-joined : (only : ℕ) (cells : List Spelled) (last : ℕ) → EmptiesBelow sizes gone (suc levels) right.page only old mid first bytes → HasCells sizes mid TableInterior left.page cells last → middle.view.child ≡ last
         → Gives sizes left.page mid given → Writes right.page given written → IsPage (written.pages right.page) right.page sizes.usable TableInterior (bytes_in (cells ++ middle ∷ [])) only
-        → (whole : TreeOf (suc levels)) × HasJoined old left divider right trunks whole written first bytes × (map spelled (cells_behind whole.children) ≡ cells ++ middle ∷ [])
+        → HasWhole old left divider right trunks written first bytes (cells ++ middle ∷ []) only
     right-joined only cells last empties has names gives writes is_page =
         let e = empties right trunks refl free (record { within = λ n. omega (arith, within n, pair-parts n); stands = behind.1 }) in
         let after : After (suc levels) = record { base = mid; siblings = []; home = e.home; trunks = e.rest; first = first; bytes = bytes; chain = e.chain } in
@@ -111,23 +118,25 @@ module _ (sizes : Sizes) (gone : Member) (levels : ℕ) where
         let opened = pair-joined sizes levels gone (pair (suc levels) old left divider right trunks) after left divider e.home whole given g.0 loose cut there g.1 in
         let same : cells ++ middle ∷ [] ≡ map spelled (cells_behind whole.children) =
         ap (λ (l : List Spelled). l ++ middle ∷ []) told.0 ∙ sym (behind-one left.children left.last came_down) in
-        let own = own-page written whole right.page (cells ++ middle ∷ []) only e.page same (sym e.right_is) is_page in (
-          whole,
-          record {
+        let own = own-page written whole right.page (cells ++ middle ∷ []) only e.page same (sym e.right_is) is_page in
+        record {
+          home = whole;
+          joined = record {
             rest = g.0;
             chain = e.chain;
             done = delete-settled sizes (suc levels) gone (pair (suc levels) old left divider right trunks) (became (suc levels) (suc levels) after [] whole given g.0) written opened
                 (subst⁻¹ (λ (p : ℕ). Writes p given written) e.page writes) own;
             page = e.page;
             some = omega (arith, ap length same, length-append cells (middle ∷ []), length-map (cells_behind whole.children) spelled);
-          },
-          sym same,
-        )
+          };
+          cells_are = same;
+          last_is = sym e.right_is;
+        }
 
     -- The left one has none: its only child and the divider go in front of the cells of the right one.
     left-joined : (only : ℕ) (cells : List Spelled) (last : ℕ) → EmptiesBelow sizes gone (suc levels) left.page only old mid first bytes → HasCells sizes mid TableInterior right.page cells last → middle.view.child ≡ only
         → Gives sizes left.page mid given → Writes right.page given written → IsPage (written.pages right.page) right.page sizes.usable TableInterior (bytes_in (middle ∷ cells)) last
-        → (whole : TreeOf (suc levels)) × HasJoined old left divider right trunks whole written first bytes × (map spelled (cells_behind whole.children) ≡ middle ∷ cells)
+        → HasWhole old left divider right trunks written first bytes (middle ∷ cells) last
     left-joined only cells last empties has names gives writes is_page =
         let e = empties left trunks refl free (record { within = λ n. omega (arith, within n, pair-parts n); stands = before.1 }) in
         let after : After (suc levels) = record { base = mid; siblings = []; home = e.home; trunks = e.rest; first = first; bytes = bytes; chain = e.chain } in
@@ -162,17 +171,20 @@ module _ (sizes : Sizes) (gone : Member) (levels : ℕ) where
         let opened = pair-joined sizes levels gone (pair (suc levels) old left divider right trunks) after e.home divider right whole given g.0 loose cut there
         (subst⁻¹ (λ (p : ℕ). Turns sizes mid (p ∷ []) e.rest given [] g.0) e.page g.1) in
         let same : middle ∷ cells ≡ map spelled (cells_behind whole.children) = ap (λ (l : List Spelled). middle ∷ l) told.0 in
-        let own = own-page written whole right.page (middle ∷ cells) last refl same told.1 is_page in (
-          whole,
-          record {
+        let own = own-page written whole right.page (middle ∷ cells) last refl same told.1 is_page in
+        record {
+          home = whole;
+          joined = record {
             rest = g.0;
             chain = e.chain;
             done = delete-settled sizes (suc levels) gone (pair (suc levels) old left divider right trunks) (became (suc levels) (suc levels) after [] whole given g.0) written opened writes own;
             page = refl;
             some = omega arith;
-          },
-          sym same,
-        )
+          };
+          cells_are = same;
+          last_is = told.1;
+          was = was;
+        }
 
   -- The parent of two neighbours of which one is gone: the cell that names the left one goes. Its page is still to be written.
   pair-above : (old : Paged) (tree : TreeOf (suc (suc levels))) (trunks : List Trunk) (front : List (TreeOf (suc levels) × TreeCell)) (left : TreeOf (suc levels)) (divider : TreeCell) (back : List (TreeOf (suc levels) × TreeCell))
@@ -190,7 +202,7 @@ module _ (sizes : Sizes) (gone : Member) (levels : ℕ) where
       let among = pair-among (suc levels) front left divider back tree.last in
       let was : parent_with (suc levels) tree.page i others tree.last ((left, divider) ∷ []) right ≡ tree = λ j. record { page = tree.page; children = (among.0 ∙ sym whole) j; last = among.1 j } in
       let number = subst⁻¹ (IsNumber sizes written) g.page
-      (IsInRange-wider sizes.size old.count written.count right.page g.done.opened.turns.grows (child-number sizes gone old (suc levels) i others tree.last beside ready.stands.1.1)) in
+      (IsInRange-wider sizes.size old.count written.count right.page g.done.opened.turns.grows (child-number sizes old (suc levels) i others tree.last beside ready.stands.1.1)) in
       let after : After (suc levels) = record { base = written; siblings = []; home = home; trunks = g.rest; first = first; bytes = bytes; chain = g.chain } in
       let opened = group-above sizes (suc levels) gone tree.page i others tree.last (pair (suc levels) old left divider right trunks) after
       (subst⁻¹ (λ (t : TreeOf (suc (suc levels))). Within sizes old (pages_of (suc (suc levels)) t) trunks) was ready.within) (subst⁻¹ (Stands sizes old Table (suc (suc levels))) was ready.stands)
@@ -244,6 +256,7 @@ module _ (sizes : Sizes) (gone : Member) (levels : ℕ) where
       right_stands : StandsLast sizes old Table (suc levels) (child_at (length before) (before ++ behind) tree.last)
       within : Within sizes old (hand_of (pair (suc levels) old left divider (child_at (length before) (before ++ behind) tree.last) trunks)) trunks
       last_is : right ≡ page_of (suc levels) tree.last
+      was : parent_with (suc levels) tree.page (length before) (before ++ behind) tree.last ((left, divider) ∷ []) (child_at (length before) (before ++ behind) tree.last) ≡ tree
 
     pair-there : (tree : TreeOf (suc (suc levels))) (trunks : List Trunk) → tree.page ≡ page → IsReady sizes (suc (suc levels)) old tree trunks → HasPair tree trunks
     pair-there tree trunks is ready =
@@ -275,8 +288,8 @@ module _ (sizes : Sizes) (gone : Member) (levels : ℕ) where
           same = a.here;
           named = sym rest.0.0.names ∙ ap (λ (c : Spelled). c.view.child) a.here;
           stands = rest.0;
-          right_named = child-page sizes gone old (suc levels) i others tree.last beside ∙ sym named_next;
-          right_stands = (child-number sizes gone old (suc levels) i others tree.last beside ready.stands.1.1, child-stands sizes Table old (suc levels) i others tree.last beside ready.stands.1.1.1);
+          right_named = child-page sizes old (suc levels) i others tree.last beside ∙ sym named_next;
+          right_stands = (child-number sizes old (suc levels) i others tree.last beside ready.stands.1.1, child-stands sizes Table old (suc levels) i others tree.last beside ready.stands.1.1.1);
           within = λ n. omega (arith, ready.within n, count n, (group-count n (suc levels) i others tree.last (a.item ∷ []) right_tree [] right_tree).0);
           last_is = told.1;
         }
@@ -297,54 +310,103 @@ module _ (sizes : Sizes) (gone : Member) (levels : ℕ) where
           right_is = p.last_is ∙ sym (last-same (suc levels) i others tree.last was home g.page ∙ ap (page_of (suc levels)) among.1);
         }
 
+    -- what the two became
+    record HasUnder (tree : TreeOf (suc (suc levels))) (trunks : List Trunk) (spelled_so : List Spelled) (its_last : ℕ) : Type 0 where
+      at : HasPair tree trunks
+      whole : HasWhole old at.left at.divider (child_at (length at.before) (at.before ++ at.behind) tree.last) trunks written first bytes spelled_so its_last
+
     -- Two interior pages are joined where the right one has no cell any more.
-    right-parent : (tree : TreeOf (suc (suc levels))) (trunks : List Trunk) → tree.page ≡ page → IsFree sizes old trunks → IsReady sizes (suc (suc levels)) old tree trunks
+    right-under : (tree : TreeOf (suc (suc levels))) (trunks : List Trunk) → tree.page ≡ page → IsFree sizes old trunks → IsReady sizes (suc (suc levels)) old tree trunks
         → EmptiesBelow sizes gone (suc levels) next only old mid first bytes → HasCells sizes mid TableInterior cell.view.child beside last → middle.view.child ≡ last → Gives sizes cell.view.child mid given → Writes next given written
-        → IsPage (written.pages next) next sizes.usable TableInterior (bytes_in (beside ++ middle ∷ [])) only → HasParent old tree trunks front back written first bytes right
-    right-parent tree trunks is free ready empties has_beside names gives writes is_page =
+        → IsPage (written.pages next) next sizes.usable TableInterior (bytes_in (beside ++ middle ∷ [])) only → HasUnder tree trunks (beside ++ middle ∷ []) only
+    right-under tree trunks is free ready empties has_beside names gives writes is_page =
         let p = pair-there tree trunks is ready in
         let there = child_at (length p.before) (p.before ++ p.behind) tree.last in
-        let j = right-joined old p.left p.divider there trunks mid given written first bytes middle p.within p.stands p.right_stands free is_cell (rowid ∙ sym (ap (λ (c : Spelled). c.view.rowid) p.same)) only beside last
-        (subst⁻¹ (λ (n : ℕ). EmptiesBelow sizes gone (suc levels) n only old mid first bytes) p.right_named empties) (subst⁻¹ (λ (n : ℕ). HasCells sizes mid TableInterior n beside last) p.named has_beside) names
-        (subst⁻¹ (λ (n : ℕ). Gives sizes n mid given) p.named gives) (subst⁻¹ (λ (n : ℕ). Writes n given written) p.right_named writes)
-        (subst⁻¹ (λ (n : ℕ). IsPage (written.pages n) n sizes.usable TableInterior (bytes_in (beside ++ middle ∷ [])) only) p.right_named is_page) in
-        pair-parent tree trunks p j.0 ready j.1
+        record {
+          at = p;
+          whole = right-joined old p.left p.divider there trunks mid given written first bytes middle p.within p.stands p.right_stands free is_cell (rowid ∙ sym (ap (λ (c : Spelled). c.view.rowid) p.same)) only beside last
+              (subst⁻¹ (λ (n : ℕ). EmptiesBelow sizes gone (suc levels) n only old mid first bytes) p.right_named empties) (subst⁻¹ (λ (n : ℕ). HasCells sizes mid TableInterior n beside last) p.named has_beside) names
+              (subst⁻¹ (λ (n : ℕ). Gives sizes n mid given) p.named gives) (subst⁻¹ (λ (n : ℕ). Writes n given written) p.right_named writes)
+              (subst⁻¹ (λ (n : ℕ). IsPage (written.pages n) n sizes.usable TableInterior (bytes_in (beside ++ middle ∷ [])) only) p.right_named is_page);
+        }
 
     -- Two interior pages are joined where the left one has no cell any more.
-    left-parent : (tree : TreeOf (suc (suc levels))) (trunks : List Trunk) → tree.page ≡ page → IsFree sizes old trunks → IsReady sizes (suc (suc levels)) old tree trunks
+    left-under : (tree : TreeOf (suc (suc levels))) (trunks : List Trunk) → tree.page ≡ page → IsFree sizes old trunks → IsReady sizes (suc (suc levels)) old tree trunks
         → EmptiesBelow sizes gone (suc levels) cell.view.child only old mid first bytes → HasCells sizes mid TableInterior next beside last → middle.view.child ≡ only → Gives sizes cell.view.child mid given → Writes next given written
-        → IsPage (written.pages next) next sizes.usable TableInterior (bytes_in (middle ∷ beside)) last → HasParent old tree trunks front back written first bytes right
-    left-parent tree trunks is free ready empties has_beside names gives writes is_page =
+        → IsPage (written.pages next) next sizes.usable TableInterior (bytes_in (middle ∷ beside)) last → HasUnder tree trunks (middle ∷ beside) last
+    left-under tree trunks is free ready empties has_beside names gives writes is_page =
         let p = pair-there tree trunks is ready in
         let there = child_at (length p.before) (p.before ++ p.behind) tree.last in
-        let j = left-joined old p.left p.divider there trunks mid given written first bytes middle p.within p.stands p.right_stands free is_cell (rowid ∙ sym (ap (λ (c : Spelled). c.view.rowid) p.same)) only beside last
-        (subst⁻¹ (λ (n : ℕ). EmptiesBelow sizes gone (suc levels) n only old mid first bytes) p.named empties) (subst⁻¹ (λ (n : ℕ). HasCells sizes mid TableInterior n beside last) p.right_named has_beside) names
-        (subst⁻¹ (λ (n : ℕ). Gives sizes n mid given) p.named gives) (subst⁻¹ (λ (n : ℕ). Writes n given written) p.right_named writes)
-        (subst⁻¹ (λ (n : ℕ). IsPage (written.pages n) n sizes.usable TableInterior (bytes_in (middle ∷ beside)) last) p.right_named is_page) in
-        pair-parent tree trunks p j.0 ready j.1
+        record {
+          at = p;
+          whole = left-joined old p.left p.divider there trunks mid given written first bytes middle p.within p.stands p.right_stands free is_cell (rowid ∙ sym (ap (λ (c : Spelled). c.view.rowid) p.same)) only beside last
+              (subst⁻¹ (λ (n : ℕ). EmptiesBelow sizes gone (suc levels) n only old mid first bytes) p.named empties) (subst⁻¹ (λ (n : ℕ). HasCells sizes mid TableInterior n beside last) p.right_named has_beside) names
+              (subst⁻¹ (λ (n : ℕ). Gives sizes n mid given) p.named gives) (subst⁻¹ (λ (n : ℕ). Writes n given written) p.right_named writes)
+              (subst⁻¹ (λ (n : ℕ). IsPage (written.pages n) n sizes.usable TableInterior (bytes_in (middle ∷ beside)) last) p.right_named is_page);
+        }
+
+    parent-of : (tree : TreeOf (suc (suc levels))) (trunks : List Trunk) (so : List Spelled) (its_last : ℕ) → IsReady sizes (suc (suc levels)) old tree trunks → HasUnder tree trunks so its_last
+        → HasParent old tree trunks front back written first bytes right
+    parent-of tree trunks so its_last ready u = pair-parent tree trunks u.at u.whole.home ready u.whole.joined
+
+    -- A root whose two children were joined takes what they became, and their page is given back.
+    root-of-joined : (tree : TreeOf (suc (suc levels))) (trunks : List Trunk) (so : List Spelled) (its_last : ℕ) (taken new : Paged) → front ++ back ≡ [] → tree.page ≡ page → IsFree sizes old trunks
+        → IsReady sizes (suc (suc levels)) old tree trunks → HasUnder tree trunks so its_last → Writes page written taken → IsPage (taken.pages page) page sizes.usable TableInterior (bytes_in so) its_last → Gives sizes next taken new
+        → RootDone sizes gone (suc (suc levels)) old tree trunks new first bytes
+    root-of-joined tree trunks so its_last taken new none is free ready u writes is_page gives =
+        let p = u.at in
+        let w = u.whole in
+        let others = p.before ++ p.behind in
+        let there = child_at (length p.before) others tree.last in
+        let empty : others ≡ [] = nil_from_length others
+        (omega (arith, ap length p.others, ap length none, length-map (cells_behind others) spelled, length-map others (λ (child : TreeOf (suc levels) × TreeCell). child.1))) in
+        let was : record { page = tree.page; children = (p.left, p.divider) ∷ []; last = there } ≡ tree =
+        subst (λ (o : List (TreeOf (suc levels) × TreeCell)). parent_with (suc levels) tree.page (length p.before) o tree.last ((p.left, p.divider) ∷ []) there ≡ tree) empty p.was in
+        let root : record { page = page; children = (p.left, p.divider) ∷ []; last = there } ≡ tree =
+        subst (λ (n : ℕ). record { page = n; children = (p.left, p.divider) ∷ []; last = there } ≡ tree) is was in
+        let count = λ (n : ℕ). ap (λ (t : TreeOf (suc (suc levels))). times n (pages_of (suc (suc levels)) t)) root in
+        let after : After (suc levels) = record { base = written; siblings = []; home = w.home; trunks = w.joined.rest; first = first; bytes = bytes; chain = w.joined.chain } in
+        subst (λ (t : TreeOf (suc (suc levels))). RootDone sizes gone (suc (suc levels)) old t trunks new first bytes) root
+        (
+        sunk sizes gone (suc levels) page (pair (suc levels) old p.left p.divider there trunks) after taken new (λ n. omega (arith, ready.within n, count n)) free w.joined.done.opened refl writes
+        (own-page taken (moved (suc levels) page w.home) page so its_last refl w.cells_are w.last_is is_page) (subst⁻¹ (λ (n : ℕ). Gives sizes n taken new) (w.joined.page ∙ p.right_named) gives) (λ deep other. w.joined.some)
+        )
 
     -- The parent keeps a cell, and is written without the one between the two.
     pub right-joins : EmptiesBelow sizes gone (suc levels) next only old mid first bytes → HasCells sizes mid TableInterior cell.view.child beside last → middle.view.child ≡ last → Gives sizes cell.view.child mid given
         → Writes next given written → IsPage (written.pages next) next sizes.usable TableInterior (bytes_in (beside ++ middle ∷ [])) only → (new : Paged) → Writes page written new
         → IsPage (new.pages page) page sizes.usable TableInterior (bytes_in (front ++ back)) right → DeleteBelow sizes gone (suc (suc levels)) page old new (length (front ++ back)) first bytes
     right-joins empties has_beside names gives writes is_page new writes_own written_own tree trunks is free ready =
-        let h = right-parent tree trunks is free ready empties has_beside names gives writes is_page in
+        let h = parent-of tree trunks (beside ++ middle ∷ []) only ready (right-under tree trunks is free ready empties has_beside names gives writes is_page) in
         interior-written sizes gone (suc levels) old tree trunks h.home written first bytes h.opened page new (front ++ back) right is h.cells h.right_is writes_own written_own h.page
 
     pub left-joins : EmptiesBelow sizes gone (suc levels) cell.view.child only old mid first bytes → HasCells sizes mid TableInterior next beside last → middle.view.child ≡ only → Gives sizes cell.view.child mid given
         → Writes next given written → IsPage (written.pages next) next sizes.usable TableInterior (bytes_in (middle ∷ beside)) last → (new : Paged) → Writes page written new
         → IsPage (new.pages page) page sizes.usable TableInterior (bytes_in (front ++ back)) right → DeleteBelow sizes gone (suc (suc levels)) page old new (length (front ++ back)) first bytes
     left-joins empties has_beside names gives writes is_page new writes_own written_own tree trunks is free ready =
-        let h = left-parent tree trunks is free ready empties has_beside names gives writes is_page in
+        let h = parent-of tree trunks (middle ∷ beside) last ready (left-under tree trunks is free ready empties has_beside names gives writes is_page) in
         interior-written sizes gone (suc levels) old tree trunks h.home written first bytes h.opened page new (front ++ back) right is h.cells h.right_is writes_own written_own h.page
 
     -- The parent has no other cell, and is not written.
     pub right-joins-only : front ++ back ≡ [] → EmptiesBelow sizes gone (suc levels) next only old mid first bytes → HasCells sizes mid TableInterior cell.view.child beside last → middle.view.child ≡ last → Gives sizes cell.view.child mid given
         → Writes next given written → IsPage (written.pages next) next sizes.usable TableInterior (bytes_in (beside ++ middle ∷ [])) only → EmptiesBelow sizes gone (suc (suc levels)) page right old written first bytes
     right-joins-only none empties has_beside names gives writes is_page tree trunks is free ready =
-        emptied-parent old tree trunks front back written first bytes right none (right-parent tree trunks is free ready empties has_beside names gives writes is_page)
+        emptied-parent old tree trunks front back written first bytes right none (parent-of tree trunks (beside ++ middle ∷ []) only ready (right-under tree trunks is free ready empties has_beside names gives writes is_page))
 
     pub left-joins-only : front ++ back ≡ [] → EmptiesBelow sizes gone (suc levels) cell.view.child only old mid first bytes → HasCells sizes mid TableInterior next beside last → middle.view.child ≡ only → Gives sizes cell.view.child mid given
         → Writes next given written → IsPage (written.pages next) next sizes.usable TableInterior (bytes_in (middle ∷ beside)) last → EmptiesBelow sizes gone (suc (suc levels)) page right old written first bytes
     left-joins-only none empties has_beside names gives writes is_page tree trunks is free ready =
-        emptied-parent old tree trunks front back written first bytes right none (left-parent tree trunks is free ready empties has_beside names gives writes is_page)
+        emptied-parent old tree trunks front back written first bytes right none (parent-of tree trunks (middle ∷ beside) last ready (left-under tree trunks is free ready empties has_beside names gives writes is_page))
+
+    -- A root with two children, which are joined.
+    pub right-joins-root : front ++ back ≡ [] → EmptiesBelow sizes gone (suc levels) next only old mid first bytes → HasCells sizes mid TableInterior cell.view.child beside last → middle.view.child ≡ last → Gives sizes cell.view.child mid given → Writes next given written
+        → IsPage (written.pages next) next sizes.usable TableInterior (bytes_in (beside ++ middle ∷ [])) only → (taken new : Paged) → Writes page written taken
+        → IsPage (taken.pages page) page sizes.usable TableInterior (bytes_in (beside ++ middle ∷ [])) only → Gives sizes next taken new → DeleteAt sizes gone (suc (suc levels)) page old new first bytes
+    right-joins-root none empties has_beside names gives writes is_page taken new writes_own written_own gives_last tree trunks is free ready =
+        root-of-joined tree trunks (beside ++ middle ∷ []) only taken new none is free ready (right-under tree trunks is free ready empties has_beside names gives writes is_page) writes_own written_own gives_last
+
+    pub left-joins-root : front ++ back ≡ [] → EmptiesBelow sizes gone (suc levels) cell.view.child only old mid first bytes → HasCells sizes mid TableInterior next beside last → middle.view.child ≡ only → Gives sizes cell.view.child mid given → Writes next given written
+        → IsPage (written.pages next) next sizes.usable TableInterior (bytes_in (middle ∷ beside)) last → (taken new : Paged) → Writes page written taken
+        → IsPage (taken.pages page) page sizes.usable TableInterior (bytes_in (middle ∷ beside)) last → Gives sizes next taken new → DeleteAt sizes gone (suc (suc levels)) page old new first bytes
+    left-joins-root none empties has_beside names gives writes is_page taken new writes_own written_own gives_last tree trunks is free ready =
+        root-of-joined tree trunks (middle ∷ beside) last taken new none is free ready (left-under tree trunks is free ready empties has_beside names gives writes is_page) writes_own written_own gives_last

@@ -22,11 +22,10 @@ use Rattle.delete_spec.specs.Deletes.{Before, alone, became, parent_with, IsOpen
 use Rattle.delete_spec.specs.NeighboursLaws.{alone-among}
 use Rattle.delete_spec.specs.DeletesLaws.{divider-chain, last-same, delete-cut, delete-settled, group-above, root-rises}
 use Rattle.delete_spec.specs.Steps.{IsReady, DeleteBelow, GrownDone, GrowsBelow, DeleteAt}
-use Rattle.delete_spec.specs.StepsLaws.{around-map, bytes-spelled, spelled-children, child-page, child-number, child-ready}
-use Rattle.delete_spec.specs.JoinsLaws.{divider-payload, own-page}
+use Rattle.delete_spec.specs.StepsLaws.{divider-payload, own-page, around-map, bytes-spelled, spelled-children, child-page, child-number, child-ready}
 
 -- the cells between siblings, with one more sibling
-siblings-cells : {Child : Type 0} (siblings : List (Child × TreeCell)) (left : Child) (cell : TreeCell) (dividers : List Spelled)
+pub siblings-cells : {Child : Type 0} (siblings : List (Child × TreeCell)) (left : Child) (cell : TreeCell) (dividers : List Spelled)
     → map spelled (cells_behind (siblings ++ (left, cell) ∷ [])) ++ dividers ≡ map spelled (cells_behind siblings) ++ spelled cell ∷ dividers
 siblings-cells [] left cell dividers = refl
 siblings-cells (x ∷ xs) left cell dividers = ap (λ (l : List Spelled). spelled x.1 ∷ l) (siblings-cells xs left cell dividers)
@@ -36,7 +35,7 @@ behind-append [] ys = refl
 behind-append (x ∷ xs) ys = ap (λ (l : List Spelled). spelled x.1 ∷ l) (behind-append xs ys)
 
 -- the cells of a page whose child at a place has become several
-dividers-in : {Child : Type 0} (i : ℕ) (children siblings : List (Child × TreeCell)) (home : Child) → i ≤ length children
+pub dividers-in : {Child : Type 0} (i : ℕ) (children siblings : List (Child × TreeCell)) (home : Child) → i ≤ length children
     → with_dividers (map spelled (cells_behind children)) i (map spelled (cells_behind siblings)) ≡ map spelled (cells_behind (children_with i children siblings home))
 dividers-in zero [] siblings home within = append-nil (map spelled (cells_behind siblings))
 dividers-in (suc i) [] siblings home within = absurd (omega arith)
@@ -45,24 +44,24 @@ dividers-in (suc i) (child ∷ children) siblings home within = ap (λ (l : List
 
 module _ (sizes : Sizes) (gone : Member) (levels : ℕ) where
   -- what settling a page gives
-  record HasSettled (before : Before (suc levels)) (after : After (suc levels)) (new : Paged) (dividers : List Spelled) : Type 0 where
-    siblings : List (TreeOf (suc levels) × TreeCell)
-    home : TreeOf (suc levels)
-    trunks : List Trunk
-    done : IsDeleted sizes (suc levels) gone before (became (suc levels) (suc levels) after siblings home new trunks)
-    page : home.page ≡ after.home.page
-    dividers_are : map spelled (cells_behind siblings) ≡ map spelled (cells_behind after.siblings) ++ dividers
-    some : 0 < length (cells_behind home.children)
+  pub record HasSettled (before : Before (suc levels)) (after : After (suc levels)) (new : Paged) (dividers : List Spelled) : Type 0 where
+    pub siblings : List (TreeOf (suc levels) × TreeCell)
+    pub home : TreeOf (suc levels)
+    pub trunks : List Trunk
+    pub done : IsDeleted sizes (suc levels) gone before (became (suc levels) (suc levels) after siblings home new trunks)
+    pub page : home.page ≡ after.home.page
+    pub dividers_are : map spelled (cells_behind siblings) ≡ map spelled (cells_behind after.siblings) ++ dividers
+    pub some : 0 < length (cells_behind home.children)
 
   -- A page that is still to be written is cut at each divider, and then written.
-  cut-settled : (dividers : List Spelled) (before : Before (suc levels)) (after : After (suc levels)) (cells : List Spelled) (right : ℕ) (new : Paged) → IsFree sizes after.base after.trunks → IsOpened sizes (suc levels) gone before after
+  pub cut-settled : (dividers : List Spelled) (before : Before (suc levels)) (after : After (suc levels)) (cells : List Spelled) (right : ℕ) (new : Paged) → IsFree sizes after.base after.trunks → IsOpened sizes (suc levels) gone before after
       → cells ≡ map spelled (cells_behind after.home.children) → right ≡ page_of levels after.home.last → 0 < length cells → IsSettled sizes (suc levels) Table after.home.page right cells after.base new dividers
       → HasSettled before after new dividers
   cut-settled [] before after cells right new free o same right_is some done = record {
     siblings = after.siblings;
     home = after.home;
     trunks = after.trunks;
-    done = delete-settled sizes (suc levels) gone before after new o done.0 (own-page sizes gone levels new after.home after.home.page cells right refl same right_is done.1);
+    done = delete-settled sizes (suc levels) gone before after new o done.0 (own-page sizes levels new after.home after.home.page cells right refl same right_is done.1);
     page = refl;
     dividers_are = sym (append-nil (map spelled (cells_behind after.siblings)));
     some = omega (arith, ap length same, length-map (cells_behind after.home.children) spelled);
@@ -91,7 +90,7 @@ module _ (sizes : Sizes) (gone : Member) (levels : ℕ) where
       let fronts : f.front ≡ map spelled (cells_behind a.before) = sym a.in_front ∙ sym (spelled-children a.before) in
       let backs : back ≡ map spelled (cells_behind a.after) = sym a.behind ∙ sym (spelled-children a.after) in
       let last : f.right ≡ page_of levels a.item.0 = f.parts.right_is ∙ sym (ap (λ (c : Spelled). c.view.child) a.here) ∙ here.0.names in
-      let own = own-page sizes gone levels mid left divider.view.child f.front f.right refl fronts last f.is_page in
+      let own = own-page sizes levels mid left divider.view.child f.front f.right refl fronts last f.is_page in
       let behind : IsBehind sizes mid (interior_kind Table) cell divider.view.child = record { held = divider-held sizes mid divider.bytes divider.view f.is_cell; names = refl; in_range = f.in_range } in
       let opened = delete-cut sizes levels gone before after left cell rest mid took.0 o cut took.1 own behind
       (omega (arith, f.front_some, ap length fronts, length-map (cells_behind a.before) spelled)) (omega (arith, f.back_some, ap length backs, length-map (cells_behind a.after) spelled)) in
@@ -165,8 +164,8 @@ module _ (sizes : Sizes) (gone : Member) where
       let page : done.home.page ≡ root = done.page ∙ is in
       let told = page-tells sizes between Table (suc levels) root done.home deep.cells deep.right page deep.has (done.deleted.own, done.deleted.opened.below) in
       let took = deep.took done.rest (done.deleted.opened.turns.freelist free) in
-      let own = own-page sizes gone levels deep.between (moved (suc levels) deep.fresh done.home) deep.fresh deep.cells deep.right refl told.0 told.1 deep.is_page in
-      let top = own-page sizes gone (suc levels) new (deeper (suc levels) after deep.fresh) root dividers deep.fresh page (sym done.dividers_are) refl deep.root_page in
+      let own = own-page sizes levels deep.between (moved (suc levels) deep.fresh done.home) deep.fresh deep.cells deep.right refl told.0 told.1 deep.is_page in
+      let top = own-page sizes (suc levels) new (deeper (suc levels) after deep.fresh) root dividers deep.fresh page (sym done.dividers_are) refl deep.root_page in
       record {
         rooted = record { kind = Table; levels = suc (suc levels); tree = deeper (suc levels) after deep.fresh };
         rest = took.0;

@@ -5,6 +5,8 @@ use Rattle.std.specs.List.{AllByRecursion}
 use Rattle.std.proofs.lemmas.List.{append-nil, map-append, length-map, nil_from_length}
 use Rattle.format_spec.specs.declared.PageKind.TheVariants.{TableInterior, TableLeaf}
 use Rattle.format_spec.specs.Page.{IsPage}
+use Rattle.byte_fields.specs.Bytes.{part_of}
+use Rattle.page_spec.specs.Chains.{chain_bytes}
 use Rattle.page_spec.specs.Counts.{hit, times}
 use Rattle.page_spec.specs.CountsLaws.{times-append, hit-itself}
 use Rattle.page_spec.specs.FreePagesLaws.{due-most}
@@ -69,7 +71,22 @@ pub spelled-children : {Child : Type 0} (children : List (Child × TreeCell)) �
 spelled-children [] = refl
 spelled-children (child ∷ children) = ap (λ (l : List Spelled). spelled child.1 ∷ l) (spelled-children children)
 
+-- the divider of a table has no payload
+pub divider-payload : (sizes : Sizes) (base : Paged) (divider : TreeCell) → IsHeld sizes base (interior_kind Table) divider → divider.payload ≡ []
+divider-payload sizes base divider held =
+    held.whole
+    ∙ ap (λ (n : ℕ). part_of divider.bytes divider.view.local_at n ++ chain_bytes base.pages sizes.usable divider.chain (divider.view.payload - divider.view.local)) held.is_cell.local
+    ∙ ap (λ (n : ℕ). chain_bytes base.pages sizes.usable divider.chain n) (let none : divider.view.payload - divider.view.local ≡ 0 = omega (arith, held.is_cell.payload) in none)
+
 module _ (sizes : Sizes) where
+  -- a written interior page is that of its tree
+  pub own-page : (levels : ℕ) (base : Paged) (tree : TreeOf (suc levels)) (page : ℕ) (cells : List Spelled) (right : ℕ) → tree.page ≡ page → cells ≡ map spelled (cells_behind tree.children) → right ≡ page_of levels tree.last
+      → IsPage (base.pages page) page sizes.usable TableInterior (bytes_in cells) right → HasOwnPage sizes base Table (suc levels) tree
+  own-page levels base tree page cells right is same right_is written =
+      subst⁻¹ (λ (p : ℕ). IsPage (base.pages p) p sizes.usable TableInterior (map (λ (c : TreeCell). c.bytes) (cells_behind tree.children)) (page_of levels tree.last)) is
+      (subst (λ (b : List (List ℕ)). IsPage (base.pages page) page sizes.usable TableInterior b (page_of levels tree.last)) (ap bytes_in same ∙ bytes-spelled (cells_behind tree.children))
+      (subst (λ (r : ℕ). IsPage (base.pages page) page sizes.usable TableInterior (bytes_in cells) r) right_is written))
+
   -- A child.
 
   pub child-page : (base : Paged) (levels i : ℕ) (children : List (TreeOf levels × TreeCell)) (last : TreeOf levels) → AllByRecursion (StandsBefore sizes base Table levels) children

@@ -185,7 +185,7 @@ pub fn parent_of_a_leaf_that_goes_is_emptied()
         → EmptiesBelow sizes gone zero right 0 old mid first bytes → Gives sizes right mid given → EmptiesBelow sizes gone (suc zero) page cell.view.child old given first bytes }
 {}
 
-/// Of two interior pages beside one another one has no cell any more: the other takes its only child, and the divider between them. Their parent is written without the cell of the left one, or, where it has no other, is not written; a root takes what the two became.
+/// Of two interior pages beside one another one has no cell any more: the other takes its only child, and the divider between them. Their parent is written without the cell of the left one, or, where it has no other, is not written; a root takes what the two became. Where they do not go into one page they are cut again.
 pub fn interior_neighbours_are_joined()
     ensures right { (sizes : Sizes) (gone : Member) (levels page : ℕ) (old : Paged) (cells : List Spelled) (right : ℕ) (front : List Spelled) (cell : Spelled) (back : List Spelled) (only : ℕ) (mid given written : Paged) (first bytes : ℕ)
         (middle : Spelled) (beside : List Spelled) (last : ℕ) → HasCells sizes old TableInterior page cells right → cells ≡ front ++ cell ∷ back → IsCell TableInterior sizes.usable middle.bytes middle.view → middle.view.rowid ≡ cell.view.rowid
@@ -215,6 +215,16 @@ pub fn interior_neighbours_are_joined()
         → front ++ back ≡ [] → EmptiesBelow sizes gone (suc levels) cell.view.child only old mid first bytes → HasCells sizes mid TableInterior (child_page (length front) (front ++ back) right) beside last → middle.view.child ≡ only → Gives sizes cell.view.child mid given → Writes (child_page (length front) (front ++ back) right) given written
         → IsPage (written.pages (child_page (length front) (front ++ back) right)) (child_page (length front) (front ++ back) right) sizes.usable TableInterior (bytes_in (middle ∷ beside)) last → (taken new : Paged) → Writes page written taken
         → IsPage (taken.pages page) page sizes.usable TableInterior (bytes_in (middle ∷ beside)) last → Gives sizes (child_page (length front) (front ++ back) right) taken new → DeleteAt sizes gone (suc (suc levels)) page old new first bytes }
+    ensures right_cut { (sizes : Sizes) (gone : Member) (levels page : ℕ) (old : Paged) (cells : List Spelled) (right : ℕ) (front : List Spelled) (cell : Spelled) (back : List Spelled) (only : ℕ) (mid given written : Paged) (first bytes : ℕ)
+        (middle : Spelled) (beside : List Spelled) (last : ℕ) → HasCells sizes old TableInterior page cells right → cells ≡ front ++ cell ∷ back → IsCell TableInterior sizes.usable middle.bytes middle.view → middle.view.rowid ≡ cell.view.rowid
+        → EmptiesBelow sizes gone (suc levels) (child_page (length front) (front ++ back) right) only old mid first bytes → HasCells sizes mid TableInterior cell.view.child beside last → middle.view.child ≡ last → Gives sizes cell.view.child mid given → (grew : List Spelled) → IsSettled sizes (suc levels) Table (child_page (length front) (front ++ back) right) only (beside ++ middle ∷ []) given written grew
+        → (new : Paged) (dividers : List Spelled) → 0 < length (with_dividers (front ++ back) (length front) grew) → IsSettled sizes (suc (suc levels)) Table page right (with_dividers (front ++ back) (length front) grew) written new dividers
+        → GrowsBelow sizes gone (suc (suc levels)) page old new dividers first bytes }
+    ensures left_cut { (sizes : Sizes) (gone : Member) (levels page : ℕ) (old : Paged) (cells : List Spelled) (right : ℕ) (front : List Spelled) (cell : Spelled) (back : List Spelled) (only : ℕ) (mid given written : Paged) (first bytes : ℕ)
+        (middle : Spelled) (beside : List Spelled) (last : ℕ) → HasCells sizes old TableInterior page cells right → cells ≡ front ++ cell ∷ back → IsCell TableInterior sizes.usable middle.bytes middle.view → middle.view.rowid ≡ cell.view.rowid
+        → EmptiesBelow sizes gone (suc levels) cell.view.child only old mid first bytes → HasCells sizes mid TableInterior (child_page (length front) (front ++ back) right) beside last → middle.view.child ≡ only → Gives sizes cell.view.child mid given → (grew : List Spelled) → IsSettled sizes (suc levels) Table (child_page (length front) (front ++ back) right) last (middle ∷ beside) given written grew
+        → (new : Paged) (dividers : List Spelled) → 0 < length (with_dividers (front ++ back) (length front) grew) → IsSettled sizes (suc (suc levels)) Table page right (with_dividers (front ++ back) (length front) grew) written new dividers
+        → GrowsBelow sizes gone (suc (suc levels)) page old new dividers first bytes }
 {}
 
 /// A row that is not found where its rowid belongs is not there.

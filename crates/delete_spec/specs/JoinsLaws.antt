@@ -302,6 +302,8 @@ module _ (sizes : Sizes) (gone : Member) (levels : ℕ) where
           right_stands = (child-number sizes old (suc levels) i others tree.last beside ready.stands.1.1, child-stands sizes Table old (suc levels) i others tree.last beside ready.stands.1.1.1);
           within = λ n. omega (arith, ready.within n, count n, (group-count n (suc levels) i others tree.last (a.item ∷ []) right_tree [] right_tree).0);
           last_is = told.1;
+          long = long;
+          was = was;
         }
 
     -- the parent of such a pair, once it is one

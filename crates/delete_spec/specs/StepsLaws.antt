@@ -183,7 +183,7 @@ module _ (sizes : Sizes) (gone : Member) where
       let named : page_of levels child ≡ child_page at cells right =
       child-page sizes old levels at tree.children tree.last ready.stands.1.0
       ∙ sym (ap (λ (cs : List Spelled). child_page at cs right) told.0 ∙ ap (λ (r : ℕ). child_page at (map spelled (cells_behind tree.children)) r) told.1) in
-      let done = below child trunks named free (child-ready levels old tree trunks at ready) in
+      let done = below child trunks named free (child-ready sizes levels old tree trunks at ready) in
       let a = alone-among levels at tree.children tree.last in
       let same : parent_with levels tree.page at tree.children tree.last [] child ≡ tree = λ i. record { page = tree.page; children = a.0 i; last = a.1 i } in
       let home = parent_with levels tree.page at tree.children tree.last [] done.home in

@@ -1,28 +1,27 @@
 -- Pages that a delete cuts, since a divider became longer or two pages do not go into one: crates above cite these facts in their proofs.
-use Rattle.std.proofs.Common.{◌≡◌, ℕ, zero, suc, ◌+◌, ◌-◌, ◌<◌, ◌≤◌, List, [], ◌∷◌, ◌++◌, length, map, refl, sym, ap, ◌∙◌, subst, inl, arith}
+use Rattle.std.proofs.Common.{◌≡◌, ℕ, zero, suc, ◌<◌, ◌≤◌, List, [], ◌∷◌, ◌++◌, length, map, refl, sym, ap, ◌∙◌, subst, inl, arith}
 use Rattle.std.proofs.Math.Path.{subst⁻¹}
 use Rattle.std.specs.List.{AllByRecursion}
 use Rattle.std.proofs.lemmas.List.{append-nil, length-map}
 use Rattle.format_spec.specs.declared.PageKind.TheVariants.{TableInterior}
-use Rattle.format_spec.specs.Page.{IsPage}
 use Rattle.page_spec.specs.Freelists.{Trunk}
 use Rattle.page_spec.specs.FreelistsLaws.{IsInRange-wider}
 use Rattle.tree_spec.specs.declared.TreeKind.TheVariants.{Table}
-use Rattle.tree_spec.specs.Trees.{TreeCell, TreeOf, Member, interior_kind, page_of, own_cells, cells_behind, pages_of}
-use Rattle.tree_spec.specs.Standing.{Sizes, Paged, IsNumber, IsBehind, HasOwnPage, Stands, StandsBefore}
+use Rattle.tree_spec.specs.Trees.{TreeCell, TreeOf, Member, interior_kind, page_of, cells_behind, pages_of}
+use Rattle.tree_spec.specs.Standing.{Sizes, Paged, IsNumber, IsBehind, Stands, StandsBefore}
 use Rattle.tree_spec.specs.StandingLaws.{divider-held}
 use Rattle.tree_spec.specs.Worlds.{IsFree}
 use Rattle.tree_spec.specs.WorldsLaws.{all-back}
-use Rattle.tree_spec.specs.Changes.{Within, Turns, Writes}
-use Rattle.put_spec.specs.Children.{child_at, children_with, last_with}
+use Rattle.tree_spec.specs.Changes.{Within, Writes}
+use Rattle.put_spec.specs.Children.{child_at, children_with}
 use Rattle.put_spec.specs.Puts.{After, IsInteriorCut, cut_after, moved, deeper}
-use Rattle.put_spec.specs.Steps.{Spelled, spelled, bytes_in, HasCells, child_page, with_dividers, IsSettled, IsDeepened}
+use Rattle.put_spec.specs.Steps.{Spelled, spelled, HasCells, child_page, with_dividers, IsSettled, IsDeepened}
 use Rattle.put_spec.specs.StepsLaws.{page-tells}
 use Rattle.delete_spec.specs.Deletes.{Before, alone, became, parent_with, IsOpened, IsDeleted}
 use Rattle.delete_spec.specs.NeighboursLaws.{alone-among}
 use Rattle.delete_spec.specs.DeletesLaws.{divider-chain, last-same, delete-cut, delete-settled, group-above, root-rises}
-use Rattle.delete_spec.specs.Steps.{IsReady, DeleteBelow, GrownDone, GrowsBelow, DeleteAt}
-use Rattle.delete_spec.specs.StepsLaws.{divider-payload, own-page, around-map, bytes-spelled, spelled-children, child-page, child-number, child-ready}
+use Rattle.delete_spec.specs.Steps.{DeleteBelow, GrowsBelow, DeleteAt}
+use Rattle.delete_spec.specs.StepsLaws.{divider-payload, own-page, around-map, spelled-children, child-page, child-number, child-ready}
 
 -- the cells between siblings, with one more sibling
 pub siblings-cells : {Child : Type 0} (siblings : List (Child × TreeCell)) (left : Child) (cell : TreeCell) (dividers : List Spelled)

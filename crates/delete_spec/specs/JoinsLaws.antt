@@ -1,37 +1,35 @@
 -- Interior pages that a delete leaves without a cell: crates above cite these facts in their proofs.
-use Rattle.std.proofs.Common.{◌≡◌, ℕ, suc, ◌+◌, ◌-◌, ◌<◌, ◌≤◌, List, [], ◌∷◌, ◌++◌, length, map, refl, sym, ap, ◌∙◌, subst, inl, arith, length-append}
+use Rattle.std.proofs.Common.{◌≡◌, ℕ, suc, ◌+◌, ◌<◌, List, [], ◌∷◌, ◌++◌, length, map, refl, sym, ap, ◌∙◌, subst, inl, arith, length-append}
 use Rattle.std.proofs.Math.Path.{subst⁻¹}
 use Rattle.std.specs.List.{AllByRecursion}
-use Rattle.std.proofs.lemmas.List.{append-nil, map-append, length-map, nil_from_length}
-use Rattle.byte_fields.specs.Bytes.{part_of}
+use Rattle.std.proofs.lemmas.List.{map-append, length-map, nil_from_length}
 use Rattle.format_spec.specs.declared.PageKind.TheVariants.{TableInterior}
 use Rattle.format_spec.specs.Cell.{IsCell}
 use Rattle.format_spec.specs.Page.{IsPage}
-use Rattle.page_spec.specs.Chains.{chain_bytes}
 use Rattle.page_spec.specs.Counts.{times}
 use Rattle.page_spec.specs.CountsLaws.{times-append, hit-itself}
 use Rattle.page_spec.specs.FreelistsLaws.{IsInRange-wider}
 use Rattle.page_spec.specs.Freelists.{Trunk, free_pages}
 use Rattle.tree_spec.specs.declared.TreeKind.TheVariants.{Table}
-use Rattle.tree_spec.specs.Trees.{TreeCell, TreeOf, Member, interior_kind, page_of, own_cells, cells_behind, pages_of, pages_beside, pages_below, IsFull}
-use Rattle.tree_spec.specs.Standing.{Sizes, Paged, IsNumber, IsHeld, IsBehind, HasOwnPage, Stands, StandsBefore, StandsLast}
-use Rattle.tree_spec.specs.StandingLaws.{divider-held, HasBelow-kept, Stands-kept}
+use Rattle.tree_spec.specs.Trees.{TreeCell, TreeOf, Member, interior_kind, page_of, own_cells, cells_behind, pages_of, pages_beside}
+use Rattle.tree_spec.specs.Standing.{Sizes, Paged, IsNumber, IsBehind, Stands, StandsBefore, StandsLast}
+use Rattle.tree_spec.specs.StandingLaws.{divider-held, Stands-kept}
 use Rattle.tree_spec.specs.Worlds.{IsFree}
 use Rattle.tree_spec.specs.WorldsLaws.{all-front, all-back, all-join}
 use Rattle.tree_spec.specs.Changes.{Within, Turns, Writes}
 use Rattle.tree_spec.specs.ChangesLaws.{Turns-keeps}
-use Rattle.put_spec.specs.Children.{child_at, children_with, last_with}
+use Rattle.put_spec.specs.Children.{child_at}
 use Rattle.put_spec.specs.ChildrenLaws.{beside-first, child-stands}
 use Rattle.put_spec.specs.Puts.{After, hand_after, IsInteriorCut, moved}
 use Rattle.put_spec.specs.PutsLaws.{pages-parts}
 use Rattle.put_spec.specs.Steps.{Spelled, spelled, bytes_in, HasCells, child_page, with_dividers, IsSettled}
 use Rattle.put_spec.specs.StepsLaws.{page-tells}
-use Rattle.delete_spec.specs.Deletes.{hand_of, alone, pair, became, parent_with, IsOpened, IsLoose, IsDeleted}
+use Rattle.delete_spec.specs.Deletes.{hand_of, alone, pair, became, parent_with, IsOpened, IsDeleted}
 use Rattle.delete_spec.specs.NeighboursLaws.{alone-among, pair-among, group-count}
 use Rattle.delete_spec.specs.DeletesLaws.{cells-same, last-same, left-loose, right-loose, pair-joined, group-above, delete-settled, divider-chain}
 use Rattle.delete_spec.specs.CutsLaws.{dividers-in, cut-settled}
 use Rattle.delete_spec.specs.Steps.{IsReady, Gives, EmptiedDone, EmptiesBelow, DeleteBelow, GrownDone, GrowsBelow, RootDone, DeleteAt}
-use Rattle.delete_spec.specs.StepsLaws.{divider-payload, own-page, around-map, spelled-children, bytes-spelled, child-page, child-number, child-ready, not-free, HasOpened, interior-written, sunk}
+use Rattle.delete_spec.specs.StepsLaws.{divider-payload, own-page, around-map, spelled-children, child-page, child-number, not-free, HasOpened, interior-written, sunk}
 
 -- cells with one behind them
 behind-one : {Child : Type 0} (children : List (Child × TreeCell)) (child : Child) (cell : TreeCell) → map spelled (cells_behind (children ++ (child, cell) ∷ [])) ≡ map spelled (cells_behind children) ++ spelled cell ∷ []

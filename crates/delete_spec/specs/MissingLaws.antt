@@ -1,7 +1,7 @@
 -- A row that a writer does not find is not there: crates above cite these facts in their proofs.
-use Rattle.std.proofs.Common.{◌≡◌, ◌≢◌, ℕ, ℤ, zero, suc, ◌<ℤ◌, ◌≤ℤ◌, List, [], ◌∷◌, ◌++◌, map, refl, sym, ap, ◌∙◌, subst, arith}
+use Rattle.std.proofs.Common.{◌≡◌, ◌≢◌, ℕ, ℤ, zero, suc, ◌<ℤ◌, ◌≤ℤ◌, List, [], ◌∷◌, map, refl, sym, ap, ◌∙◌, subst, arith}
 use Rattle.std.proofs.Math.Path.{subst⁻¹}
-use Rattle.std.specs.List.{AllByRecursion, Contains}
+use Rattle.std.specs.List.{Contains}
 use Rattle.std.proofs.lemmas.Int.{ints}
 use Rattle.std.proofs.lemmas.List.Elements.{All-contains, All-from_recursion}
 use Rattle.format_spec.specs.declared.PageKind.TheVariants.{TableInterior, TableLeaf}
@@ -9,7 +9,7 @@ use Rattle.format_spec.specs.declared.CellView.{CellView}
 use Rattle.page_spec.specs.Freelists.{Trunk}
 use Rattle.tree_spec.specs.declared.TreeKind.{TreeKind}
 use Rattle.tree_spec.specs.declared.TreeKind.TheVariants.{Table}
-use Rattle.tree_spec.specs.Trees.{TreeCell, TreeOf, Leaf, Rooted, Member, cells_behind, page_of, member, list_of, list_in, list_beside, root_of}
+use Rattle.tree_spec.specs.Trees.{TreeCell, TreeOf, Rooted, Member, cells_behind, page_of, member, list_of, list_in, list_beside, root_of}
 use Rattle.tree_spec.specs.Bounds.{RisesIn, BesideIn, InOrder, IsOrdered, below_rowids, greatest_rowid}
 use Rattle.tree_spec.specs.BoundsLaws.{rowids, rises-bounds, InOrder-rises}
 use Rattle.tree_spec.specs.Standing.{Sizes, Paged, Stands}

@@ -11,7 +11,6 @@ use Rattle.tree_spec.specs.Bounds.{InOrder}
 use Rattle.tree_spec.specs.Standing.{Sizes, Paged, Stands}
 use Rattle.tree_spec.specs.Worlds.{IsFree}
 use Rattle.tree_spec.specs.Changes.{Within, Turns}
-use Rattle.put_spec.specs.Puts.{After}
 use Rattle.put_spec.specs.Steps.{Spelled, spelled}
 use Rattle.delete_spec.specs.Deletes.{alone, IsOpened, IsDeleted, IsRootDeleted}
 

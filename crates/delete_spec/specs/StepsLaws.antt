@@ -15,23 +15,23 @@ use Rattle.page_spec.specs.Freelists.{Trunk, free_pages}
 use Rattle.tree_spec.specs.declared.TreeKind.{TreeKind}
 use Rattle.tree_spec.specs.declared.TreeKind.TheVariants.{Table}
 use Rattle.tree_spec.specs.Trees.{TreeCell, TreeOf, Leaf, Rooted, Member, interior_kind, kind_at, page_of, own_cells, own_right, cells_behind, pages_of, pages_beside, pages_in, member, root_of}
-use Rattle.tree_spec.specs.Standing.{Sizes, Paged, Keeps, IsNumber, IsHeld, IsBehind, HasOwnPage, Stands, StandsBefore, StandsLast}
+use Rattle.tree_spec.specs.Standing.{Sizes, Paged, Keeps, IsNumber, IsHeld, HasOwnPage, Stands, StandsBefore, StandsLast}
 use Rattle.tree_spec.specs.StandingLaws.{held-kept, keeps-first, Stands-kept}
 use Rattle.tree_spec.specs.Worlds.{IsFree, IsWorld, with_tree, greatest_count}
 use Rattle.tree_spec.specs.WorldsLaws.{all-front, all-back, all-join, world-root, world-within}
 use Rattle.tree_spec.specs.Changes.{Within, Turns, Writes}
 use Rattle.tree_spec.specs.ChangesLaws.{Turns-wide, Turns-within, Turns-write, Turns-keeps}
-use Rattle.put_spec.specs.Children.{child_at, children_with, last_with}
+use Rattle.put_spec.specs.Children.{child_at}
 use Rattle.put_spec.specs.ChildrenLaws.{beside-first, child-within, child-stands}
 use Rattle.put_spec.specs.Puts.{After, hand_after, moved}
 use Rattle.put_spec.specs.PutsLaws.{pages-parts}
 use Rattle.put_spec.specs.Steps.{Spelled, spelled, bytes_in, HasCells, child_page, GivesBack}
 use Rattle.put_spec.specs.StepsLaws.{page-tells}
-use Rattle.delete_spec.specs.Deletes.{Before, hand_of, alone, pair, became, parent_with, IsOpened, IsDeleted, IsRootDeleted, IsWorldDeleted}
+use Rattle.delete_spec.specs.Deletes.{Before, hand_of, alone, pair, parent_with, IsOpened, IsDeleted, IsWorldDeleted}
 use Rattle.delete_spec.specs.NeighboursLaws.{alone-among, pair-among, end-among, group-count}
 use Rattle.delete_spec.specs.DeletesLaws.{cells-same, leaf-taken, left-loose, right-loose, left-leaf-gone, right-leaf-gone, group-above, delete-settled, parent-untouched, root-stays, root-sinks}
 use Rattle.delete_spec.specs.WorldsLaws.{world-deleted}
-use Rattle.delete_spec.specs.Steps.{IsReady, Gives, IsPayload, DeleteDone, EmptiedDone, DeleteBelow, EmptiesBelow, RootDone, DeleteAt}
+use Rattle.delete_spec.specs.Steps.{IsReady, Gives, IsPayload, DeleteDone, DeleteBelow, EmptiesBelow, RootDone, DeleteAt}
 
 -- Lists of cells.
 

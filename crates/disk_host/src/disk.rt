@@ -26,7 +26,7 @@ impl<R: Files + Clone> HostDisk<R> {
         rbu: String,
         state: String,
     ) -> Result<HostDisk<R>, AllocError>
-        ensures { IfOk result (λ disk. disk.faults ≡ record { count = 0; last = None }) }
+        ensures { IfOk result (λ disk. ⟦<HostDisk<R> as Disk>⟧.failures disk ≡ record { count = 0; last = None }) }
     {
         let paths = Paths::new(alloc, target, rbu, state)?;
         Ok(HostDisk {

@@ -17,7 +17,7 @@ pub struct HostSink<R> {
 impl<R: Print + Clone> HostSink<R> {
     /// The standard output. It takes memory only where a copy of the runtime does.
     pub fn new(rt: &R) -> Result<HostSink<R>, AllocError>
-        ensures { IfOk result (λ sink. sink.faults ≡ 0) }
+        ensures { IfOk result (λ sink. ⟦<HostSink<R> as Sink>⟧.faults sink ≡ 0) }
     {
         Ok(HostSink {
             rt: rt.clone()?,

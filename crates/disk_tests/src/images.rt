@@ -1,8 +1,10 @@
 // Random lists of calls, whose images are held against the rules of a crash, kept here byte by byte.
 ghost use Rattle.std.specs.Prelude.{◌<◌};
 
+use crate::changes::{Change, make};
+use crate::ensure::ensure;
 use disk_memory::MemoryDisk;
-use rbu_disk::{Disk, FileName};
+use rbu_disk::FileName;
 use std::alloc::{AllocError, Global};
 use std::test::Fail;
 
@@ -30,6 +32,21 @@ impl Random {
             _ => FileName::Wal,
         }
     }
+
+    // Writes and lengths are as many as all other changes.
+    fn change(&mut self) -> Change {
+        let name = self.name();
+        let at = self.below(10);
+        match self.below(12) {
+            0 => Change::Create(name),
+            1 => Change::Remove(name),
+            2 => Change::Sync(name),
+            3 => Change::SyncFolder,
+            4 | 5 => Change::Rename(name, self.name()),
+            6 | 7 => Change::SetLen(name, at),
+            _ => Change::Write(name, at, b"ABC"),
+        }
+    }
 }
 
 // What each image of a file has: at a place the byte, or any byte; and its lengths.
@@ -51,6 +68,15 @@ impl Allowed {
         }
     }
 
+    // A file of which all is stable.
+    fn stable(alloc: Global, bytes: &[u8]) -> Result<Allowed, AllocError> {
+        let mut file = Allowed::empty(alloc);
+        file.resize(bytes.len())?;
+        file.put(0, bytes);
+        file.sync()?;
+        Ok(file)
+    }
+
     // Any bytes from one place to another.
     fn forget(&mut self, from: usize, to: usize) {
         for (i, place) in self.firm.iter_mut().enumerate() {
@@ -68,17 +94,19 @@ impl Allowed {
         self.shown.resize(n, 0)
     }
 
+    fn put(&mut self, at: usize, bytes: &[u8]) {
+        for (place, byte) in self.shown.iter_mut().skip(at).zip(bytes) {
+            *place = *byte;
+        }
+    }
+
     fn write(&mut self, at: usize, bytes: &[u8]) -> Result<(), AllocError> {
         let end = at.saturating_add(bytes.len());
         if self.shown.len() < end {
             self.resize(end)?;
         }
         self.forget(at, end);
-        for (i, byte) in bytes.iter().enumerate() {
-            if let Some(place) = self.shown.get_mut(at.saturating_add(i)) {
-                *place = *byte;
-            }
-        }
+        self.put(at, bytes);
         Ok(())
     }
 
@@ -178,31 +206,52 @@ impl Rules {
         Ok(())
     }
 
+    // The file of a name.
+    fn file(&mut self, name: FileName) -> Option<&mut Allowed> {
+        self.files.get_mut(self.now.of(name)?)
+    }
+
     fn write(&mut self, name: FileName, at: usize, bytes: &[u8]) -> Result<(), AllocError> {
-        if let Some(number) = self.now.of(name) {
-            if let Some(file) = self.files.get_mut(number) {
-                file.write(at, bytes)?;
-            }
+        match self.file(name) {
+            Some(file) => file.write(at, bytes),
+            None => Ok(()),
         }
-        Ok(())
     }
 
     fn set_len(&mut self, name: FileName, n: usize) -> Result<(), AllocError> {
-        if let Some(number) = self.now.of(name) {
-            if let Some(file) = self.files.get_mut(number) {
-                file.resize(n)?;
-            }
+        match self.file(name) {
+            Some(file) => file.resize(n),
+            None => Ok(()),
         }
-        Ok(())
     }
 
     fn sync(&mut self, name: FileName) -> Result<(), AllocError> {
-        if let Some(number) = self.now.of(name) {
-            if let Some(file) = self.files.get_mut(number) {
-                file.sync()?;
+        match self.file(name) {
+            Some(file) => file.sync(),
+            None => Ok(()),
+        }
+    }
+
+    // Makes a call; a write and a length make a missing file first.
+    fn apply(&mut self, alloc: Global, change: Change) -> Result<(), AllocError> {
+        match change {
+            Change::Write(name, at, bytes) => {
+                self.create(alloc, name)?;
+                self.write(name, at as usize, bytes)
+            }
+            Change::SetLen(name, n) => {
+                self.create(alloc, name)?;
+                self.set_len(name, n as usize)
+            }
+            Change::Sync(name) => self.sync(name),
+            Change::Create(name) => self.create(alloc, name),
+            Change::Remove(name) => self.remove(name),
+            Change::Rename(from, to) => self.rename(from, to),
+            Change::SyncFolder => {
+                self.before.clear();
+                Ok(())
             }
         }
-        Ok(())
     }
 
     fn allows_name(&self, names: &Names, name: FileName, file: Option<&[u8]>) -> bool {
@@ -234,20 +283,18 @@ impl Rules {
 
 // The target is 'abcdef', and stable; neither log exists.
 fn first_rules(alloc: Global) -> Result<Rules, AllocError> {
-    let mut rules = Rules {
-        files: Vec::new(alloc),
-        now: Names {
-            target: None,
-            oal: None,
-            wal: None,
-        },
-        before: Vec::new(alloc),
+    let mut files = Vec::new(alloc);
+    files.push(Allowed::stable(alloc, b"abcdef")?)?;
+    let now = Names {
+        target: Some(0),
+        oal: None,
+        wal: None,
     };
-    rules.create(alloc, FileName::Target)?;
-    rules.write(FileName::Target, 0, b"abcdef")?;
-    rules.sync(FileName::Target)?;
-    rules.before.clear();
-    Ok(rules)
+    Ok(Rules {
+        files,
+        now,
+        before: Vec::new(alloc),
+    })
 }
 
 fn first_disk(alloc: Global) -> Result<MemoryDisk, AllocError> {
@@ -256,88 +303,61 @@ fn first_disk(alloc: Global) -> Result<MemoryDisk, AllocError> {
     Ok(MemoryDisk::new(alloc, files, Vec::new(alloc)))
 }
 
-// A write or a change of length, which makes a missing file first.
-fn change(
+fn change_both(
     alloc: Global,
     random: &mut Random,
     disk: &mut MemoryDisk,
     rules: &mut Rules,
 ) -> Result<(), Fail> {
-    let name = random.name();
-    let at = random.below(10);
-    rules.create(alloc, name)?;
-    if random.below(3) > 0 {
-        let bytes = [b'A', b'B', b'C'];
-        disk.write_at(name, at, &bytes)?;
-        rules.write(name, at as usize, &bytes)?;
-    } else {
-        disk.set_len(name, at)?;
-        rules.set_len(name, at as usize)?;
-    }
+    let change = random.change();
+    make(disk, change)?;
+    rules.apply(alloc, change)?;
     Ok(())
 }
 
-// A call on names, or a sync.
-fn settle(
-    alloc: Global,
-    random: &mut Random,
-    disk: &mut MemoryDisk,
-    rules: &mut Rules,
-) -> Result<(), Fail> {
-    let name = random.name();
-    match random.below(6) {
-        0 => {
-            disk.create(name)?;
-            rules.create(alloc, name)?;
-        }
-        1 => {
-            disk.remove(name)?;
-            rules.remove(name)?;
-        }
-        2 => {
-            disk.sync_folder()?;
-            rules.before.clear();
-        }
-        3 => {
-            disk.sync(name)?;
-            rules.sync(name)?;
-        }
-        _ => {
-            let to = random.name();
-            disk.rename(name, to)?;
-            rules.rename(name, to)?;
-        }
-    }
-    Ok(())
-}
-
-fn assert_images(alloc: Global, disk: &MemoryDisk, rules: &Rules) -> Result<(), Fail> {
+fn are_allowed(alloc: Global, disk: &MemoryDisk, rules: &Rules) -> Result<bool, AllocError> {
     for choice in 0..9 {
         if !rules.allows(&disk.crash(alloc, choice)?) {
-            return Err(Fail::new("an image that the rules do not allow"));
+            return Ok(false);
         }
     }
-    Ok(())
+    Ok(true)
 }
 
-fn assert_list(alloc: Global, random: &mut Random) -> Result<(), Fail> {
-    let mut disk = first_disk(alloc)?;
-    let mut rules = first_rules(alloc)?;
+fn images_are_allowed(
+    alloc: Global,
+    random: &mut Random,
+    disk: &mut MemoryDisk,
+    rules: &mut Rules,
+) -> Result<(), Fail> {
     for _ in 0..10 {
-        if random.below(2) > 0 {
-            change(alloc, random, &mut disk, &mut rules)?;
-        } else {
-            settle(alloc, random, &mut disk, &mut rules)?;
-        }
+        change_both(alloc, random, disk, rules)?;
     }
-    assert_images(alloc, &disk, &rules)
+    ensure(
+        are_allowed(alloc, disk, rules)?,
+        "an image that the rules do not allow",
+    )
+}
+
+fn disk_keeps_the_rules(
+    alloc: Global,
+    random: &mut Random,
+    disk: &mut MemoryDisk,
+) -> Result<(), Fail> {
+    let mut rules = first_rules(alloc)?;
+    images_are_allowed(alloc, random, disk, &mut rules)
+}
+
+fn list_keeps_the_rules(alloc: Global, random: &mut Random) -> Result<(), Fail> {
+    let mut disk = first_disk(alloc)?;
+    disk_keeps_the_rules(alloc, random, &mut disk)
 }
 
 #[test]
 fn images_of_random_lists_of_calls_are_allowed(rt: HostRuntime) -> Result<(), Fail> {
     let mut random = Random { state: 1 };
     for _ in 0..1000 {
-        assert_list(rt.alloc(), &mut random)?;
+        list_keeps_the_rules(rt.alloc(), &mut random)?;
     }
     Ok(())
 }

@@ -1,4 +1,7 @@
-//! Tests of the disks and the output in memory: each call once, calls that fail, and what crashes leave.
+//! Tests of the disks and the output in memory, and of saves of a state and whole commands over them.
+//!
+//! Of the disks: each call once, calls that fail, and what crashes leave. Of commands: rows, refusals in their order, constraint faults,
+//! each failing call, crashes of an update that was stopped after each call, a failing output, and words.
 //!
 //! They stand in a crate of their own, over the crates that they call, since a crate with tests is proved twice.
 #![tactic(auto)]
@@ -6,6 +9,24 @@
 #[cfg(test)]
 mod calls;
 #[cfg(test)]
+mod changes;
+#[cfg(test)]
 mod crashes;
 #[cfg(test)]
+mod ensure;
+#[cfg(test)]
+mod example;
+#[cfg(test)]
+mod faults;
+#[cfg(test)]
 mod images;
+#[cfg(test)]
+mod refusals;
+#[cfg(test)]
+mod runs;
+#[cfg(test)]
+mod saves;
+#[cfg(test)]
+mod stops;
+#[cfg(test)]
+mod updates;

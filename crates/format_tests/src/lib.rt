@@ -14,8 +14,12 @@ mod logs;
 #[cfg(test)]
 mod records;
 #[cfg(test)]
+mod schema_texts;
+#[cfg(test)]
 mod small_files;
 #[cfg(test)]
 mod small_updates;
+#[cfg(test)]
+mod states;
 #[cfg(test)]
 mod values;

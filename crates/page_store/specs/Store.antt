@@ -1,15 +1,15 @@
 -- What a function over a store says of it. Each word takes the store's members, as `S.PageRead`, and the store before and after.
 use Rattle.std.specs.Prelude.{◌≡◌, ℕ, ◌≤◌, Option, Some, None, Result, OnOk, IfSome}
-use Rattle.common_spec.specs.Counts.{CountsFaults, RisesOrWants}
+use Rattle.common_spec.specs.Counts.{CountsFaults}
 use Rattle.common_spec.specs.Told.{Leads, Finds}
 use Rattle.format_spec.specs.Sizes.{IsUsable}
 use Rattle.page_spec.specs.Pages.{Pages, IsInRange}
 use Rattle.page_store.specs.declared.store.PageRead.{Ghosts}
 
--- the cause of an error: where it is a fault of the store, the count of faults rose or memory is wanting; else no call failed
-abbrev pub IsCause : {F : Type 0} → (F → Type 0) → Option F → ℕ → ℕ → Type 0
-IsCause wants_memory (Some fault) before now = RisesOrWants wants_memory before now fault
-IsCause wants_memory None before now = now ≡ before
+-- the cause of an error: where it is a fault of the store, what such a fault needs; else no call failed
+abbrev pub IsCause : {S F : Type 0} → (S → S → F → Type 0) → Option F → S → S → Type 0
+IsCause Fails (Some fault) before now = Fails before now fault
+IsCause Fails None before now = now ≡ before
 
 module _ {P F : Type 0} (g : Ghosts P F) where
   -- the sizes are those of a database
@@ -31,7 +31,7 @@ module _ {P F : Type 0} (g : Ghosts P F) where
   -- What every call over a store owes: the sizes stay, the faults are counted, and an error has its cause. `fault_in` is the fault of the store that it has, if any.
   pub record OwesBy {T E : Type 0} (fault_in : E → Option F) (before after : P) (result : Result T E) : Type 0 where
     pub stays : Stays before after
-    pub faults : CountsFaults (λ (n : ℕ). n) (λ f h error. IsCause g.wants_memory (fault_in error) f h) (g.faults before) (g.faults after) result
+    pub faults : CountsFaults g.fault_count (λ f h error. IsCause g.Fails (fault_in error) f h) (g.faults before) (g.faults after) result
 
   -- the same where each error is a fault of the store
   abbrev pub Owes : {T : Type 0} → P → P → Result T F → Type 0

@@ -1,5 +1,5 @@
 // Pages in memory.
-ghost use Rattle.std.specs.Prelude.{◌≡◌, ◌≤◌, ◌<◌, ◌^◌, [], Some, OnOk, map, take, vec_len};
+ghost use Rattle.std.specs.Prelude.{◌≡◌, ◌≤◌, ◌<◌, ◌^◌, Some, OnOk, map, take, vec_len};
 ghost use Rattle.std.specs.List.{All};
 ghost use Rattle.page_store.specs.Plain.{numbered};
 
@@ -65,11 +65,17 @@ impl PageRead for PlainStore {
 
     ghost pages = { λ store. Some (numbered (map (λ page. page.items) store.pages.items)) };
 
-    ghost faults = { λ _. 0 };
+    ghost Faults = { Unit {0} };
 
-    ghost fixed = { λ _. [] };
+    ghost faults = { λ _. tt };
 
-    ghost wants_memory = { λ _. Unit {0} };
+    ghost fault_count = { λ _. 0 };
+
+    ghost Fails = { λ _ _ _. Unit {0} };
+
+    ghost Fixed = { Unit {0} };
+
+    ghost fixed = { λ _. tt };
 
     fn page_size(&self) -> u32 {
         self.page_size

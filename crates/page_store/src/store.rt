@@ -1,13 +1,16 @@
 // Stores of numbered pages.
-ghost use Rattle.std.specs.Prelude.{◌≡◌, ◌≤◌, ℕ, List, Option, OnOk, length};
+ghost use Rattle.std.specs.Prelude.{◌≡◌, ◌≤◌, ℕ, Option, OnOk, length};
 ghost use Rattle.common_spec.specs.Told.{Finds, Leads};
-ghost use Rattle.common_spec.specs.Counts.{CountsFaults, RisesOrWants};
+ghost use Rattle.common_spec.specs.Counts.{CountsFaults};
 ghost use Rattle.page_spec.specs.Pages.{Pages, with_page};
 ghost use Rattle.page_store.specs.Calls.{KeepsUpTo};
 
-/// Numbered pages of one size, which can be read. Where the store tells its pages, `pages` is the map that its calls read and change. `faults` counts the calls that failed.
+/// Numbered pages of one size, which can be read. Where the store tells its pages, `pages` is the map that its calls read and change. `faults` is what it keeps
+/// of the calls that failed, and `fault_count` their number, which never falls. `Fails` says what is so where a call answers a fault: that it is
+/// counted and kept, or that memory is wanting.
 ///
-/// `fixed` holds what no call changes, as the identity of what the store stands on.
+/// `fixed` is what no call changes, also none that writes: the identity of what the store stands on, and what is to be known of that
+/// when the store is given up.
 pub trait PageRead {
     type Fault;
 
@@ -19,11 +22,17 @@ pub trait PageRead {
 
     ghost pages: { Self → Option Pages };
 
-    ghost faults: { Self → ℕ };
+    ghost Faults: { Type 0 };
 
-    ghost fixed: { Self → List ℕ };
+    ghost faults: { Self → Faults };
 
-    ghost wants_memory: { Self.Fault → Type 0 };
+    ghost fault_count: { Faults → ℕ };
+
+    ghost Fails: { Faults → Faults → Self.Fault → Type 0 };
+
+    ghost Fixed: { Type 0 };
+
+    ghost fixed: { Self → Fixed };
 
     /// The size of a page in bytes.
     fn page_size(&self) -> u32
@@ -47,7 +56,7 @@ pub trait PageRead {
         ensures size { size self.new ≡ size self.old }
         ensures usable { usable self.new ≡ usable self.old }
         ensures fixed { fixed self.new ≡ fixed self.old }
-        ensures cause { CountsFaults (λ n. n) (RisesOrWants wants_memory) (faults self.old) (faults self.new) result };
+        ensures cause { CountsFaults fault_count Fails (faults self.old) (faults self.new) result };
 }
 
 /// Numbered pages that can also be written. After a fault nothing is said of the pages.
@@ -62,7 +71,7 @@ pub trait PageWrite: PageRead {
         ensures size { Self.size self.new ≡ Self.size self.old }
         ensures usable { Self.usable self.new ≡ Self.usable self.old }
         ensures fixed { Self.fixed self.new ≡ Self.fixed self.old }
-        ensures cause { CountsFaults (λ n. n) (RisesOrWants Self.wants_memory) (Self.faults self.old) (Self.faults self.new) result };
+        ensures cause { CountsFaults Self.fault_count Self.Fails (Self.faults self.old) (Self.faults self.new) result };
 
     /// Sets how many pages there are. A new page holds any bytes until it is written.
     fn set_count(&mut self, count: u32) -> Result<(), Self::Fault>
@@ -71,5 +80,5 @@ pub trait PageWrite: PageRead {
         ensures size { Self.size self.new ≡ Self.size self.old }
         ensures usable { Self.usable self.new ≡ Self.usable self.old }
         ensures fixed { Self.fixed self.new ≡ Self.fixed self.old }
-        ensures cause { CountsFaults (λ n. n) (RisesOrWants Self.wants_memory) (Self.faults self.old) (Self.faults self.new) result };
+        ensures cause { CountsFaults Self.fault_count Self.Fails (Self.faults self.old) (Self.faults self.new) result };
 }

@@ -7,3 +7,4 @@ pub mod PutsLaws
 pub mod StepsLaws
 pub mod WorldsLaws
 pub mod MembersLaws
+pub mod SpreadsLaws

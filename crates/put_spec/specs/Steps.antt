@@ -1,5 +1,5 @@
 -- What a writer of trees does page by page, and what that means for whatever tree stands there.
-use Rattle.std.specs.Prelude.{◌≡◌, ◌⊎◌, ℕ, zero, suc, ◌-◌, ◌<◌, List, [], ◌∷◌, ◌++◌, length, map, take, drop, slice_index_or, slice_set}
+use Rattle.std.specs.Prelude.{◌≡◌, ◌≢◌, ◌⊎◌, ℕ, zero, suc, ◌-◌, ◌<◌, List, [], ◌∷◌, ◌++◌, length, map, take, drop, slice_index_or, slice_set}
 use Rattle.std.specs.List.{AllByRecursion, insert}
 use Rattle.byte_fields.specs.Bytes.{part_of}
 use Rattle.format_spec.specs.declared.PageKind.{PageKind}
@@ -111,6 +111,12 @@ module _ (sizes : Sizes) where
   IsSettled levels kind page right cells old new (divider ∷ dividers) =
       (back : List Spelled) × (between : Paged) × IsFronted levels kind cells divider back old between × IsSettled levels kind page right back between new dividers
 
+  -- the fronts of some cells were put on pages that were taken, with a divider for each, and the last cells are left
+  abbrev pub IsSpread : (levels : ℕ) → TreeKind → List Spelled → Paged → Paged → List Spelled → List Spelled → Type 0
+  IsSpread levels kind cells old new [] left = (left ≡ cells) × (new ≡ old)
+  IsSpread levels kind cells old new (divider ∷ dividers) left =
+      (back : List Spelled) × (between : Paged) × IsFronted levels kind cells divider back old between × IsSpread levels kind back between new dividers left
+
   module _ (kind : TreeKind) where
     -- the put is done, with a sibling for each divider
     pub record PutDone (levels : ℕ) (before : Before levels) (new : Paged) (dividers : List Spelled) (first bytes : ℕ) : Type 0 where
@@ -160,6 +166,26 @@ module _ (sizes : Sizes) where
     pub writes : Writes root between new
     pub root_page : IsPage (new.pages root) root sizes.usable (interior_kind kind) (bytes_in dividers) fresh
     pub some : 0 < length dividers
+
+  -- The cells that a root's page is to have were spread, the last of them on a page that was taken too, and the root was made the parent of these pages.
+  pub record IsMovedOut (levels : ℕ) (kind : TreeKind) (root right : ℕ) (cells : List Spelled) (old new : Paged) : Type 0 where
+    pub dividers : List Spelled
+    pub left : List Spelled
+    pub spread_out : Paged
+    pub fresh : ℕ
+    pub between : Paged
+    pub spread : IsSpread levels kind cells old spread_out dividers left
+    pub took : Took fresh spread_out between
+    pub in_range : IsNumber sizes between fresh
+    pub is_page : IsPage (between.pages fresh) fresh sizes.usable (kind_at kind levels) (bytes_in left) right
+    pub writes : Writes root between new
+    pub root_page : IsPage (new.pages root) root sizes.usable (interior_kind kind) (bytes_in dividers) fresh
+    pub left_some : 0 < length left
+    pub some : root ≢ 1 → 0 < length dividers
+
+  -- What the cells that a root's page is to have become: they stand in it, or are moved out.
+  abbrev pub IsRooted : (levels : ℕ) → TreeKind → ℕ → ℕ → List Spelled → Paged → Paged → Type 0
+  IsRooted levels kind root right cells old new = IsSettled levels kind root right cells old new [] ⊎ IsMovedOut levels kind root right cells old new
 
 -- an overflow chain was given back, whatever its pages are: they are free now
 abbrev pub GivesBack : Sizes → ℕ → ℕ → Paged → Paged → Type 0

@@ -26,10 +26,10 @@ use Rattle.tree_spec.specs.Changes.{Turns, Writes}
 use Rattle.tree_spec.specs.ChangesLaws.{free-within, Turns-then, Turns-write, Turns-within, Turns-keeps}
 use Rattle.put_spec.specs.Children.{Belongs, Meets, views_of, child_at, children_with, last_with, interior_with}
 use Rattle.put_spec.specs.ChildrenLaws.{child-stands, child-within, keeps-fewer}
-use Rattle.put_spec.specs.Puts.{Before, After, hand_before, hand_after, child_before, interior_after, leaf_after, IsCut, cut_after, moved, deeper, IsReady, IsOpened, IsPut}
-use Rattle.put_spec.specs.PutsLaws.{pages-parts, cut-count, put-above, put-cut, put-settled, put-stays, put-deepens, hand-parts, moved-page}
+use Rattle.put_spec.specs.Puts.{Before, After, hand_before, hand_after, child_before, interior_after, leaf_after, IsCut, cut_after, moved, deeper, IsReady, IsOpened, IsPut, IsRootPut}
+use Rattle.put_spec.specs.PutsLaws.{pages-parts, cut-count, put-above, put-cut, put-settled, put-stays, put-deepens, put-rises, hand-parts, moved-page}
 use Rattle.put_spec.specs.LeavesLaws.{belongs-within, leaf-inserted, leaf-met}
-use Rattle.put_spec.specs.Steps.{Spelled, spelled, bytes_in, views_in, HasCells, child_page, with_dividers, IsRaised, AreParts, before_at, Took, IsSettled, PutDone, PutBelow, PutAt, PutUnder, PutInto, IsDeepened, IsLeafEdit}
+use Rattle.put_spec.specs.Steps.{Spelled, spelled, bytes_in, views_in, HasCells, child_page, with_dividers, IsRaised, AreParts, before_at, Took, IsFronted, IsSpread, IsSettled, IsMovedOut, IsRooted, PutDone, PutBelow, RootDone, PutAt, PutUnder, PutInto, IsDeepened, IsLeafEdit}
 
 -- Lists of cells.
 
@@ -246,7 +246,8 @@ module _ (sizes : Sizes) (kind : TreeKind) where
     pub siblings : List (TreeOf levels × TreeCell)
     pub home : TreeOf levels
     pub trunks : List Trunk
-    pub put : IsPut sizes kind levels before (record { base = new; siblings = siblings; home = home; trunks = trunks; first = after.first; bytes = after.bytes; chain = after.chain })
+    pub chain : List ℕ
+    pub put : IsPut sizes kind levels before (record { base = new; siblings = siblings; home = home; trunks = trunks; first = after.first; bytes = after.bytes; chain = chain })
     pub dividers_are : map spelled (cells_behind siblings) ≡ map spelled (cells_behind after.siblings) ++ dividers
 
   -- the cells between siblings, with one more sibling
@@ -262,21 +263,37 @@ module _ (sizes : Sizes) (kind : TreeKind) where
       (subst (λ (bytes : List (List ℕ)). IsPage (base.pages page) page sizes.usable (kind_at kind levels) bytes (own_right levels tree)) (ap bytes_in same ∙ bytes-of (own_cells levels tree))
       (subst (λ (r : ℕ). IsPage (base.pages page) page sizes.usable (kind_at kind levels) (bytes_in cells) r) right_is written))
 
-  -- A page that is still to be written is cut at each divider, and then written.
-  pub settled : (dividers : List Spelled) (levels : ℕ) (before : Before levels) (after : After levels) (cells : List Spelled) (right : ℕ) (new : Paged) → IsFree sizes after.base after.trunks
-      → IsOpened sizes kind levels before after → cells ≡ map spelled (own_cells levels after.home) → right ≡ own_right levels after.home
-      → IsSettled sizes levels kind (page_of levels after.home) right cells after.base new dividers → HasGrown levels before after new dividers
-  settled [] levels before after cells right new free o same right_is done = record {
-    siblings = after.siblings;
-    home = after.home;
-    trunks = after.trunks;
-    put = put-settled sizes kind levels before after new o done.0 (own-written new levels after.home (page_of levels after.home) cells right refl same right_is done.1);
-    dividers_are = sym (append-nil (map spelled (cells_behind after.siblings)));
-  }
-  settled (divider ∷ dividers) levels before after cells right new free o same right_is done =
-      let back = done.0 in
-      let between = done.1 in
-      let f = done.2 in
+  cells-many : {Child : Type 0} (children : List (Child × TreeCell)) → length (map spelled (cells_behind children)) ≡ length children
+  cells-many [] = refl
+  cells-many (child ∷ children) = omega (arith, cells-many children)
+
+  moved-cells : (levels fresh : ℕ) (tree : TreeOf levels) → own_cells levels (moved levels fresh tree) ≡ own_cells levels tree
+  moved-cells zero fresh tree = refl
+  moved-cells (suc levels) fresh tree = refl
+
+  moved-right : (levels fresh : ℕ) (tree : TreeOf levels) → own_right levels (moved levels fresh tree) ≡ own_right levels tree
+  moved-right zero fresh tree = refl
+  moved-right (suc levels) fresh tree = refl
+
+  -- a page that is still to be written, cut once more
+  pub record HasCut (levels : ℕ) (before : Before levels) (after : After levels) (divider : Spelled) (back : List Spelled) (between : Paged) : Type 0 where
+    pub next : After levels
+    pub base_is : next.base ≡ between
+    pub first : next.first ≡ after.first
+    pub bytes : next.bytes ≡ after.bytes
+    pub opened : IsOpened sizes kind levels before next
+    pub free : IsFree sizes next.base next.trunks
+    pub back_cells : back ≡ map spelled (own_cells levels next.home)
+    pub right_is : own_right levels after.home ≡ own_right levels next.home
+    pub dividers_are : (dividers : List Spelled) → map spelled (cells_behind next.siblings) ++ dividers ≡ map spelled (cells_behind after.siblings) ++ divider ∷ dividers
+
+  some-cells : (levels : ℕ) (tree : TreeOf levels) (cells : List Spelled) → cells ≡ map spelled (own_cells levels tree) → 0 < length cells → 0 < length (own_cells levels tree)
+  some-cells levels tree cells same some = omega (arith, ap length same, length-of spelled (own_cells levels tree))
+
+  cut-once : (levels : ℕ) (before : Before levels) (after : After levels) (cells : List Spelled) (divider : Spelled) (back : List Spelled) (between : Paged) → IsFree sizes after.base after.trunks
+      → IsOpened sizes kind levels before after → cells ≡ map spelled (own_cells levels after.home) → IsFronted sizes levels kind cells divider back after.base between
+      → HasCut levels before after divider back between
+  cut-once levels before after cells divider back between free o same f =
       let l = lifted sizes after.base levels kind after.home divider f.front f.right back o.below (subst (λ (x : List Spelled). AreParts levels kind x divider f.front f.right back) same f.parts) f.is_cell in
       let own = own-written between levels l.left divider.view.child f.front f.right l.page l.left_cells l.left_right f.is_page in
       let took = f.took after.trunks free in
@@ -289,30 +306,128 @@ module _ (sizes : Sizes) (kind : TreeKind) where
         names = names-page l.cell divider (page_of levels l.left) l.cell_is l.page;
         in_range = subst⁻¹ (IsNumber sizes between) l.page f.in_range;
       } in
-      let next = cut_after levels after l.left l.cell l.rest between took.0 in
-      let opened = put-cut sizes kind levels before after l.left l.cell l.rest between took.0 o l.cut taken own behind
-      (some-cells levels l.left f.front l.left_cells f.front_some) (some-cells levels l.rest back l.rest_cells f.back_some) in
-      let rest = settled dividers levels before next back right new (taken.freelist free) opened l.rest_cells (right_is ∙ l.rest_right)
-      (subst (λ (p : ℕ). IsSettled sizes levels kind p right back between new dividers) (sym (opened.page ∙ sym o.page)) done.3) in
       record {
-        siblings = rest.siblings;
-        home = rest.home;
-        trunks = rest.trunks;
-        put = rest.put;
-        dividers_are = ◌∙◌ {a = map spelled (cells_behind rest.siblings)} rest.dividers_are (siblings-cells after.siblings l.left l.cell divider dividers l.cell_is);
+        next = cut_after levels after l.left l.cell l.rest between took.0;
+        base_is = refl;
+        first = refl;
+        bytes = refl;
+        opened = put-cut sizes kind levels before after l.left l.cell l.rest between took.0 o l.cut taken own behind
+            (some-cells levels l.left f.front l.left_cells f.front_some) (some-cells levels l.rest back l.rest_cells f.back_some);
+        free = taken.freelist free;
+        back_cells = l.rest_cells;
+        right_is = l.rest_right;
+        dividers_are = λ dividers. siblings-cells after.siblings l.left l.cell divider dividers l.cell_is;
       }
     where
       names-page : (cell : TreeCell) (divider : Spelled) (page : ℕ) → spelled cell ≡ divider → page ≡ divider.view.child → cell.view.child ≡ page
       names-page cell divider page is there = ap (λ (c : Spelled). c.view.child) is ∙ sym there
-
-      some-cells : (levels : ℕ) (tree : TreeOf levels) (cells : List Spelled) → cells ≡ map spelled (own_cells levels tree) → 0 < length cells → 0 < length (own_cells levels tree)
-      some-cells levels tree cells same some = omega (arith, ap length same, length-of spelled (own_cells levels tree))
 
       -- the chain of the cell that goes up is one of those in hand
       chain-of-cut : (levels : ℕ) (after : After levels) (left : TreeOf levels) (cell : TreeCell) (rest : TreeOf levels) → IsCut levels kind after.home left cell rest
           → (n : ℕ) → 0 < times n cell.chain → 0 < times n (hand_after after)
       chain-of-cut levels after left cell rest cut n some =
           omega (arith, cut-count sizes kind levels kind n after.home left cell rest cut, pages-parts n levels left, pages-parts n levels after.home, hand-parts n levels after)
+
+  -- what spreading a page gives, which is still to be written
+  pub record HasSpread (levels : ℕ) (before : Before levels) (after : After levels) (dividers left : List Spelled) (new : Paged) : Type 0 where
+    pub next : After levels
+    pub base_is : next.base ≡ new
+    pub first : next.first ≡ after.first
+    pub bytes : next.bytes ≡ after.bytes
+    pub opened : IsOpened sizes kind levels before next
+    pub free : IsFree sizes next.base next.trunks
+    pub left_cells : left ≡ map spelled (own_cells levels next.home)
+    pub right_is : own_right levels after.home ≡ own_right levels next.home
+    pub dividers_are : map spelled (cells_behind next.siblings) ≡ map spelled (cells_behind after.siblings) ++ dividers
+
+  -- A page that is still to be written is cut at each divider.
+  pub spread-opened : (dividers : List Spelled) (levels : ℕ) (before : Before levels) (after : After levels) (cells left : List Spelled) (new : Paged) → IsFree sizes after.base after.trunks
+      → IsOpened sizes kind levels before after → cells ≡ map spelled (own_cells levels after.home) → IsSpread sizes levels kind cells after.base new dividers left
+      → HasSpread levels before after dividers left new
+  spread-opened [] levels before after cells left new free o same spread = record {
+    next = after;
+    base_is = sym spread.1;
+    first = refl;
+    bytes = refl;
+    opened = o;
+    free = free;
+    left_cells = spread.0 ∙ same;
+    right_is = refl;
+    dividers_are = sym (append-nil (map spelled (cells_behind after.siblings)));
+  }
+  spread-opened (divider ∷ dividers) levels before after cells left new free o same spread =
+      let c = cut-once levels before after cells divider spread.0 spread.1 free o same spread.2 in
+      let rest = spread-opened dividers levels before c.next spread.0 left new c.free c.opened c.back_cells
+      (subst⁻¹ (λ (base : Paged). IsSpread sizes levels kind spread.0 base new dividers left) c.base_is spread.3) in
+      record {
+        next = rest.next;
+        base_is = rest.base_is;
+        first = rest.first ∙ c.first;
+        bytes = rest.bytes ∙ c.bytes;
+        opened = rest.opened;
+        free = rest.free;
+        left_cells = rest.left_cells;
+        right_is = c.right_is ∙ rest.right_is;
+        dividers_are = rest.dividers_are ∙ c.dividers_are dividers;
+      }
+
+  -- some cells that stand in their page were spread, and then it was written
+  settled-spread : (dividers : List Spelled) (levels page right : ℕ) (cells : List Spelled) (old new : Paged) → IsSettled sizes levels kind page right cells old new dividers
+      → (left : List Spelled) × (between : Paged) × IsSpread sizes levels kind cells old between dividers left × Writes page between new × IsPage (new.pages page) page sizes.usable (kind_at kind levels) (bytes_in left) right
+  settled-spread [] levels page right cells old new done = (cells, old, (refl, refl), done.0, done.1)
+  settled-spread (divider ∷ dividers) levels page right cells old new done =
+      let rest = settled-spread dividers levels page right done.0 done.1 new done.3 in
+      (rest.0, rest.1, (done.0, done.1, done.2, rest.2), rest.3, rest.4)
+
+  -- A page that is still to be written is cut at each divider, and then written.
+  pub settled : (dividers : List Spelled) (levels : ℕ) (before : Before levels) (after : After levels) (cells : List Spelled) (right : ℕ) (new : Paged) → IsFree sizes after.base after.trunks
+      → IsOpened sizes kind levels before after → cells ≡ map spelled (own_cells levels after.home) → right ≡ own_right levels after.home
+      → IsSettled sizes levels kind (page_of levels after.home) right cells after.base new dividers → HasGrown levels before after new dividers
+  settled dividers levels before after cells right new free o same right_is done =
+      let d = settled-spread dividers levels (page_of levels after.home) right cells after.base new done in
+      let s = spread-opened dividers levels before after cells d.0 d.1 free o same d.2 in
+      let n = s.next in
+      let page : page_of levels n.home ≡ page_of levels after.home = s.opened.page ∙ sym o.page in
+      let writes = subst⁻¹ (λ (base : Paged). Writes (page_of levels n.home) base new) s.base_is (subst⁻¹ (λ (p : ℕ). Writes p d.1 new) page d.3) in
+      let own = own-written new levels n.home (page_of levels after.home) d.0 right page s.left_cells (right_is ∙ s.right_is) d.4 in
+      let put = put-settled sizes kind levels before n new s.opened writes own in
+      record {
+        siblings = n.siblings;
+        home = n.home;
+        trunks = n.trunks;
+        chain = n.chain;
+        put = subst (λ (first : ℕ). IsPut sizes kind levels before (record { base = new; siblings = n.siblings; home = n.home; trunks = n.trunks; first = first; bytes = after.bytes; chain = n.chain })) s.first
+            (subst (λ (bytes : ℕ). IsPut sizes kind levels before (record { base = new; siblings = n.siblings; home = n.home; trunks = n.trunks; first = n.first; bytes = bytes; chain = n.chain })) s.bytes put);
+        dividers_are = s.dividers_are;
+      }
+
+  -- What a root's page is to have is spread, and moved out.
+  pub moved-out : (levels : ℕ) (before : Before levels) (after : After levels) (root right : ℕ) (cells : List Spelled) (new : Paged) → IsFree sizes after.base after.trunks
+      → IsOpened sizes kind levels before after → after.siblings ≡ [] → page_of levels after.home ≡ root → cells ≡ map spelled (own_cells levels after.home) → right ≡ own_right levels after.home
+      → IsMovedOut sizes levels kind root right cells after.base new → RootDone sizes kind levels before new after.first after.bytes
+  moved-out levels before after root right cells new free o none is same right_is out =
+      let s = spread-opened out.dividers levels before after cells out.left out.spread_out free o same out.spread in
+      let n = s.next in
+      let home = n.home in
+      let fresh = out.fresh in
+      let page : page_of levels home ≡ root = s.opened.page ∙ sym o.page ∙ is in
+      let dividers : map spelled (cells_behind n.siblings) ≡ out.dividers = s.dividers_are ∙ ap (λ (l : List (TreeOf levels × TreeCell)). map spelled (cells_behind l) ++ out.dividers) none in
+      let took = subst⁻¹ (λ (base : Paged). Took sizes fresh base out.between) s.base_is out.took n.trunks s.free in
+      let own = own-written out.between levels (moved levels fresh home) fresh out.left right (moved-page sizes kind levels fresh home) (s.left_cells ∙ ap (map spelled) (sym (moved-cells levels fresh home)))
+      (right_is ∙ s.right_is ∙ sym (moved-right levels fresh home)) out.is_page in
+      let top : HasOwnPage sizes new kind (suc levels) (deeper levels n fresh) =
+      own-written new (suc levels) (deeper levels n fresh) root out.dividers fresh page (sym dividers) (sym (moved-page sizes kind levels fresh home)) out.root_page in
+      let rises = put-rises sizes kind levels before n fresh out.between new took.0 s.opened took.1 out.in_range own
+      (subst⁻¹ (λ (p : ℕ). Writes p out.between new) page out.writes) top
+      (some-cells levels home out.left s.left_cells out.left_some)
+      (λ other. omega (arith, out.some (λ e. other (page ∙ e)), ap length dividers, cells-many n.siblings)) in
+      record {
+        rooted = record { kind = kind; levels = suc levels; tree = deeper levels n fresh };
+        trunks = took.0;
+        chain = n.chain;
+        put = subst (λ (first : ℕ). IsRootPut sizes kind levels before new (record { kind = kind; levels = suc levels; tree = deeper levels n fresh }) first after.bytes n.chain took.0) s.first
+            (subst (λ (bytes : ℕ). IsRootPut sizes kind levels before new (record { kind = kind; levels = suc levels; tree = deeper levels n fresh }) n.first bytes n.chain took.0) s.bytes rises);
+      }
 
   -- the same where no sibling stands beside it yet
   settled-done : (dividers : List Spelled) (levels : ℕ) (before : Before levels) (after : After levels) (cells : List Spelled) (right : ℕ) (new : Paged) → IsFree sizes after.base after.trunks
@@ -324,9 +439,53 @@ module _ (sizes : Sizes) (kind : TreeKind) where
         siblings = grown.siblings;
         home = grown.home;
         trunks = grown.trunks;
-        chain = after.chain;
+        chain = grown.chain;
         put = grown.put;
         dividers_are = grown.dividers_are ∙ ap (λ (s : List (TreeOf levels × TreeCell)). map spelled (cells_behind s) ++ dividers) none;
+      }
+
+  -- A put that is done but for a page that is to have these cells and this right child, whose tree it is in.
+  pub record HasOpened (levels : ℕ) (before : Before levels) (cells : List Spelled) (right first bytes : ℕ) (base : Paged) : Type 0 where
+    pub after : After levels
+    pub base_is : after.base ≡ base
+    pub first_is : after.first ≡ first
+    pub bytes_is : after.bytes ≡ bytes
+    pub free : IsFree sizes after.base after.trunks
+    pub opened : IsOpened sizes kind levels before after
+    pub none : after.siblings ≡ []
+    pub cells_are : cells ≡ map spelled (own_cells levels after.home)
+    pub right_is : right ≡ own_right levels after.home
+
+  -- its page is settled
+  pub opened-settled : (levels page : ℕ) (before : Before levels) (cells : List Spelled) (right first bytes : ℕ) (base new : Paged) (dividers : List Spelled) → page_of levels before.tree ≡ page
+      → HasOpened levels before cells right first bytes base → IsSettled sizes levels kind page right cells base new dividers → PutDone sizes kind levels before new dividers first bytes
+  opened-settled levels page before cells right first bytes base new dividers is o settle =
+      subst (λ (f : ℕ). PutDone sizes kind levels before new dividers f bytes) o.first_is
+      (subst (λ (b : ℕ). PutDone sizes kind levels before new dividers o.after.first b) o.bytes_is
+      (settled-done dividers levels before o.after cells right new o.free o.opened o.none o.cells_are o.right_is
+      (subst⁻¹ (λ (p : ℕ). IsSettled sizes levels kind p right cells o.after.base new dividers) (o.opened.page ∙ is)
+      (subst⁻¹ (λ (b : Paged). IsSettled sizes levels kind page right cells b new dividers) o.base_is settle))))
+
+  -- or its page is a root's, which keeps its cells, or from which they are moved out
+  pub opened-rooted : (levels root : ℕ) (before : Before levels) (cells : List Spelled) (right first bytes : ℕ) (base new : Paged) → page_of levels before.tree ≡ root
+      → HasOpened levels before cells right first bytes base → IsRooted sizes levels kind root right cells base new → RootDone sizes kind levels before new first bytes
+  opened-rooted levels root before cells right first bytes base new is o rooted =
+      elim rooted as (λ _. RootDone sizes kind levels before new first bytes) [
+        | inl settle ↦ done-stays (opened-settled levels root before cells right first bytes base new [] is o settle)
+        | inr out ↦
+            subst (λ (f : ℕ). RootDone sizes kind levels before new f bytes) o.first_is
+            (subst (λ (b : ℕ). RootDone sizes kind levels before new o.after.first b) o.bytes_is
+            (moved-out levels before o.after root right cells new o.free o.opened o.none (o.opened.page ∙ is) o.cells_are o.right_is
+            (subst⁻¹ (λ (b : Paged). IsMovedOut sizes levels kind root right cells b new) o.base_is out)))
+      ]
+    where
+      done-stays : PutDone sizes kind levels before new [] first bytes → RootDone sizes kind levels before new first bytes
+      done-stays done = record {
+        rooted = record { kind = kind; levels = levels; tree = done.home };
+        trunks = done.trunks;
+        chain = done.chain;
+        put = put-stays sizes kind levels before (record { base = new; siblings = done.siblings; home = done.home; trunks = done.trunks; first = first; bytes = bytes; chain = done.chain }) done.put
+            (none-map (λ (child : TreeOf levels × TreeCell). spelled child.1) done.siblings (sym (map-map spelled (λ (child : TreeOf levels × TreeCell). child.1) done.siblings) ∙ done.dividers_are));
       }
 
   -- An interior page.
@@ -372,16 +531,12 @@ module _ (sizes : Sizes) (kind : TreeKind) where
         held = ready.held;
       }
 
-  cells-many : {Child : Type 0} (children : List (Child × TreeCell)) → length (map spelled (cells_behind children)) ≡ length children
-  cells-many [] = refl
-  cells-many (child ∷ children) = omega (arith, cells-many children)
-
-  -- A put below the child at the place where the cell belongs, and the page with the dividers that came, is a put below the page.
-  pub interior-step : (levels page : ℕ) (cell : Spelled) (old : Paged) (cells : List Spelled) (right at : ℕ) (between : Paged) (grew : List Spelled) (first bytes : ℕ) (new : Paged) (dividers : List Spelled)
-      → HasCells sizes old (interior_kind kind) page cells right → at ≤ length cells → (kind ≡ Table → Belongs cell.view.rowid at (views_in cells))
-      → PutBelow sizes kind levels (child_page at cells right) cell old between grew first bytes
-      → IsSettled sizes (suc levels) kind page right (with_dividers cells at grew) between new dividers → PutBelow sizes kind (suc levels) page cell old new dividers first bytes
-  interior-step levels page cell old cells right at between grew first bytes new dividers has within here put settle tree trunks payload chain is free ready =
+  -- A put below the child at the place where the cell belongs leaves the page, which is to have the dividers that came.
+  pub interior-opened : (levels page : ℕ) (cell : Spelled) (old : Paged) (cells : List Spelled) (right at : ℕ) (between : Paged) (grew : List Spelled) (first bytes : ℕ) (tree : TreeOf (suc levels))
+      (trunks : List Trunk) (payload chain : List ℕ) → HasCells sizes old (interior_kind kind) page cells right → at ≤ length cells → (kind ≡ Table → Belongs cell.view.rowid at (views_in cells))
+      → PutBelow sizes kind levels (child_page at cells right) cell old between grew first bytes → page_of (suc levels) tree ≡ page → IsFree sizes old trunks
+      → IsReady sizes kind (suc levels) (before_at old tree trunks cell payload chain) → HasOpened (suc levels) (before_at old tree trunks cell payload chain) (with_dividers cells at grew) right first bytes between
+  interior-opened levels page cell old cells right at between grew first bytes tree trunks payload chain has within here put is free ready =
       let before : Before (suc levels) = before_at old tree trunks cell payload chain in
       let told = page-tells sizes old kind (suc levels) page tree cells right is has ready.stands in
       let few : at ≤ length tree.children = omega (arith, within, ap length told.0, cells-many tree.children) in
@@ -390,15 +545,28 @@ module _ (sizes : Sizes) (kind : TreeKind) where
       let done = put (child_at at tree.children tree.last) trunks payload chain child free (child-ready levels before at ready) in
       let after : After levels = record { base = between; siblings = done.siblings; home = done.home; trunks = done.trunks; first = first; bytes = bytes; chain = done.chain } in
       let place = λ (table : kind ≡ Table). subst (λ (views : List CellView). Belongs cell.view.rowid at views) (ap views_in told.0 ∙ views-of (cells_behind tree.children)) (here table) in
-      let opened = put-above sizes kind levels before at after ready.within ready.stands place done.put in
-      settled-done dividers (suc levels) before (interior_after levels before at after) (with_dividers cells at grew) right new (done.put.opened.turns.freelist free) opened refl
-      (
-      ap (λ (cs : List Spelled). with_dividers cs at grew) told.0
-      ∙ ap (λ (ds : List Spelled). with_dividers (map spelled (cells_behind tree.children)) at ds) (sym done.dividers_are)
-      ∙ dividers-put at tree.children done.siblings done.home few
-      )
-      (told.1 ∙ right-same levels at tree.children tree.last done.home done.put.opened.page)
-      (subst⁻¹ (λ (p : ℕ). IsSettled sizes (suc levels) kind p right (with_dividers cells at grew) between new dividers) is settle)
+      record {
+        after = interior_after levels before at after;
+        base_is = refl;
+        first_is = refl;
+        bytes_is = refl;
+        free = done.put.opened.turns.freelist free;
+        opened = put-above sizes kind levels before at after ready.within ready.stands place done.put;
+        none = refl;
+        cells_are = ap (λ (cs : List Spelled). with_dividers cs at grew) told.0
+            ∙ ap (λ (ds : List Spelled). with_dividers (map spelled (cells_behind tree.children)) at ds) (sym done.dividers_are)
+            ∙ dividers-put at tree.children done.siblings done.home few;
+        right_is = told.1 ∙ right-same levels at tree.children tree.last done.home done.put.opened.page;
+      }
+
+  -- A put below the child at the place where the cell belongs, and the page with the dividers that came, is a put below the page.
+  pub interior-step : (levels page : ℕ) (cell : Spelled) (old : Paged) (cells : List Spelled) (right at : ℕ) (between : Paged) (grew : List Spelled) (first bytes : ℕ) (new : Paged) (dividers : List Spelled)
+      → HasCells sizes old (interior_kind kind) page cells right → at ≤ length cells → (kind ≡ Table → Belongs cell.view.rowid at (views_in cells))
+      → PutBelow sizes kind levels (child_page at cells right) cell old between grew first bytes
+      → IsSettled sizes (suc levels) kind page right (with_dividers cells at grew) between new dividers → PutBelow sizes kind (suc levels) page cell old new dividers first bytes
+  interior-step levels page cell old cells right at between grew first bytes new dividers has within here put settle tree trunks payload chain is free ready =
+      opened-settled (suc levels) page (before_at old tree trunks cell payload chain) (with_dividers cells at grew) right first bytes between new dividers is
+      (interior-opened levels page cell old cells right at between grew first bytes tree trunks payload chain has within here put is free ready) settle
 
   children-alone : {Child : Type 0} (i : ℕ) (children : List (Child × TreeCell)) (home : Child) → cells_behind (children_with i children [] home) ≡ cells_behind children
   children-alone i [] home = refl
@@ -464,14 +632,6 @@ module _ (sizes : Sizes) (kind : TreeKind) where
         chain = done.chain;
         put = put-stays sizes kind levels before after done.put (none-map (λ (child : TreeOf levels × TreeCell). spelled child.1) done.siblings (sym (map-map spelled (λ (child : TreeOf levels × TreeCell). child.1) done.siblings) ∙ done.dividers_are));
       }
-
-  moved-cells : (levels fresh : ℕ) (tree : TreeOf levels) → own_cells levels (moved levels fresh tree) ≡ own_cells levels tree
-  moved-cells zero fresh tree = refl
-  moved-cells (suc levels) fresh tree = refl
-
-  moved-right : (levels fresh : ℕ) (tree : TreeOf levels) → own_right levels (moved levels fresh tree) ≡ own_right levels tree
-  moved-right zero fresh tree = refl
-  moved-right (suc levels) fresh tree = refl
 
   -- Where siblings came, the root gets a level more.
   pub root-deepens : (levels root : ℕ) (cell : Spelled) (old between new : Paged) (dividers : List Spelled) (first bytes : ℕ) → PutBelow sizes kind levels root cell old between dividers first bytes
@@ -553,44 +713,110 @@ index-map f [] i d = refl
 index-map f (y ∷ ys) zero d = refl
 index-map f (y ∷ ys) (suc i) d = index-map f ys i d
 
+-- A cell put among the cells of a leaf of an index leaves the leaf, which is to have them.
+entry-opened : (sizes : Sizes) (page : ℕ) (cell : Spelled) (old : Paged) (cells : List Spelled) (right at : ℕ) (tree : TreeOf zero) (trunks : List Trunk) (payload chain : List ℕ)
+    → HasCells sizes old (leaf_kind Index) page cells right → at ≤ length cells → page_of zero tree ≡ page → IsFree sizes old trunks
+    → IsReady sizes Index zero (before_at old tree trunks cell payload chain) → HasOpened sizes Index zero (before_at old tree trunks cell payload chain) (insert cells at cell) 0 0 0 old
+entry-opened sizes page cell old cells right at tree trunks payload chain has within is free ready =
+    let before : Before zero = before_at old tree trunks cell payload chain in
+    let told = page-tells sizes old Index zero page tree cells right is has ready.stands in
+    let few : at ≤ length tree.cells = omega (arith, within, ap length told.0, length-of spelled tree.cells) in
+    record {
+      after = leaf_after before (insert tree.cells at before.cell) 0 0 [];
+      base_is = refl;
+      first_is = refl;
+      bytes_is = refl;
+      free = free;
+      opened = leaf-inserted sizes Index before at ready few (λ table. absurd (let h : ⊥ = cc in h));
+      none = refl;
+      cells_are = ap (λ (cs : List Spelled). insert cs at cell) told.0 ∙ insert-map spelled tree.cells at before.cell few;
+      right_is = refl;
+    }
+
 -- A cell put among the cells of an index's leaf, which are then settled.
 pub entry-step : (sizes : Sizes) (page : ℕ) (cell : Spelled) (old : Paged) (cells : List Spelled) (right at : ℕ) (new : Paged) (dividers : List Spelled) → HasCells sizes old (leaf_kind Index) page cells right
     → at ≤ length cells → IsSettled sizes zero Index page 0 (insert cells at cell) old new dividers → PutBelow sizes Index zero page cell old new dividers 0 0
 entry-step sizes page cell old cells right at new dividers has within settle tree trunks payload chain is free ready =
-    let before : Before zero = before_at old tree trunks cell payload chain in
-    let told = page-tells sizes old Index zero page tree cells right is has ready.stands in
-    let few : at ≤ length tree.cells = omega (arith, within, ap length told.0, length-of spelled tree.cells) in
-    let opened = leaf-inserted sizes Index before at ready few (λ table. absurd (let h : ⊥ = cc in h)) in
-    settled-done sizes Index dividers zero before (leaf_after before (insert tree.cells at before.cell) 0 0 []) (insert cells at cell) 0 new free opened refl
-    (ap (λ (cs : List Spelled). insert cs at cell) told.0 ∙ insert-map spelled tree.cells at before.cell few) refl
-    (subst⁻¹ (λ (p : ℕ). IsSettled sizes zero Index p 0 (insert cells at cell) old new dividers) is settle)
+    opened-settled sizes Index zero page (before_at old tree trunks cell payload chain) (insert cells at cell) 0 0 0 old new dividers is
+    (entry-opened sizes page cell old cells right at tree trunks payload chain has within is free ready) settle
 
--- A cell put among the cells of a table's leaf, or in place of the one of its rowid.
-pub leaf-step : (sizes : Sizes) (page : ℕ) (cell : Spelled) (old : Paged) (cells : List Spelled) (right : ℕ) (edited : List Spelled) (first bytes : ℕ) (new : Paged) (dividers : List Spelled)
-    → HasCells sizes old (leaf_kind Table) page cells right → IsLeafEdit cells cell edited first bytes → IsSettled sizes zero Table page 0 edited old new dividers
-    → PutBelow sizes Table zero page cell old new dividers first bytes
-leaf-step sizes page cell old cells right edited first bytes new dividers has edit settle tree trunks payload chain is free ready =
+-- A cell put among the cells of a leaf of a table, or in place of the one of its rowid, leaves the leaf, which is to have them.
+leaf-opened : (sizes : Sizes) (page : ℕ) (cell : Spelled) (old : Paged) (cells : List Spelled) (right : ℕ) (edited : List Spelled) (first bytes : ℕ) (tree : TreeOf zero) (trunks : List Trunk) (payload chain : List ℕ)
+    → HasCells sizes old (leaf_kind Table) page cells right → IsLeafEdit cells cell edited first bytes → page_of zero tree ≡ page → IsFree sizes old trunks
+    → IsReady sizes Table zero (before_at old tree trunks cell payload chain) → HasOpened sizes Table zero (before_at old tree trunks cell payload chain) edited 0 first bytes old
+leaf-opened sizes page cell old cells right edited first bytes tree trunks payload chain has edit is free ready =
     let before : Before zero = before_at old tree trunks cell payload chain in
     let at = edit.place in
     let told = page-tells sizes old Table zero page tree cells right is has ready.stands in
     let views : views_in cells ≡ views_of tree.cells = ap views_in told.0 ∙ views-of tree.cells in
     let here = subst (Belongs cell.view.rowid at) views edit.here in
     let few = belongs-within cell.view.rowid at tree.cells here in
-    let settled_there = subst⁻¹ (λ (p : ℕ). IsSettled sizes zero Table p 0 edited old new dividers) is settle in
-    elim edit.is as (λ _. PutDone sizes Table zero before new dividers first bytes) [
+    elim edit.is as (λ _. HasOpened sizes Table zero before edited 0 first bytes old) [
       | inl put ↦
           let apart = λ (meets : Meets cell.view.rowid at (views_of tree.cells)). put.0 (subst⁻¹ (Meets cell.view.rowid at) views meets) in
-          let opened = leaf-inserted sizes Table before at ready few (λ table. (here, apart)) in
-          subst⁻¹ (λ (f : ℕ). PutDone sizes Table zero before new dividers f bytes) put.2
-          (subst⁻¹ (λ (b : ℕ). PutDone sizes Table zero before new dividers 0 b) put.3
-          (settled-done sizes Table dividers zero before (leaf_after before (insert tree.cells at before.cell) 0 0 []) edited 0 new free opened refl
-          (put.1 ∙ ap (λ (cs : List Spelled). insert cs at cell) told.0 ∙ insert-map spelled tree.cells at before.cell few) refl settled_there))
+          record {
+            after = leaf_after before (insert tree.cells at before.cell) 0 0 [];
+            base_is = refl;
+            first_is = sym put.2;
+            bytes_is = sym put.3;
+            free = free;
+            opened = leaf-inserted sizes Table before at ready few (λ table. (here, apart));
+            none = refl;
+            cells_are = put.1 ∙ ap (λ (cs : List Spelled). insert cs at cell) told.0 ∙ insert-map spelled tree.cells at before.cell few;
+            right_is = refl;
+          }
       | inr put ↦
           let meets = subst (Meets cell.view.rowid at) views put.0 in
           let was = slice_index_or tree.cells at before.cell in
           let same : slice_index_or cells at cell ≡ spelled was = ap (λ (cs : List Spelled). slice_index_or cs at cell) told.0 ∙ index-map spelled tree.cells at before.cell in
-          subst⁻¹ (λ (f : ℕ). PutDone sizes Table zero before new dividers f bytes) (put.2 ∙ ap (λ (c : Spelled). c.view.overflow) same)
-          (subst⁻¹ (λ (b : ℕ). PutDone sizes Table zero before new dividers was.view.overflow b) (put.3 ∙ ap (λ (c : Spelled). c.view.payload - c.view.local) same)
-          (settled-done sizes Table dividers zero before (leaf_after before (set tree.cells at before.cell) was.view.overflow (was.view.payload - was.view.local) was.chain) edited 0 new free
-          (leaf-met sizes before at ready meets) refl (put.1 ∙ ap (λ (cs : List Spelled). set cs at cell) told.0 ∙ set-map spelled tree.cells at before.cell) refl settled_there))
+          record {
+            after = leaf_after before (set tree.cells at before.cell) was.view.overflow (was.view.payload - was.view.local) was.chain;
+            base_is = refl;
+            first_is = sym (put.2 ∙ ap (λ (c : Spelled). c.view.overflow) same);
+            bytes_is = sym (put.3 ∙ ap (λ (c : Spelled). c.view.payload - c.view.local) same);
+            free = free;
+            opened = leaf-met sizes before at ready meets;
+            none = refl;
+            cells_are = put.1 ∙ ap (λ (cs : List Spelled). set cs at cell) told.0 ∙ set-map spelled tree.cells at before.cell;
+            right_is = refl;
+          }
     ]
+
+-- The leaf is settled then.
+pub leaf-step : (sizes : Sizes) (page : ℕ) (cell : Spelled) (old : Paged) (cells : List Spelled) (right : ℕ) (edited : List Spelled) (first bytes : ℕ) (new : Paged) (dividers : List Spelled)
+    → HasCells sizes old (leaf_kind Table) page cells right → IsLeafEdit cells cell edited first bytes → IsSettled sizes zero Table page 0 edited old new dividers
+    → PutBelow sizes Table zero page cell old new dividers first bytes
+leaf-step sizes page cell old cells right edited first bytes new dividers has edit settle tree trunks payload chain is free ready =
+    opened-settled sizes Table zero page (before_at old tree trunks cell payload chain) edited 0 first bytes old new dividers is
+    (leaf-opened sizes page cell old cells right edited first bytes tree trunks payload chain has edit is free ready) settle
+
+-- A root, whatever levels its tree has.
+
+-- a root that is a leaf has the cell where it keeps the cells that it is to have, or they are moved out
+pub leaf-rooted : (sizes : Sizes) (root : ℕ) (cell : Spelled) (old : Paged) (cells : List Spelled) (right : ℕ) (edited : List Spelled) (first bytes : ℕ) (new : Paged)
+    → HasCells sizes old (leaf_kind Table) root cells right → IsLeafEdit cells cell edited first bytes → IsRooted sizes zero Table root 0 edited old new → PutInto sizes Table root cell old new first bytes
+leaf-rooted sizes root cell old cells right edited first bytes new has edit rooted zero tree trunks payload chain is free ready =
+    opened-rooted sizes Table zero root (before_at old tree trunks cell payload chain) edited 0 first bytes old new is
+    (leaf-opened sizes root cell old cells right edited first bytes tree trunks payload chain has edit is free ready) rooted
+leaf-rooted sizes root cell old cells right edited first bytes new has edit rooted (suc levels) tree trunks payload chain is free ready =
+    absurd (none-suc sizes Table levels (leaf-levels sizes old Table (suc levels) root tree (bytes_in cells) right is has.is_page ready.stands.0))
+
+-- and one that is interior, where the child at the place of the cell has it
+pub interior-rooted : (sizes : Sizes) (kind : TreeKind) (root : ℕ) (cell : Spelled) (old : Paged) (cells : List Spelled) (right at : ℕ) (between : Paged) (grew : List Spelled) (first bytes : ℕ) (new : Paged)
+    → HasCells sizes old (interior_kind kind) root cells right → at ≤ length cells → (kind ≡ Table → Belongs cell.view.rowid at (views_in cells))
+    → PutUnder sizes kind (child_page at cells right) cell old between grew first bytes
+    → ((levels : ℕ) → IsRooted sizes (suc levels) kind root right (with_dividers cells at grew) between new) → PutInto sizes kind root cell old new first bytes
+interior-rooted sizes kind root cell old cells right at between grew first bytes new has within here put rooted zero tree trunks payload chain is free ready =
+    absurd (interior-levels sizes old kind zero root tree (bytes_in cells) right is has.is_page ready.stands.0 refl)
+interior-rooted sizes kind root cell old cells right at between grew first bytes new has within here put rooted (suc levels) tree trunks payload chain is free ready =
+    opened-rooted sizes kind (suc levels) root (before_at old tree trunks cell payload chain) (with_dividers cells at grew) right first bytes between new is
+    (interior-opened sizes kind levels root cell old cells right at between grew first bytes tree trunks payload chain has within here (put levels) is free ready) (rooted levels)
+
+-- or it stays as it is, where no divider came
+pub interior-stays : (sizes : Sizes) (kind : TreeKind) (root : ℕ) (cell : Spelled) (old : Paged) (cells : List Spelled) (right at : ℕ) (new : Paged) (first bytes : ℕ)
+    → HasCells sizes old (interior_kind kind) root cells right → (kind ≡ Table → Belongs cell.view.rowid at (views_in cells))
+    → PutUnder sizes kind (child_page at cells right) cell old new [] first bytes → PutInto sizes kind root cell old new first bytes
+interior-stays sizes kind root cell old cells right at new first bytes has here put zero tree trunks payload chain is free ready =
+    absurd (interior-levels sizes old kind zero root tree (bytes_in cells) right is has.is_page ready.stands.0 refl)
+interior-stays sizes kind root cell old cells right at new first bytes has here put (suc levels) tree trunks payload chain is free ready =
+    root-step sizes kind (suc levels) root cell old new first bytes (interior-untouched sizes kind levels root cell old cells right at new first bytes has here (put levels)) tree trunks payload chain is free ready

@@ -10,7 +10,7 @@ ghost use Rattle.tree_spec.specs.Worlds.{IsWorld, greatest_count, with_tree};
 ghost use Rattle.tree_spec.specs.Changes.{Within, Turns, Writes};
 ghost use Rattle.put_spec.specs.Children.{Belongs, Meets, PutIn, Rises, views_of};
 ghost use Rattle.put_spec.specs.Puts.{Before, After, HasRowid, before_of, hand_before, child_before, interior_after, leaf_after, IsCut, cut_after, moved, deeper, IsReady, IsOpened, IsPut, IsRootPut};
-ghost use Rattle.put_spec.specs.Steps.{Spelled, spelled, views_in, HasCells, child_page, with_dividers, IsSettled, PutBelow, PutAt, PutUnder, PutInto, IsDeepened, IsLeafEdit, GivesBack, IsWorldPut};
+ghost use Rattle.put_spec.specs.Steps.{Spelled, spelled, views_in, HasCells, child_page, with_dividers, IsSettled, IsRooted, PutBelow, PutAt, PutUnder, PutInto, IsDeepened, IsLeafEdit, GivesBack, IsWorldPut};
 
 /// Where a child has had the put, its parent has, but for the writing of its own page.
 pub fn put_child_opens_its_parent()
@@ -129,6 +129,19 @@ pub fn root_has_the_cell()
     ensures deepened { (sizes : Sizes) (kind : TreeKind) (levels root : ℕ) (cell : Spelled) (old between new : Paged) (dividers : List Spelled) (first bytes : ℕ)
         → PutBelow sizes kind levels root cell old between dividers first bytes
         → IsDeepened sizes (kind_at kind levels) kind root dividers between new → PutAt sizes kind levels root cell old new first bytes }
+{}
+
+/// A root that keeps the cells that it is to have, or from which they are moved out to pages that are taken, has the cell, whatever levels its tree has.
+pub fn root_keeps_or_moves_out()
+    ensures leaf { (sizes : Sizes) (root : ℕ) (cell : Spelled) (old : Paged) (cells : List Spelled) (right : ℕ) (edited : List Spelled) (first bytes : ℕ) (new : Paged)
+        → HasCells sizes old (leaf_kind Table) root cells right → IsLeafEdit cells cell edited first bytes → IsRooted sizes zero Table root 0 edited old new → PutInto sizes Table root cell old new first bytes }
+    ensures interior { (sizes : Sizes) (kind : TreeKind) (root : ℕ) (cell : Spelled) (old : Paged) (cells : List Spelled) (right at : ℕ) (between : Paged) (grew : List Spelled) (first bytes : ℕ) (new : Paged)
+        → HasCells sizes old (interior_kind kind) root cells right → at ≤ length cells → (kind ≡ Table → Belongs cell.view.rowid at (views_in cells))
+        → PutUnder sizes kind (child_page at cells right) cell old between grew first bytes
+        → ((levels : ℕ) → IsRooted sizes (suc levels) kind root right (with_dividers cells at grew) between new) → PutInto sizes kind root cell old new first bytes }
+    ensures untouched { (sizes : Sizes) (kind : TreeKind) (root : ℕ) (cell : Spelled) (old : Paged) (cells : List Spelled) (right at : ℕ) (new : Paged) (first bytes : ℕ)
+        → HasCells sizes old (interior_kind kind) root cells right → (kind ≡ Table → Belongs cell.view.rowid at (views_in cells))
+        → PutUnder sizes kind (child_page at cells right) cell old new [] first bytes → PutInto sizes kind root cell old new first bytes }
 {}
 
 /// What a writer did in a world is a put into one of its trees: the world holds again, this tree's list has the member, and all other trees are as they were.

@@ -15,5 +15,6 @@ pub use laws::{
     cell_is_put_in_a_leaf, cell_is_replaced_in_a_leaf, cut_page_is_opened, depth_need_not_be_known,
     leaf_has_the_cell, page_tells_its_tree, parent_has_the_cell, put_begins_in_a_world,
     put_changes_one_row, put_child_opens_its_parent, put_gives_a_world, root_gets_a_level,
-    root_has_the_cell, root_moves_out, root_stays, writer_keeps_the_world, written_page_is_put,
+    root_has_the_cell, root_keeps_or_moves_out, root_moves_out, root_stays, writer_keeps_the_world,
+    written_page_is_put,
 };

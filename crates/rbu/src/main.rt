@@ -1,20 +1,21 @@
 //! The program `rbu COMMAND TARGET RBU STATE ARG ..`, a bulk updater for SQLite files.
 //!
-//! The command and its arguments go to `run_command` of `rbu_run`, whose contract says what is done. Until the disk
-//! of real files is built, it runs over two small databases in memory, and the three paths name nothing.
+//! The command and its arguments go to `run_command` of `rbu_run`, whose contract says what is done, with the disk of real
+//! files at the three paths.
 #![tactic(auto)]
 
-mod example;
-mod output;
 mod program;
 #[cfg(test)]
 mod tests;
 
-use output::Output;
-use program::program;
+use disk_host::HostSink;
+use program::{UNAVAILABLE, program};
 use std::process::ExitCode;
 
 fn main(rt: HostRuntime) -> ExitCode {
-    let mut out = Output::new(rt.stdout());
-    ExitCode::from(program(&rt, &mut out))
+    let status = match HostSink::new(&rt) {
+        Ok(mut out) => program(&rt, &rt, &mut out),
+        Err(_) => UNAVAILABLE,
+    };
+    ExitCode::from(status)
 }

@@ -3,7 +3,7 @@ use Rattle.std.specs.Prelude.{◌≡◌, ◌≤◌, Option, Some, None, Result, 
 use Rattle.common_spec.specs.Told.{Leads}
 use Rattle.file_spec.specs.Files.{Files}
 use Rattle.file_spec.specs.Records.{Record}
-use Rattle.file_spec.specs.Trails.{Passes}
+use Rattle.file_spec.specs.Trails.{Trail}
 use Rattle.rbu_disk.specs.declared.disk.Disk.{Ghosts}
 use Rattle.rbu_disk.specs.declared.disk.DiskFault.{DiskFault}
 use Rattle.rbu_disk.specs.Call.{Failures, Fails}
@@ -23,9 +23,13 @@ module _ {D : Type 0} (g : Ghosts D) where
   abbrev pub Goes : D → D → (Files → Files → Type 0) → Type 0
   Goes before after R = Leads R (g.shown before) (g.shown after)
 
-  -- what holds of the record of a moment goes on holding: where it holds now, it holds of each moment that comes
-  abbrev pub Keeps : D → D → (Record → Type 0) → Type 0
-  Keeps before after Q = Leads (λ a b. Q a.now.at → Passes Q a b) (g.trail before) (g.trail after)
+  -- the disk's moments went on by R, where it tells them
+  abbrev pub GoesOn : D → D → (Trail → Trail → Type 0) → Type 0
+  GoesOn before after R = Leads R (g.trail before) (g.trail after)
+
+  -- the record of the moment now has P, where the disk tells it
+  abbrev pub HasNow : D → (Record → Type 0) → Type 0
+  HasNow disk P = IfSome (g.trail disk) (λ t. P t.now.at)
 
   -- the disk stays, but for its count of faults, and what is answered holds of the files, where the disk tells them
   pub record Looks {T E : Type 0} (before after : D) (result : Result T E) (Is : T → Files → Type 0) : Type 0 where

@@ -1,7 +1,7 @@
 -- What the status of an answer says of crashes.
 use Rattle.std.proofs.Common.{◌≡◌, ◌≢◌, ◌⊎◌, ℕ, List, Option, IfSome, sym, ◌∙◌, subst, inl, inr, arith}
 use Rattle.common_spec.specs.Told.{Leads}
-use Rattle.common_spec.specs.ToldLaws.{Leads-same, Leads-weaken}
+use Rattle.common_spec.specs.ToldLaws.{Leads-same, Leads-weaken, IfSome-led}
 use Rattle.file_spec.specs.declared.FileName.TheVariants.{Target}
 use Rattle.file_spec.specs.Records.{Record, Every, shown_files}
 use Rattle.file_spec.specs.Trails.{Trail}
@@ -19,7 +19,6 @@ use Rattle.rbu_run.specs.Crash.{MomentsShow, IsStableAnswer, Survives}
 use Rattle.rbu_run.specs.Status.{HasEnded, IsOfWords}
 use Rattle.rbu_run.specs.Told.{IsTold}
 use Rattle.rbu_run.proofs.Answering.{IsTellable, usage-asks_no_update}
-use Rattle.rbu_run.proofs.Moments.{Leads-after}
 
 -- what a crash may leave behind an answer of the words
 pub record Crashes (words : List (List ℕ)) (before after : Option Trail) (answer : Answer) : Type 0 where
@@ -89,7 +88,7 @@ module _ {O : Type 0} {o : sink.Ghosts O} (x y : O) (answer : Answer) (status : 
   ended-not_eight (inr (inr e)) eight = omega (arith, e, eight)
 
   pub survives-names : {a b : Option Trail} → Leads (Survives (IsStableAnswer answer)) a b → HasEnded status → IfSome b (λ t. HasShownNames t.now.at)
-  survives-names survives ended = Leads-after survives (λ s t end. ended-shown_names answer t.now.at (subst HasEnded (told-answer_status (ended-not_eight ended)) ended) end.end)
+  survives-names survives ended = IfSome-led _ survives (λ s t end. ended-shown_names answer t.now.at (subst HasEnded (told-answer_status (ended-not_eight ended)) ended) end.end)
 
   pub survives-target : {a b : Option Trail} → Leads (Survives (IsStableAnswer answer)) a b → status ≡ 0 → IfSome b (λ t. HasShownFile Target t.now.at)
-  survives-target survives zero = Leads-after survives (λ s t end. done-shown_target answer t.now.at (sym (told-answer_status (λ eight. omega (arith, zero, eight))) ∙ zero) end.end)
+  survives-target survives zero = IfSome-led _ survives (λ s t end. done-shown_target answer t.now.at (sym (told-answer_status (λ eight. omega (arith, zero, eight))) ∙ zero) end.end)

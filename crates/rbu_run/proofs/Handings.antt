@@ -1,7 +1,7 @@
 -- What a crash may leave while the handover goes from phase to phase.
 use Rattle.std.proofs.Common.{◌≡◌, ◌⊎◌, ℕ, List, [], length, Option, Some, None, option_map, unwrap_or, IfSome, refl, sym, ap, ◌∙◌, subst, inl, inr, arith}
 use Rattle.common_spec.specs.Told.{Leads}
-use Rattle.common_spec.specs.ToldLaws.{Leads-then, Leads-weaken, Leads-known}
+use Rattle.common_spec.specs.ToldLaws.{Leads-then, Leads-weaken, Leads-known, Leads-both}
 use Rattle.file_spec.specs.declared.FileName.{FileName}
 use Rattle.file_spec.specs.declared.FileName.TheVariants.{Target, Oal, Wal, Journal, Rbu, State, StateTemp}
 use Rattle.file_spec.specs.Files.{Files, content, with_file}
@@ -13,7 +13,6 @@ use Rattle.update_spec.specs.Crashes.{HasShownFile}
 use Rattle.rbu_run.specs.Handover.{log_of, IsAlone}
 use Rattle.rbu_run.specs.Crash.{HasFirmNames, LooksAsBefore, IsImageMidway, CrashesMidway}
 use Rattle.rbu_run.specs.Phases.{Building, Between, Logged, HasStable, KeepsBuilding, KeepsBetween, MovesLog, HasMovedLog, KeepsLogged}
-use Rattle.rbu_run.proofs.Moments.{Leads-both}
 use Rattle.rbu_run.proofs.PhaseSteps.{IsUnlogged, building-whole, building-image, between-image, logged-image, logged-copied}
 
 -- a name that shows no file has none

@@ -1,7 +1,7 @@
 -- How the moments of a disk go on over the calls of a function.
-use Rattle.std.proofs.Common.{◌≡◌, Option, Some, None, option_map, Result, Ok, Err, OnOk, IfSome, refl, subst}
+use Rattle.std.proofs.Common.{◌≡◌, Option, option_map, Result, Ok, Err, OnOk, IfSome, subst}
 use Rattle.common_spec.specs.Told.{Leads}
-use Rattle.common_spec.specs.ToldLaws.{Leads-weaken}
+use Rattle.common_spec.specs.ToldLaws.{Leads-weaken, part-Leads, part-IfSome}
 use Rattle.file_spec.specs.declared.FileName.{FileName}
 use Rattle.file_spec.specs.declared.DiskCall.{DiskCall}
 use Rattle.file_spec.specs.Files.{Files}
@@ -11,35 +11,6 @@ use Rattle.file_spec.specs.TrailsLaws.{Adds-passes, Fails-passes}
 use Rattle.file_spec.specs.Steps.{Fails}
 use Rattle.rbu_disk.specs.declared.disk.Disk.{Ghosts}
 use Rattle.rbu_disk.specs.Call.{LeadsBy}
-
--- two relations of one step
-pub Leads-both : {S : Type 0} {P Q : S → S → Type 0} {x y : Option S} → Leads P x y → Leads Q x y → Leads (λ a b. P a b × Q a b) x y
-Leads-both {x = None} p q = record { goes_on = p.goes_on; step = tt }
-Leads-both {x = Some a} {y = None} p q = record { goes_on = p.goes_on; step = tt }
-Leads-both {x = Some a} {y = Some b} p q = record { goes_on = p.goes_on; step = (p.step, q.step) }
-
--- what a step leaves of the state
-pub Leads-after : {S : Type 0} {R : S → S → Type 0} {P : S → Type 0} {x y : Option S} → Leads R x y → ((a b : S) → R a b → P b) → IfSome y P
-Leads-after {x = x} {y = None} led w = tt
-Leads-after {x = None} {y = Some b} led w = absurd (let e = led.goes_on in cc)
-Leads-after {x = Some a} {y = Some b} led w = w a b led.step
-
--- a step, and what is known of the state that it leaves
-pub Leads-ending : {S : Type 0} {R : S → S → Type 0} {P : S → Type 0} {x y : Option S} → Leads R x y → IfSome y P → Leads (λ a b. R a b × P b) x y
-Leads-ending {x = None} led p = record { goes_on = led.goes_on; step = tt }
-Leads-ending {x = Some a} {y = None} led p = record { goes_on = led.goes_on; step = tt }
-Leads-ending {x = Some a} {y = Some b} led p = record { goes_on = led.goes_on; step = (led.step, p) }
-
--- what is said of one part of a state
-pub part-Leads : {S T : Type 0} (part : S → T) (R : T → T → Type 0) (x y : Option S) → Leads R (option_map part x) (option_map part y) → Leads (λ a b. R (part a) (part b)) x y
-part-Leads part R None None led = record { goes_on = refl; step = tt }
-part-Leads part R None (Some b) led = absurd (let e = led.goes_on in cc)
-part-Leads part R (Some a) None led = absurd (let e = led.goes_on in cc)
-part-Leads part R (Some a) (Some b) led = record { goes_on = refl; step = led.step }
-
-pub part-IfSome : {S T : Type 0} (part : S → T) (P : T → Type 0) (x : Option S) → IfSome (option_map part x) P → IfSome x (λ a. P (part a))
-part-IfSome part P None p = tt
-part-IfSome part P (Some a) p = p
 
 module _ {D : Type 0} (d : Ghosts D) (tied : (disk : D) → d.shown disk ≡ option_map (λ (t : Trail). shown_files t.now.at) (d.trail disk)) where
   -- what is said of the shown files, said of the records

@@ -1,5 +1,5 @@
 -- Parts that are written one after the other.
-use Rattle.std.proofs.Common.{◌≡◌, ℕ, ◌+◌, ◌<◌, ◌≤◌, List, [], ◌∷◌, ◌++◌, length, get_or, take, drop, Result, Ok, Err, OnOk, OnErr, IfOk, IfErr, sym, ap, ◌∙◌, arith, append-nil, length-append}
+use Rattle.std.proofs.Common.{◌≡◌, ℕ, ◌+◌, ◌<◌, ◌≤◌, List, [], ◌∷◌, ◌++◌, length, get_or, take, drop, Result, Ok, Err, OnOk, OnErr, sym, ap, ◌∙◌, arith, append-nil, length-append}
 use Rattle.std.specs.List.{flat_map}
 use Rattle.std.proofs.lemmas.List.{take_more, take-append-drop}
 use Rattle.std.proofs.lemmas.List.Concat.{flat_map-append}
@@ -30,24 +30,3 @@ pub length-five_parts : (a b c d e : List ℕ) → length a ≡ 32 → length b 
 length-five_parts a b c d e la lb lc ld le =
     let total : length (a ++ (b ++ (c ++ (d ++ (e ++ []))))) ≡ 8272 = simp length-append (omega (arith, la, lb, lc, ld, le)) in
     omega (arith, total)
-
-pub on-ok-map : {X E : Type 0} {P Q : Type 0} (r : Result X E) → OnOk r P → (P → Q) → OnOk r Q
-on-ok-map (Ok x) p f = f p
-on-ok-map (Err e) p f = tt
-
-pub on-err-map : {X E : Type 0} {P Q : Type 0} (r : Result X E) → OnErr r P → (P → Q) → OnErr r Q
-on-err-map (Ok x) p f = tt
-on-err-map (Err e) p f = f p
-
-pub if-ok-map : {X E : Type 0} {P Q : X → Type 0} (r : Result X E) → IfOk r P → ((x : X) → P x → Q x) → IfOk r Q
-if-ok-map (Ok x) p f = f x p
-if-ok-map (Err e) p f = tt
-
-pub if-err-map : {X E : Type 0} {P Q : E → Type 0} (r : Result X E) → IfErr r P → ((e : E) → P e → Q e) → IfErr r Q
-if-err-map (Ok x) p f = tt
-if-err-map (Err e) p f = f e p
-
--- a fact that holds after either end holds
-pub on-either : {X E : Type 0} {P Q T : Type 0} (r : Result X E) → OnOk r P → OnErr r Q → (P → T) → (Q → T) → T
-on-either (Ok x) p q f g = f p
-on-either (Err e) p q f g = g q

@@ -1,7 +1,7 @@
 -- What each call of the handover makes of the moments, and how they join.
 use Rattle.std.proofs.Common.{◌≡◌, ℕ, List, length, Option, Some, None, option_map, Result, IfSome, sym, ap, ◌∙◌, subst}
 use Rattle.common_spec.specs.Told.{Leads}
-use Rattle.common_spec.specs.ToldLaws.{Leads-here, Leads-then}
+use Rattle.common_spec.specs.ToldLaws.{Leads-here, Leads-then, IfSome-led}
 use Rattle.file_spec.specs.declared.FileName.{FileName}
 use Rattle.file_spec.specs.declared.FileName.TheVariants.{Target, Oal, Wal}
 use Rattle.file_spec.specs.declared.DiskCall.{DiskCall}
@@ -14,7 +14,7 @@ use Rattle.file_spec.specs.Steps.{Changes, Written, Torn, synced_at, removed_at,
 use Rattle.rbu_disk.specs.Call.{LeadsBy}
 use Rattle.update_spec.specs.Crashes.{HasShownNames, HasShownFile}
 use Rattle.rbu_run.specs.Phases.{Building, Between, Logged, HasStable, KeepsBuilding, KeepsBetween, MovesLog, HasMovedLog, KeepsLogged}
-use Rattle.rbu_run.proofs.Moments.{Leads-after, led-by, adds-keeps, fails-keeps}
+use Rattle.rbu_run.proofs.Moments.{led-by, adds-keeps, fails-keeps}
 use Rattle.rbu_run.proofs.PhaseSteps.{synced-stable, building-changes, building-synced, between-renamed, renamed-log, between-settled, between-logged, between-removed, logged-changes, logged-synced}
 
 -- the record that a call left
@@ -114,7 +114,7 @@ logged-stable {x = x} {y = y} result led =
 
 -- what a sync of the folder leaves
 pub folder-names : {x y : Option Trail} → Leads AfterFolderSync x y → IfSome y (λ t. HasShownNames t.now.at)
-folder-names folder = Leads-after folder (λ a b fol.
+folder-names folder = IfSome-led _ folder (λ a b fol.
     subst HasShownNames (sym (Adds-now Target call.SyncFolder (λ r after. after ≡ folder_synced r) a b fol)) (λ left image. settled-names a.now.at left image))
 
 HasStable-removed : (r : Record) (number : Option ℕ) (bytes : List ℕ) → HasStable Target bytes r → HasStable Target bytes (removed_at r Wal number)

@@ -1,7 +1,7 @@
 -- What a crash may leave however the update ended.
 use Rattle.std.proofs.Common.{◌≡◌, ℕ, List, Option, Result, Ok, Err, IsErrAnd, IfSome, sym, ap, ◌∙◌, subst, inl, inr}
 use Rattle.common_spec.specs.Told.{Leads}
-use Rattle.common_spec.specs.ToldLaws.{Leads-here, Leads-then, Leads-weaken, Leads-known}
+use Rattle.common_spec.specs.ToldLaws.{Leads-here, Leads-then, Leads-weaken, Leads-known, Leads-both, Leads-ending}
 use Rattle.file_spec.specs.declared.FileName.TheVariants.{Target}
 use Rattle.file_spec.specs.declared.DiskCall.TheVariants.{SyncFolder}
 use Rattle.file_spec.specs.Files.{Files}
@@ -23,7 +23,6 @@ use Rattle.rbu_run.specs.declared.halt.Halt.{Halt}
 use Rattle.rbu_run.specs.Handover.{IsAlone}
 use Rattle.rbu_run.specs.Crash.{HasFirmNames, IsImageMidway, CrashesMidway, MomentsShow, IsStableEnd, Survives}
 use Rattle.rbu_run.proofs.Endings.{view-logged}
-use Rattle.rbu_run.proofs.Moments.{Leads-both, Leads-ending}
 
 -- each image of a handover shows the old database or the new one
 pub shows-midway : (salt : ℕ × ℕ) (r : Record) (bytes : List ℕ) → AreWords salt → AreNewBytes (shown_files r) bytes → ImagesKeepView r →

@@ -1,11 +1,9 @@
 -- What a crash may leave while the pages reach the target, and how the update ended for a crash.
-use Rattle.std.specs.Prelude.{◌≡◌, ◌⊎◌, ℕ, List, [], Some, None, Result, Ok, Err, IfSome}
-use Rattle.common_spec.specs.Told.{Leads}
+use Rattle.std.specs.Prelude.{◌≡◌, ◌⊎◌, ℕ, List, [], Some, None, Result, Ok, Err}
 use Rattle.file_spec.specs.declared.FileName.TheVariants.{Target, Wal}
 use Rattle.file_spec.specs.Files.{Files}
 use Rattle.file_spec.specs.Records.{Record, Every, IsImage, shown_files}
 use Rattle.file_spec.specs.Trails.{Trail, Passes}
-use Rattle.rbu_disk.specs.declared.disk.Disk.{Ghosts}
 use Rattle.update_spec.specs.declared.Outcome.{Outcome}
 use Rattle.update_spec.specs.declared.Outcome.TheVariants.{Done, KeyPresent, Refused}
 use Rattle.update_spec.specs.declared.Answer.{Answer}
@@ -15,15 +13,6 @@ use Rattle.update_spec.specs.Crashes.{ImagesKeepView, HasShownNames, HasShownFil
 use Rattle.small_spec.specs.SmallUpdate.{small_inserts}
 use Rattle.rbu_run.specs.declared.halt.Halt.{Halt}
 use Rattle.rbu_run.specs.Handover.{log_of, IsAlone}
-
-module _ {D : Type 0} (g : Ghosts D) where
-  -- the disk's moments went on by R, where it tells them
-  abbrev pub GoesOn : D → D → (Trail → Trail → Type 0) → Type 0
-  GoesOn before after R = Leads R (g.trail before) (g.trail after)
-
-  -- the record of the moment now has P, where the disk tells it
-  abbrev pub HasNow : D → (Record → Type 0) → Type 0
-  HasNow disk P = IfSome (g.trail disk) (λ t. P t.now.at)
 
 -- no change of a name is pending
 abbrev pub HasFirmNames : Record → Type 0

@@ -4,12 +4,12 @@ ghost use Rattle.std.specs.List.{flat_map};
 ghost use Rattle.file_spec.specs.declared.FileName.TheVariants.{Target, Oal, Wal};
 ghost use Rattle.file_spec.specs.Files.{content, with_file, after_remove, after_rename, OnlyChanges};
 ghost use Rattle.file_spec.specs.Records.{shown_files};
-ghost use Rattle.rbu_disk.specs.Disk.{AllowsAll, Goes, Owes};
+ghost use Rattle.rbu_disk.specs.Disk.{AllowsAll, Goes, GoesOn, HasNow, Owes};
 ghost use Rattle.format_spec.specs.Log.{AreWords, pair_of};
 ghost use Rattle.rbu_run.specs.Halt.{FailsAtChange};
 ghost use Rattle.rbu_run.specs.Handover.{log_of, IsAlone, HasPages, IsMidway};
 ghost use Rattle.rbu_run.specs.Phases.{HasStable, KeepsBuilding, KeepsBetween, MovesLog, HasMovedLog, KeepsLogged};
-ghost use Rattle.rbu_run.specs.Crash.{GoesOn, HasNow, CrashesMidway};
+ghost use Rattle.rbu_run.specs.Crash.{CrashesMidway};
 ghost use Rattle.update_spec.specs.Crashes.{HasShownNames, HasShownFile};
 
 use rbu_disk::{Disk, DiskFault, FileName};

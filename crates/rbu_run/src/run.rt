@@ -1,6 +1,6 @@
 // The commands, from the words in to the line out.
 ghost use Rattle.std.specs.Prelude.{◌≡◌, ◌≢◌, ◌⊎◌, ◌↔◌, map, string_bytes, IsTrue};
-ghost use Rattle.rbu_disk.specs.Disk.{AllowsAll, Goes};
+ghost use Rattle.rbu_disk.specs.Disk.{AllowsAll, Goes, GoesOn, HasNow};
 ghost use Rattle.format_spec.specs.Log.{pair_of};
 ghost use Rattle.update_spec.specs.declared.Command.TheVariants.{Apply};
 ghost use Rattle.update_spec.specs.declared.Answer.TheVariants.{Usage};
@@ -9,7 +9,7 @@ ghost use Rattle.update_spec.specs.Update.{SeesOldOrNew};
 ghost use Rattle.update_spec.specs.Crashes.{HasShownFile, HasShownNames, LeavesOldOrNew};
 ghost use Rattle.update_spec.specs.Words.{IsUsage, AsksUpdate, AsksMore};
 ghost use Rattle.small_spec.specs.SmallUpdate.{IsFinished, small_inserts};
-ghost use Rattle.rbu_run.specs.Crash.{GoesOn, HasNow, IsStableAnswer, Survives};
+ghost use Rattle.rbu_run.specs.Crash.{IsStableAnswer, Survives};
 ghost use Rattle.rbu_run.specs.Ending.{EndsAs};
 ghost use Rattle.rbu_run.specs.Handover.{KeepsOthers, LeavesLog};
 ghost use Rattle.rbu_run.specs.Status.{HasEnded, Tells, TellsFault, KeepsOnFault, KeepsOnRefusal, HasStatusOf, IsStatus, IsOfWords, IsCounted, CountsCalls, CountsWrites};

@@ -2,14 +2,14 @@
 ghost use Rattle.std.specs.Prelude.{◌≡◌, ◌≤◌, ℕ, List, length, OnOk, OnErr};
 ghost use Rattle.file_spec.specs.declared.FileName.TheVariants.{Target};
 ghost use Rattle.file_spec.specs.Records.{shown_files};
-ghost use Rattle.rbu_disk.specs.Disk.{AllowsAll, Goes, Owes, OwesBy};
+ghost use Rattle.rbu_disk.specs.Disk.{AllowsAll, Goes, GoesOn, HasNow, Owes, OwesBy};
 ghost use Rattle.format_spec.specs.Log.{AreWords, pair_of};
 ghost use Rattle.refusal.specs.declared.Refusal.TheVariants.{NotYet};
 ghost use Rattle.update_spec.specs.declared.Outcome.TheVariants.{Refused};
 ghost use Rattle.update_spec.specs.Crashes.{HasShownNames, HasShownFile};
 ghost use Rattle.small_spec.specs.SmallFile.{IsSmallTarget, IsSmallRbu};
 ghost use Rattle.small_spec.specs.Inserts.{new_pages, page_room};
-ghost use Rattle.rbu_run.specs.Crash.{CrashesMidway, GoesOn, HasFirmNames, HasNow, IsStableEnd, Survives};
+ghost use Rattle.rbu_run.specs.Crash.{CrashesMidway, HasFirmNames, IsStableEnd, Survives};
 ghost use Rattle.rbu_run.specs.Ending.{Ends};
 ghost use Rattle.rbu_run.specs.Halt.{fault_in, FailsAtChange};
 ghost use Rattle.rbu_run.specs.Handover.{HasPages, IsAlone, IsMidway};

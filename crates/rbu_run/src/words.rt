@@ -1,7 +1,6 @@
 // The words of a command, read by hand.
-ghost use Rattle.std.specs.Prelude.{◌≡◌, ◌≢◌, ◌≤◌, ◌↔◌, ℕ, map, string_bytes, length, slice_index, IsTrue, IfSome, Some};
-ghost use Rattle.update_spec.specs.Words.{AreWords, IsNumber, IsCount, IsSeed, IsSteps};
-ghost use Rattle.update_spec.specs.declared.Command.TheVariants.{Trial};
+ghost use Rattle.std.specs.Prelude.{◌≡◌, ◌≢◌, ◌≤◌, ◌↔◌, ℕ, map, string_bytes, length, slice_index, IsTrue, IfSome, Some, [], ◌∷◌};
+ghost use Rattle.update_spec.specs.Words.{AreWords, IsNumber};
 ghost use Rattle.update_spec.specs.declared.Command.{Command};
 
 use update_spec::Command;
@@ -32,16 +31,63 @@ fn number(word: &str, least: u32, most: u32) -> Option<u32>
     }
 }
 
-/// The command `trial` with these numbers, where the words are numbers in their ranges.
-fn trial(count: &str, seed: &str, steps: &str) -> Option<Command>
-    ensures found { IfSome result (λ command. (a : ℕ) × (b : ℕ) × (c : ℕ) × (command ≡ Trial a b c)
-        × IsCount count.now a × IsSeed seed.now b × IsSteps steps.now c) }
-    ensures only { (a b c : ℕ) → IsCount count.now a → IsSeed seed.now b → IsSteps steps.now c → result ≡ Some (Trial a b c) }
+/// The command that is one word.
+fn of_one(name: &str) -> Option<Command>
+    ensures found { IfSome result (AreWords (name.now ∷ [])) }
+    ensures only { (command : Command) → AreWords (name.now ∷ []) command → result ≡ Some command }
 {
-    let count = number(count, 1, 200_000)?;
-    let seed = number(seed, 0, u32::MAX)?;
-    let steps = number(steps, 1, u32::MAX)?;
-    Some(Command::Trial { count, seed, steps })
+    match name {
+        "state" => Some(Command::State),
+        "check" => Some(Command::Check),
+        _ => None,
+    }
+}
+
+/// The command that is two words.
+fn of_two(name: &str, word: &str) -> Option<Command>
+    ensures found { IfSome result (AreWords (name.now ∷ word.now ∷ [])) }
+    ensures only { (command : Command) → AreWords (name.now ∷ word.now ∷ []) command → result ≡ Some command }
+{
+    match name {
+        "apply" => Some(Command::Apply {
+            steps: number(word, 1, u32::MAX)?,
+        }),
+        "dump" => Some(Command::Dump),
+        _ => None,
+    }
+}
+
+/// The command that is three words.
+fn of_three(name: &str, first: &str, second: &str) -> Option<Command>
+    ensures found { IfSome result (AreWords (name.now ∷ first.now ∷ second.now ∷ [])) }
+    ensures only { (command : Command) → AreWords (name.now ∷ first.now ∷ second.now ∷ []) command → result ≡ Some command }
+{
+    match name {
+        "make" => Some(Command::Make {
+            count: number(first, 1, 200_000)?,
+            seed: number(second, 0, u32::MAX)?,
+        }),
+        "beside" => Some(Command::Beside {
+            readers: number(first, 1, 16)?,
+            reads: number(second, 1, 1000)?,
+        }),
+        _ => None,
+    }
+}
+
+/// The command that is four words.
+fn of_four(name: &str, first: &str, second: &str, third: &str) -> Option<Command>
+    ensures found { IfSome result (AreWords (name.now ∷ first.now ∷ second.now ∷ third.now ∷ [])) }
+    ensures only { (command : Command) → AreWords (name.now ∷ first.now ∷ second.now ∷ third.now ∷ []) command → result ≡ Some command }
+{
+    match name {
+        "trial" => Some(Command::Trial {
+            count: number(first, 1, 200_000)?,
+            seed: number(second, 0, u32::MAX)?,
+            steps: number(third, 1, u32::MAX)?,
+        }),
+        _ => None,
+    }
 }
 
 /// The command that has these words, or `None` where no command has them.
@@ -49,23 +95,16 @@ pub fn command_of(words: &[String]) -> Option<Command>
     ensures found { IfSome result (AreWords (map string_bytes words.now)) }
     ensures only { (command : Command) → AreWords (map string_bytes words.now) command → result ≡ Some command }
 {
-    let (name, arguments) = words.split_first()?;
-    match (name.as_str(), arguments) {
-        ("apply", [steps]) => Some(Command::Apply {
-            steps: number(steps.as_str(), 1, u32::MAX)?,
-        }),
-        ("state", []) => Some(Command::State),
-        ("check", []) => Some(Command::Check),
-        ("dump", [_name]) => Some(Command::Dump),
-        ("make", [count, seed]) => Some(Command::Make {
-            count: number(count.as_str(), 1, 200_000)?,
-            seed: number(seed.as_str(), 0, u32::MAX)?,
-        }),
-        ("trial", [count, seed, steps]) => trial(count.as_str(), seed.as_str(), steps.as_str()),
-        ("beside", [readers, reads]) => Some(Command::Beside {
-            readers: number(readers.as_str(), 1, 16)?,
-            reads: number(reads.as_str(), 1, 1000)?,
-        }),
+    match words {
+        [name] => of_one(name.as_str()),
+        [name, word] => of_two(name.as_str(), word.as_str()),
+        [name, first, second] => of_three(name.as_str(), first.as_str(), second.as_str()),
+        [name, first, second, third] => of_four(
+            name.as_str(),
+            first.as_str(),
+            second.as_str(),
+            third.as_str(),
+        ),
         _ => None,
     }
 }

@@ -11,4 +11,4 @@ mod write;
 
 pub use laws::{canonical_record_is_read, canonical_records_are_apart, record_has_one_reading};
 pub use read::{RecordFault, read_record};
-pub use write::write_record;
+pub use write::{body_size, int_serial_type, write_record};

@@ -23,8 +23,8 @@ fn int_type(z: i64) -> u64
     }
 }
 
-// The serial type of an integer under a schema format.
-fn int_serial_type(z: i64, format: u32) -> u64
+/// The serial type of an integer under a schema format in its canonical record.
+pub fn int_serial_type(z: i64, format: u32) -> u64
     ensures { result ≡ type_of_int format z }
 {
     match z {
@@ -54,7 +54,7 @@ fn serial_type(value: &Value, format: u32) -> Result<u64, AllocError>
     }
 }
 
-// How many bytes a value of a serial type has behind the header.
+/// How many bytes a value of a serial type has behind the header.
 pub fn body_size(serial_type: u64) -> usize
     ensures { result ≡ size_of serial_type }
 {

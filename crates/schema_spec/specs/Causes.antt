@@ -1,5 +1,5 @@
 -- What sets a text outside the profile: texts of the grammar that tell more than a reader of rows and indexes takes.
-use Rattle.std.specs.Prelude.{◌≡◌, ℕ, ◌&&◌, ◌||◌, not, Bool, true, false, ◌⊎◌, IsTrue, List, [], ◌∷◌, ◌++◌, map, flat_map, Any, Option, Some, None, is_none, codes}
+use Rattle.std.specs.Prelude.{◌≡◌, ℕ, ◌&&◌, ◌||◌, not, Bool, true, false, ◌⊎◌, IsTrue, List, [], ◌∷◌, map, flat_map, Any, Option, Some, None, is_none, codes}
 use Rattle.std.specs.List.{list_any}
 use Rattle.std.specs.Option.{option_to_list}
 use Rattle.rbu_value.specs.declared.affinity.Affinity.TheVariants.{Real as RealAffinity}
@@ -10,6 +10,7 @@ use Rattle.schema_spec.specs.declared.schema.Clause.TheVariants.{Without, Strict
 use Rattle.schema_spec.specs.declared.syntax.ColumnConstraint.{ColumnConstraint}
 use Rattle.schema_spec.specs.declared.syntax.ColumnRule.{ColumnRule}
 use Rattle.schema_spec.specs.declared.syntax.ColumnRule.TheVariants.{Generated as GeneratedRule}
+use Rattle.schema_spec.specs.declared.syntax.ColumnText.{ColumnText}
 use Rattle.schema_spec.specs.declared.syntax.ListedColumn.{ListedColumn}
 use Rattle.schema_spec.specs.declared.syntax.TableOption.{TableOption}
 use Rattle.schema_spec.specs.declared.syntax.TableOption.TheVariants.{WithoutRowid, Strict as StrictOption}
@@ -18,7 +19,8 @@ use Rattle.schema_spec.specs.declared.syntax.IndexedPart.{IndexedPart}
 use Rattle.schema_spec.specs.declared.syntax.IndexedPart.TheVariants.{Column as ColumnPart, Expression as ExpressionPart}
 use Rattle.schema_spec.specs.declared.syntax.IndexText.{IndexText}
 use Rattle.schema_spec.specs.Words.{is_keyword}
-use Rattle.schema_spec.specs.Names.{Key, keys, repeated_key, rowid_name, is_rowid, collation_of, named_collations, declared_type}
+use Rattle.schema_spec.specs.declared.syntax.Key.{Key}
+use Rattle.schema_spec.specs.Names.{keys, listed_columns, repeated_key, rowid_name, is_rowid, collation_of, named_collations, declared_type}
 
 -- the order of the causes; a text has but one of `Generated` and `As`
 abbrev pub clause_order : Clause → ℕ
@@ -50,8 +52,8 @@ is_generated GeneratedRule = true
 is_generated _ = false
 
 -- all constraints of columns, in the order of the text
-abbrev pub column_constraints : TableText → List ColumnConstraint
-column_constraints table = flat_map (λ column. column.constraints) table.columns
+abbrev pub column_constraints : List ColumnText → List ColumnConstraint
+column_constraints columns = flat_map (λ column. column.constraints) columns
 
 -- the names behind COLLATE in a list of columns
 abbrev pub listed_collations : List ListedColumn → List Token
@@ -68,12 +70,16 @@ is_expression (ColumnPart column) = false
 is_expression ExpressionPart = true
 
 module _ (text : List ℕ) where
-  -- the first word of the first generated column, as it is answered
+  -- the first word of a generated column, as it is answered
+  abbrev pub generated_word : Token → Clause
+  generated_word word = elim (is_keyword (codes "AS") text word) as (λ _. Clause) [ true ↦ As | false ↦ Generated ]
+
+  -- the word of the first generated column, as it is answered
   abbrev pub generated_by : List ColumnConstraint → Option Clause
   generated_by [] = None
   generated_by (constraint ∷ constraints) =
       elim (is_generated constraint.rule) as (λ _. Option Clause) [
-        | true ↦ elim (is_keyword (codes "AS") text constraint.word) as (λ _. Option Clause) [ true ↦ Some As | false ↦ Some Generated ]
+        | true ↦ Some (generated_word constraint.word)
         | false ↦ generated_by constraints
       ]
 
@@ -81,10 +87,14 @@ module _ (text : List ℕ) where
   abbrev pub descends : Option (List ℕ) → Key → Bool
   descends rowid key = list_any (λ column. column.descends) key.columns && (key.at_column || not (is_rowid text rowid key.columns))
 
+  -- the first word of a key, as it is answered
+  abbrev pub key_word : Token → Clause
+  key_word word = elim (is_keyword (codes "PRIMARY") text word) as (λ _. Clause) [ true ↦ Primary | false ↦ Unique ]
+
   -- the word of a key is answered
   abbrev pub repeats_as : Clause → Option Token → Type 0
   repeats_as clause None = ⊥
-  repeats_as clause (Some word) = clause ≡ (elim (is_keyword (codes "PRIMARY") text word) as (λ _. Clause) [ true ↦ Primary | false ↦ Unique ])
+  repeats_as clause (Some word) = clause ≡ key_word word
 
   -- another collation than SQLite's three
   abbrev pub is_other_collation : Token → Bool
@@ -94,11 +104,11 @@ module _ (text : List ℕ) where
   abbrev pub HasCause : TableText → Clause → Type 0
   HasCause table Without = IsTrue (list_any is_without table.options)
   HasCause table Strict = IsTrue (list_any is_strict table.options)
-  HasCause table Generated = generated_by (column_constraints table) ≡ Some Generated
-  HasCause table As = generated_by (column_constraints table) ≡ Some As
-  HasCause table On = IsTrue (list_any (λ constraint. constraint.on_conflict) (column_constraints table) || list_any (λ constraint. constraint.on_conflict) table.constraints)
+  HasCause table Generated = generated_by (column_constraints table.columns) ≡ Some Generated
+  HasCause table As = generated_by (column_constraints table.columns) ≡ Some As
+  HasCause table On = IsTrue (list_any (λ constraint. constraint.on_conflict) (column_constraints table.columns) || list_any (λ constraint. constraint.on_conflict) table.constraints)
   HasCause table Desc = IsTrue (list_any (descends (rowid_name text table)) (keys table))
-  HasCause table Collate = IsTrue (list_any is_other_collation (named_collations (column_constraints table) ++ flat_map (λ constraint. listed_collations constraint.columns) table.constraints))
+  HasCause table Collate = IsTrue (list_any is_other_collation (named_collations (column_constraints table.columns)) || list_any is_other_collation (listed_collations (listed_columns table.constraints)))
   HasCause table Real = Any (λ type. HasAffinity type RealAffinity) (map (declared_type text) table.columns)
   HasCause table Unique =
       IsTrue (list_any (λ key. not key.primary && is_rowid text (rowid_name text table) key.columns) (keys table)) ⊎ repeats_as Unique (repeated_key text [] (keys table))

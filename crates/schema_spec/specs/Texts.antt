@@ -1,5 +1,5 @@
 -- What a text of the schema means, and why one is refused.
-use Rattle.std.specs.Prelude.{◌≡◌, ℕ, not, Bool, true, false, ◌⊎◌, List, [], ◌∷◌, map, filter, length, slice_index_or, Some, None, option_map, unwrap_or}
+use Rattle.std.specs.Prelude.{◌≡◌, ℕ, not, Bool, true, false, ◌⊎◌, List, [], ◌∷◌, map, filter, length, slice_index_or, Some, None, option_map, unwrap_or, ⊤}
 use Rattle.std.specs.List.{list_any, AllZip}
 use Rattle.rbu_value.specs.declared.order.Collation.{Collation}
 use Rattle.rbu_value.specs.declared.order.Collation.TheVariants.{Binary}
@@ -16,22 +16,29 @@ use Rattle.schema_spec.specs.declared.schema.Index.{Index}
 use Rattle.schema_spec.specs.declared.syntax.ColumnRule.{ColumnRule}
 use Rattle.schema_spec.specs.declared.syntax.ColumnRule.TheVariants.{NotNull}
 use Rattle.schema_spec.specs.declared.syntax.ColumnText.{ColumnText}
+use Rattle.schema_spec.specs.declared.syntax.Key.{Key}
 use Rattle.schema_spec.specs.declared.syntax.ListedColumn.{ListedColumn}
 use Rattle.schema_spec.specs.declared.syntax.TableText.{TableText}
 use Rattle.schema_spec.specs.declared.syntax.TableStatement.{TableStatement}
 use Rattle.schema_spec.specs.declared.syntax.TableStatement.TheVariants.{Table as TableStatementOf, Virtual, View}
 use Rattle.schema_spec.specs.declared.syntax.IndexText.{IndexText}
 use Rattle.schema_spec.specs.Tokens.{AreTokens}
-use Rattle.schema_spec.specs.Words.{name_of, same_name}
+use Rattle.schema_spec.specs.Words.{name_of}
 use Rattle.schema_spec.specs.Fronts.{Behind, Stops}
 use Rattle.schema_spec.specs.TableGrammar.{table_statement, index_statement}
-use Rattle.schema_spec.specs.Names.{Key, keys, own_name, listed_name, declared_type, rowid_name, is_rowid, primary_columns, collation_of, named_collations, last_collation, place_of, wrong_tokens, first_start}
+use Rattle.schema_spec.specs.Names.{keys, unknown, own_name, listed_name, declared_type, rowid_name, is_rowid, primary_columns, collation_of, named_collations, last_collation, place_of, wrong_tokens, first_start}
 use Rattle.schema_spec.specs.Causes.{clause_order, HasCause, HasIndexCause, plain_columns}
 
 -- where the first of some tokens begins, which is at the text's end where there is none
 abbrev pub offset_of : List ℕ → List Token → ℕ
 offset_of text [] = length text
 offset_of text (token ∷ tokens) = token.start
+
+-- there is no memory
+abbrev pub IsMemory : SqlFault → Type 0
+IsMemory (SqlSyntax offset) = ⊥
+IsMemory (OutsideProfile clause) = ⊥
+IsMemory (Memory error) = ⊤
 
 -- a rule of NOT NULL
 abbrev pub is_not_null : ColumnRule → Bool
@@ -107,7 +114,7 @@ module _ (text : List ℕ) where
   -- the columns of an index that are none of the table's
   abbrev pub unknown_columns : Table → IndexText → List Token
   unknown_columns table definition =
-      map (λ column. column.name) (filter (λ column. not (list_any (λ other. same_name other.name (listed_name text column)) table.columns)) (plain_columns definition.parts))
+      unknown text (map (λ column. column.name) table.columns) (plain_columns definition.parts)
 
   abbrev pub IsProfiledIndex : List Token → IndexText → Type 0
   IsProfiledIndex tokens definition = (index_statement text tokens ≡ Behind definition []) × ((clause : Clause) → ¬ HasIndexCause text definition clause)

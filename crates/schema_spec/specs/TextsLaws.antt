@@ -47,7 +47,7 @@ clause_at-order Virtual = refl
 clause_at-order View = refl
 
 -- no two clauses have one place in the order
-order-same : (a b : Clause) → clause_order a ≡ clause_order b → a ≡ b
+pub order-same : (a b : Clause) → clause_order a ≡ clause_order b → a ≡ b
 order-same a b e = sym (clause_at-order a) ∙ ap clause_at e ∙ clause_at-order b
 
 -- one clause is the first

@@ -12,7 +12,7 @@ mod worked;
 pub use laws::{text_answers, token_parts};
 pub use schema::{Clause, Column, Index, SqlFault, Table};
 pub use syntax::{
-    ColumnConstraint, ColumnRule, ColumnText, IndexText, IndexedPart, ListedColumn,
+    ColumnConstraint, ColumnRule, ColumnText, IndexText, IndexedPart, Key, ListedColumn,
     TableConstraint, TableOption, TableRule, TableStatement, TableText,
 };
 pub use token::{Token, TokenKind};

@@ -66,6 +66,18 @@ pub struct TableConstraint {
     pub on_conflict: bool,
 }
 
+/// A PRIMARY KEY or UNIQUE constraint, of a column or of the table (CREATE TABLE, sections 3.5 and 3.6).
+#[derive(Drop)]
+pub struct Key {
+    /// Its first word.
+    pub word: Token,
+    /// Whether it is a PRIMARY KEY.
+    pub primary: bool,
+    /// Whether it stands at a column.
+    pub at_column: bool,
+    pub columns: OwnedList<ListedColumn>,
+}
+
 /// What may stand behind a table's closing bracket.
 #[derive(Clone, Copy, Debug, PartialEq, Eq)]
 pub enum TableOption {

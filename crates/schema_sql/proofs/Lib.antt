@@ -1,2 +1,6 @@
-pub mod Repeating
-pub mod Separators
+pub mod Lists
+pub mod Order
+pub mod Reading
+pub mod Steps
+pub mod TableColumns
+pub mod WrongTokens

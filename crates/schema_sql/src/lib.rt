@@ -1,25 +1,20 @@
-//! Reads the texts of a schema (The Schema Table, section 2.1; CREATE TABLE; CREATE INDEX).
+//! Reads what the texts of tables and indexes mean (The Schema Table, section 2.1; CREATE TABLE; CREATE INDEX).
 //!
-//! `tokens` gives the tokens of a text by their places. What these are is said by `Tokens` in the `specs/` of `schema_spec`.
+//! `read_table` and `read_index` are what the layer above calls. What a text means, and which fault another one has, is said by `Texts`, `Names` and `Causes` in the `specs/` of `schema_spec`; what stands between, once the parts of a table are known, by `Parts`.
 #![tactic(auto)]
 
-mod brackets;
+mod causes;
 mod clauses;
 mod columns;
-mod constraints;
-mod definitions;
-mod fronts;
 mod indexes;
-mod items;
-mod references;
+mod keys;
+mod names;
+mod parts;
+mod places;
+mod repeated;
+mod rowid;
 mod tables;
-mod tokenizer;
-mod types;
-mod words;
+mod wrong;
 
-pub use schema_spec::{Token, TokenKind};
-pub use tokenizer::tokens;
-pub use words::name_of;
-
-#[cfg(test)]
-mod tests;
+pub use indexes::read_index;
+pub use tables::read_table;

@@ -14,7 +14,7 @@ use Rattle.page_spec.specs.Rooms.{IsOneCell, needs}
 use Rattle.tree_balance.specs.Cuts.{page_room, risen}
 use Rattle.tree_balance.specs.declared.share.Share.{Share}
 use Rattle.tree_balance.specs.Shares.{cells_of, Cover, IsFilled, AreFilled, HaveDividers, AreLaid}
-use Rattle.tree_balance.proofs.Needs.{cell-need, needs-parts, needs-below, thrice-below}
+use Rattle.tree_balance.specs.NeedsLaws.{cell-need, needs-parts, needs-below, thrice-below}
 
 -- so many cells of those from an index on need so many times what one needs at most
 needs-few : (room n from : ℕ) (cells : List (List ℕ)) → All (λ cell. cell_room cell + 2 ≤ room) cells → needs (take n (drop from cells)) ≤ n * room

@@ -21,7 +21,7 @@ pub fn room_of(kind: PageKind, usable: u32) -> u64
     }
 }
 
-/// How many cells go up where a page is cut.
+/// How many cells go up where a page is cut: one, but none of a table's leaf, which keeps them all.
 pub fn risen(kind: PageKind) -> usize
     ensures { result ≡ cells_risen kind }
 {

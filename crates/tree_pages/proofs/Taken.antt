@@ -17,8 +17,9 @@ use Rattle.free_list.specs.declared.fault.FreeFault.TheVariants as free
 use Rattle.free_list.specs.Answers.{RefusesNext, IsBadTake, IsTakeFault, given_page}
 use Rattle.free_list.specs.Answers as freelist
 use Rattle.free_list.specs.Steps.{ChangesFew, Takes}
-use Rattle.tree_pages.specs.declared.fault.TreeFault.{TreeFault}
-use Rattle.tree_pages.specs.Faults.{fault_in, from_freelist, IsOther, IsFull}
+use Rattle.tree_spec.specs.declared.fault.TreeFault.{TreeFault}
+use Rattle.tree_spec.specs.Faults.{fault_in, IsOther, IsFull}
+use Rattle.tree_pages.specs.Faults.{from_freelist}
 
 pub took : (sizes : Sizes) (limit page count now : ℕ) (old : Pages) (told : Option Pages) → count ≤ now → ChangesFew count page old told
     → ((trunks : List Trunk) → IsFreelist old sizes.size sizes.usable count trunks → Takes sizes.size sizes.usable limit count old trunks page told now)

@@ -20,3 +20,14 @@ module _ {P F : Type 0} (g : Ghosts P F) where
         subst (λ (n : ℕ). R (sizes_of g a) (record { count = n; pages = old }) (paged g c r.0)) count
             (subst (λ (s : Sizes). R s (paged g b old) (paged g c r.0)) sizes r.2),
       )
+
+  -- what a call does is also what is said in other words of it
+  pub Becomes-weaken : {R Q : Paged → Paged → Type 0} (a b : P) → ((x y : Paged) → R x y → Q x y) → Becomes g a b R → Becomes g a b Q
+  Becomes-weaken a b more went old told = let r = went old told in (r.0, r.1, more (paged g a old) (paged g b r.0) r.2)
+
+  -- two calls one after the other
+  pub Becomes-then : {R Q U : Paged → Paged → Type 0} (a b c : P) → Becomes g a b R → Becomes g b c Q → ((x y z : Paged) → R x y → Q y z → U x z) → Becomes g a c U
+  Becomes-then a b c one two joined old told =
+      let r = one old told in
+      let q = two r.0 r.1 in
+      (q.0, q.1, joined (paged g a old) (paged g b r.0) (paged g c q.0) r.2 q.2)

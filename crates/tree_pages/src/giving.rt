@@ -4,10 +4,9 @@ ghost use Rattle.page_spec.specs.Chains.{pages_for as pages_of_bytes};
 ghost use Rattle.page_spec.specs.Pages.{next_page};
 ghost use Rattle.page_store.specs.Store.{HasSizes, IsNumber, OwesBy};
 ghost use Rattle.put_spec.specs.Steps.{GivesBack};
-ghost use Rattle.tree_pages.specs.Faults.{fault_in};
+ghost use Rattle.tree_spec.specs.Faults.{fault_in};
 ghost use Rattle.tree_pages.specs.Writers.{Becomes, Releases, sizes_of};
 
-use crate::fault::TreeFault;
 use crate::taking::of_freelist;
 use byte_fields::u32_at;
 use free_list::release;
@@ -15,6 +14,7 @@ use overflow_chain::pages_for;
 use page_store::{PageWrite, is_in_range, page_buffer};
 use refusal::Rule;
 use std::alloc::Global;
+use tree_spec::TreeFault;
 
 // Gives a page of a chain back, and answers the number of the next.
 fn give_next<S: PageWrite>(

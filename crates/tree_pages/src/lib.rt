@@ -3,12 +3,11 @@
 //! The layer above takes a page by `take_page`, writes the part of a payload that its cell does not keep by `write_overflow`, and gives a chain back by `give_back`. What these leave is said in the words of `put_spec`, by `Becomes` of `Writers` in the `specs/`.
 #![tactic(auto)]
 
-mod fault;
 mod giving;
 mod taking;
 mod writing;
 
-pub use fault::TreeFault;
 pub use giving::give_back;
 pub use taking::take_page;
+pub use tree_spec::TreeFault;
 pub use writing::write_overflow;

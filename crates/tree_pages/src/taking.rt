@@ -5,13 +5,14 @@ ghost use Rattle.page_spec.specs.FreePages.{slack};
 ghost use Rattle.page_spec.specs.Pages.{Pages};
 ghost use Rattle.page_store.specs.Store.{HasSizes, IsNumber, OwesBy};
 ghost use Rattle.put_spec.specs.Steps.{Took};
-ghost use Rattle.tree_pages.specs.Faults.{fault_in, from_freelist, IsOther, IsFull};
+ghost use Rattle.tree_spec.specs.Faults.{fault_in, IsOther, IsFull};
+ghost use Rattle.tree_pages.specs.Faults.{from_freelist};
 ghost use Rattle.tree_pages.specs.Writers.{Becomes, sizes_of};
 
-use crate::fault::TreeFault;
 use free_list::{FreeFault, allocate};
 use page_store::PageWrite;
 use std::alloc::Global;
+use tree_spec::TreeFault;
 
 /// The same fault of a change of the freelist.
 pub fn of_freelist<F>(fault: FreeFault<F>) -> TreeFault<F>

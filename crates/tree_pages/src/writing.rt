@@ -3,14 +3,14 @@ ghost use Rattle.std.specs.Prelude.{◌≡◌, ◌+◌, ◌≤◌, IfOk, OnOk, l
 ghost use Rattle.page_spec.specs.Pages.{with_page};
 ghost use Rattle.page_spec.specs.WrittenChains.{overflow_page};
 ghost use Rattle.page_store.specs.Store.{Goes, HasSizes, IsNumber, OwesBy};
-ghost use Rattle.tree_pages.specs.Faults.{fault_in};
+ghost use Rattle.tree_spec.specs.Faults.{fault_in};
 ghost use Rattle.tree_pages.specs.Writers.{Becomes, WritesOverflow, sizes_of};
 
-use crate::fault::TreeFault;
 use crate::taking::take_page;
 use overflow_chain::{fill, pages_for};
 use page_store::{PageWrite, page_buffer};
 use std::alloc::Global;
+use tree_spec::TreeFault;
 
 // Writes one page of a chain, through room for a page.
 fn write_page<S: PageWrite>(

@@ -10,4 +10,6 @@ pub mod Worlds
 pub mod WorldsLaws
 pub mod Changes
 pub mod ChangesLaws
+pub mod Faults
+pub mod FaultsLaws
 pub mod LittleWorld

@@ -6,6 +6,7 @@
 //! - `Bounds`: the order of a table tree's rowids;
 //! - `Standing`: which bytes of which pages are a tree, and `IsTree`, that a tree with this list and these pages stands at a root;
 //! - `Worlds`: all pages of a database, each once, and how many can still be taken (sections 1.4 to 1.6);
+//! - `Faults`: what stops a call on a tree;
 //! - `Changes`: a change of some pages and of the freelist, which leaves all other pages.
 //!
 //! `LittleWorld` is a database that SQLite wrote. The modules that end in `Laws` say what follows; the functions without parameters promise the main laws, and that the definitions hold of that database.
@@ -20,9 +21,11 @@ pub enum TreeKind {
     Index,
 }
 
+mod fault;
 mod laws;
 mod worked;
 
+pub use fault::{TreeFault, damaged};
 pub use laws::{
     changed_world, changes_join, kept_pages_keep_a_tree, one_tree_at_a_root, slack_is_kept,
     table_rowids_rise, trees_are_not_deep, world_has_trees,

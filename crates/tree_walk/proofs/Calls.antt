@@ -1,5 +1,5 @@
 -- What follows for a cursor from what the calls that it makes say.
-use Rattle.std.proofs.Common.{◌≡◌, ◌≢◌, ℕ, ℤ, ◌<◌, ◌≤◌, ◌⊎◌, ◌↔◌, Bool, true, false, not, IsTrue, List, [], ◌∷◌, length, drop, Option, Some, None, IfSome, IfErr, Result, Ok, Err, refl, sym, ap, ◌∙◌, subst, inl, inr, arith}
+use Rattle.std.proofs.Common.{◌≡◌, ◌≢◌, ℕ, ℤ, ◌<◌, ◌≤◌, true, false, List, [], ◌∷◌, length, Option, Some, None, IfSome, IfErr, OnOk, Result, Ok, Err, refl, sym, ap, ◌∙◌, subst, inl, inr, arith}
 use Rattle.std.proofs.Math.Path.{subst⁻¹}
 use Rattle.common_spec.specs.Reading.{OrFault}
 use Rattle.format_spec.specs.declared.PageKind.{PageKind}
@@ -12,20 +12,27 @@ use Rattle.overflow_chain.specs.declared.fault.ChainFault.TheVariants as chain
 use Rattle.overflow_chain.specs.Chain.{fault_in as chain_fault_in}
 use Rattle.tree_walk.specs.Payloads.{tree_fault}
 use Rattle.refusal.specs.declared.Rule.{Rule}
-use Rattle.refusal.specs.declared.Rule.TheVariants as broken
 use Rattle.tree_spec.specs.declared.TreeKind.{TreeKind}
-use Rattle.tree_spec.specs.Trees.{Rooted, Member, page_of, list_in, root_of, depth_of}
+use Rattle.tree_spec.specs.Trees.{Rooted, Member, list_in, root_of}
 use Rattle.tree_spec.specs.Bounds.{greatest_rowid}
 use Rattle.tree_spec.specs.Standing.{Sizes, Paged, IsRoot, IsTree}
-use Rattle.tree_walk.specs.declared.fault.TreeFault.{TreeFault}
-use Rattle.tree_walk.specs.declared.fault.TreeFault.TheVariants.{TreeDamaged, Store, Memory}
+use Rattle.tree_spec.specs.declared.fault.TreeFault.{TreeFault}
+use Rattle.tree_spec.specs.declared.fault.TreeFault.TheVariants.{TreeDamaged}
+use Rattle.tree_spec.specs.Faults.{IsOther, IsDamage, IsDamageOrOther, fault_in}
+use Rattle.tree_spec.specs.FaultsLaws.{damage-then, damage-none, damage-weaken}
 use Rattle.tree_walk.specs.declared.page.TreePage.{TreePage}
 use Rattle.tree_walk.specs.declared.place.Place.{Place}
-use Rattle.tree_walk.specs.declared.cursor.Cursor.{Cursor}
-use Rattle.tree_walk.specs.Pages.{IsDecoded, IsOther, IsReadFault, fault_in, has_dividers, is_leaf, tree_kind}
-use Rattle.tree_walk.specs.Places.{Rises, child_at, low_at, high_at, IsBadNumber, IsBadPage, IsBounded, IsEntered, IsBelow, IsChild, IsBadRoot, IsBadStep, OutOfOrder, EntersPage, EntersRoot, IsOutOfPlace}
-use Rattle.tree_walk.specs.Walks.{IsPast, IsAbove, StandsAt, Leaves}
+use Rattle.tree_walk.specs.declared.path.Cursor.{Cursor}
+use Rattle.tree_walk.specs.Pages.{IsDecoded, IsBadRead, IsReadFault, has_dividers, is_leaf, tree_kind}
+use Rattle.tree_walk.specs.Places.{most_above, Rises, child_at, low_at, high_at, IsBadNumber, IsBadPage, IsBounded, IsEntered, IsChild, IsBadRoot, IsBadStep, OutOfOrder, EntersPage, EntersRoot, IsOutOfPlace}
+use Rattle.tree_walk.specs.Walks.{IsAbove, StandsAt, Leaves}
+use Rattle.tree_walk.specs.Courses.{Course, GoesFrom}
 use Rattle.tree_walk.proofs.Steps.{landed, root_above, root_bad}
+
+-- what holds in any case holds where a call ends well
+pub ok-so : {T E P : Type 0} (result : Result T E) → P → OnOk result P
+ok-so (Ok done) p = p
+ok-so (Err error) p = tt
 
 -- what is said of a store's sizes and count after a call that leaves them
 pub at-sizes : {P F : Type 0} (g : Ghosts P F) {before after : P} → Stays g before after → g.count after ≡ g.count before → (Q : ℕ → ℕ → ℕ → Type 0)
@@ -42,10 +49,10 @@ some-all (Some f) all = all f
 -- what a call owes whose error is no fault of the store
 pub owes-free : {P F T : Type 0} (g : Ghosts P F) {before after : P} (result : Result T (TreeFault F)) → Stays g before after → g.faults after ≡ g.faults before → IfErr result (λ fault. fault_in fault ≡ None)
     → OwesBy g fault_in before after result
-owes-free g {before} {after} (Ok done) stays same none = record { stays = stays; faults = record { later = omega (arith, same); still = same; cause = tt } }
+owes-free g {before} {after} (Ok done) stays same none = record { stays = stays; faults = record { later = omega (arith, ap g.fault_count same); still = same; cause = tt } }
 owes-free {P} {F} {T} g {before} {after} (Err fault) stays same none = record {
   stays = stays;
-  faults = record { later = omega (arith, same); still = tt; cause = subst⁻¹ (λ (o : Option F). IsCause g.wants_memory o (g.faults before) (g.faults after)) none same };
+  faults = record { later = omega (arith, ap g.fault_count same); still = tt; cause = subst⁻¹ (λ (o : Option F). IsCause g.Fails o (g.faults before) (g.faults after)) none same };
 }
 
 -- what a walk over a chain owes, its error being told of the tree
@@ -75,37 +82,32 @@ module _ (bytes : List ℕ) (number usable : ℕ) where
     rises = subst⁻¹ (λ (p : TreePage). Rises (tree_kind p.kind) low high p.views) bounded.page_is bounded.rises;
   }
 
-  pub refused-page : {F : Type 0} (kind : TreeKind) (low : Option ℤ) (high : ℤ) (fault : TreeFault F) → IsReadFault bytes number usable fault → IsBadPage bytes number usable kind low high fault
-  refused-page kind low high (TreeDamaged page r) bad = (bad.0, inl bad.1)
-  refused-page kind low high (Store fault) bad = tt
-  refused-page kind low high (Memory error) bad = tt
+  pub refused-page : {F : Type 0} (kind : TreeKind) (low : Option ℤ) (high : ℤ) (fault : TreeFault F) → IsReadFault bytes number usable fault → IsDamageOrOther (IsBadPage bytes number usable kind low high) fault
+  refused-page kind low high = damage-then (IsBadRead bytes number usable) (IsBadPage bytes number usable kind low high) (λ page r bad. (bad.0, inl bad.1))
 
-  pub refused-root : {F : Type 0} (fault : TreeFault F) → IsReadFault bytes number usable fault → IsBadRoot bytes number usable fault
-  refused-root (TreeDamaged page r) bad = (bad.0, inl bad.1)
-  refused-root (Store fault) bad = tt
-  refused-root (Memory error) bad = tt
+  pub refused-root : {F : Type 0} (fault : TreeFault F) → IsReadFault bytes number usable fault → IsDamageOrOther (IsBadRoot bytes number usable) fault
+  refused-root = damage-then (IsBadRead bytes number usable) (IsBadRoot bytes number usable) (λ page r bad. (bad.0, inl bad.1))
 
   -- a page out of its place
   pub misplaced : {F : Type 0} (kind : TreeKind) (low : Option ℤ) (high : ℤ) (read : TreePage) (r : Rule) (fault : TreeFault F) → fault ≡ TreeDamaged read.number r → IsDecoded bytes number usable read
-      → IsOutOfPlace kind low high read r → IsBadPage bytes number usable kind low high fault
+      → IsOutOfPlace kind low high read r → IsDamageOrOther (IsBadPage bytes number usable kind low high) fault
   misplaced {F} kind low high read r fault is decoded out =
-      subst⁻¹ (IsBadPage bytes number usable kind low high) is (decoded.number_is, inr (read, decoded, out))
+      subst⁻¹ (λ (f : TreeFault F). IsDamageOrOther (IsBadPage bytes number usable kind low high) f) is (decoded.number_is, inr (read, decoded, out))
 
-  unordered-page : {F : Type 0} (kind : TreeKind) (low : Option ℤ) (high : ℤ) (read : TreePage) (fault : TreeFault F) → IsDecoded bytes number usable read → OutOfOrder read low high fault
-      → IsBadPage bytes number usable kind low high fault
-  unordered-page kind low high read (TreeDamaged page r) decoded bad =
-      (bad.0 ∙ decoded.number_is, inr (read, decoded, subst⁻¹ (IsOutOfPlace kind low high read) bad.1 bad.2))
-  unordered-page kind low high read (Store fault) decoded bad = absurd bad
-  unordered-page kind low high read (Memory error) decoded bad = absurd bad
+  unordered-page : {F : Type 0} (kind : TreeKind) (low : Option ℤ) (high : ℤ) (read : TreePage) (fault : TreeFault F) → tree_kind read.kind ≡ kind → read.views ≢ [] → IsDecoded bytes number usable read → IsDamage (OutOfOrder read low high) fault
+      → IsDamageOrOther (IsBadPage bytes number usable kind low high) fault
+  unordered-page kind low high read fault kind_is some decoded bad =
+      damage-then (OutOfOrder read low high) (IsBadPage bytes number usable kind low high)
+      (λ page r bad. (bad.0 ∙ decoded.number_is, inr (read, decoded, subst⁻¹ (IsOutOfPlace kind low high read) bad.1 (kind_is, some, bad.2)))) fault (damage-weaken (OutOfOrder read low high) fault bad)
 
-  unordered-root : {F : Type 0} (read : TreePage) (fault : TreeFault F) → IsDecoded bytes number usable read → OutOfOrder read None greatest_rowid fault → IsBadRoot bytes number usable fault
-  unordered-root read (TreeDamaged page r) decoded bad = (bad.0 ∙ decoded.number_is, inr (read, decoded, bad.1, bad.2))
-  unordered-root read (Store fault) decoded bad = absurd bad
-  unordered-root read (Memory error) decoded bad = absurd bad
+  unordered-root : {F : Type 0} (read : TreePage) (fault : TreeFault F) → IsDecoded bytes number usable read → IsDamage (OutOfOrder read None greatest_rowid) fault → IsDamageOrOther (IsBadRoot bytes number usable) fault
+  unordered-root read fault decoded bad =
+      damage-then (OutOfOrder read None greatest_rowid) (IsBadRoot bytes number usable)
+      (λ page r bad. (bad.0 ∙ decoded.number_is, inr (read, decoded, bad.1, bad.2))) fault (damage-weaken (OutOfOrder read None greatest_rowid) fault bad)
 
   -- what `stand` answers of a page that was read
   pub stands-below : {F : Type 0} (parent : Place) (low : Option ℤ) (high : ℤ) (read : TreePage) (result : Result Place (TreeFault F)) → low ≡ low_at parent → high ≡ high_at parent
-      → tree_kind read.kind ≡ tree_kind parent.page.kind → read.views ≢ [] → OrFault (IsBounded read low high) (OutOfOrder read low high) result
+      → tree_kind read.kind ≡ tree_kind parent.page.kind → read.views ≢ [] → OrFault (IsBounded read low high) (IsDamage (OutOfOrder read low high)) result
       → IsDecoded bytes number usable read → EntersPage bytes number usable parent result
   stands-below parent low high read (Ok place) low_is high_is kind some bounded decoded =
       let entered = entered-place read low high place decoded bounded in
@@ -115,34 +117,33 @@ module _ (bytes : List ℕ) (number usable : ℕ) where
         some = λ none. some (sym (ap (λ (p : TreePage). p.views) bounded.page_is) ∙ none);
       }
   stands-below parent low high read (Err fault) low_is high_is kind some bad decoded =
-      subst (λ (l : Option ℤ). IsBadPage bytes number usable (tree_kind parent.page.kind) l (high_at parent) fault) low_is
-      (subst (λ (h : ℤ). IsBadPage bytes number usable (tree_kind parent.page.kind) low h fault) high_is (unordered-page (tree_kind parent.page.kind) low high read fault decoded bad))
+      subst (λ (l : Option ℤ). IsDamageOrOther (IsBadPage bytes number usable (tree_kind parent.page.kind) l (high_at parent)) fault) low_is
+      (subst (λ (h : ℤ). IsDamageOrOther (IsBadPage bytes number usable (tree_kind parent.page.kind) low h) fault) high_is (unordered-page (tree_kind parent.page.kind) low high read fault kind some decoded bad))
 
-  pub stands-root : {F : Type 0} (read : TreePage) (result : Result Place (TreeFault F)) → OrFault (IsBounded read None greatest_rowid) (OutOfOrder read None greatest_rowid) result
+  pub stands-root : {F : Type 0} (read : TreePage) (result : Result Place (TreeFault F)) → OrFault (IsBounded read None greatest_rowid) (IsDamage (OutOfOrder read None greatest_rowid)) result
       → IsDecoded bytes number usable read → EntersRoot bytes number usable result
   stands-root read (Ok place) bounded decoded = entered-place read None greatest_rowid place decoded bounded
   stands-root read (Err fault) bad decoded = unordered-root read fault decoded bad
 
 module _ (pages : Pages) (size usable count : ℕ) (parent : Place) (above : ℕ) where
-  pub bad_number-step : {F : Type 0} (fault : TreeFault F) → IsBadNumber size count parent fault → IsBadStep pages size usable count parent above fault
-  bad_number-step (TreeDamaged page r) bad = inl bad
-  bad_number-step (Store fault) bad = absurd bad
-  bad_number-step (Memory error) bad = absurd bad
+  pub bad_number-step : {F : Type 0} (fault : TreeFault F) → IsDamage (IsBadNumber size count parent) fault → IsDamageOrOther (IsBadStep pages size usable count parent above) fault
+  bad_number-step fault bad =
+      damage-then (IsBadNumber size count parent) (IsBadStep pages size usable count parent above) (λ page r bad. inl bad) fault (damage-weaken (IsBadNumber size count parent) fault bad)
 
-  bad_page-step : {F : Type 0} (fault : TreeFault F) → IsBadPage (pages (child_at parent)) (child_at parent) usable (tree_kind parent.page.kind) (low_at parent) (high_at parent) fault
-      → IsBadStep pages size usable count parent above fault
-  bad_page-step (TreeDamaged page r) bad = inr (inr bad)
-  bad_page-step (Store fault) bad = tt
-  bad_page-step (Memory error) bad = tt
+  abbrev IsBadChildPage : ℕ → Rule → Type 0
+  IsBadChildPage page r = IsBadPage (pages (child_at parent)) (child_at parent) usable (tree_kind parent.page.kind) (low_at parent) (high_at parent) page r
+
+  bad_page-step : {F : Type 0} → IsInRange size count (child_at parent) → above < most_above → (fault : TreeFault F) → IsDamageOrOther IsBadChildPage fault → IsDamageOrOther (IsBadStep pages size usable count parent above) fault
+  bad_page-step in_range few = damage-then IsBadChildPage (IsBadStep pages size usable count parent above) (λ page r bad. inr (inr (in_range, few, bad)))
 
   -- a page that is entered below another, by the number of the child
-  pub page-child : {F : Type 0} (number : ℕ) → number ≡ child_at parent → (result : Result Place (TreeFault F)) → EntersPage (pages number) number usable parent result
-      → OrFault (IsChild pages usable parent) (IsBadStep pages size usable count parent above) result
-  page-child {F} number is result enters = by result (subst (λ (n : ℕ). EntersPage {F = F} (pages n) n usable parent result) is enters)
+  pub page-child : {F : Type 0} (number : ℕ) → number ≡ child_at parent → IsInRange size count number → above < most_above → (result : Result Place (TreeFault F)) → EntersPage (pages number) number usable parent result
+      → OrFault (IsChild pages usable parent) (IsDamageOrOther (IsBadStep pages size usable count parent above)) result
+  page-child {F} number is in_range few result enters = by result (subst (λ (n : ℕ). EntersPage {F = F} (pages n) n usable parent result) is enters)
     where
-      by : (r : Result Place (TreeFault F)) → EntersPage {F = F} (pages (child_at parent)) (child_at parent) usable parent r → OrFault (IsChild pages usable parent) (IsBadStep pages {F = F} size usable count parent above) r
+      by : (r : Result Place (TreeFault F)) → EntersPage {F = F} (pages (child_at parent)) (child_at parent) usable parent r → OrFault (IsChild pages usable parent) (IsDamageOrOther (IsBadStep pages size usable count parent above)) r
       by (Ok place) below = below
-      by (Err fault) bad = bad_page-step fault bad
+      by (Err fault) bad = bad_page-step (subst (IsInRange size count) is in_range) few fault bad
 
 -- kinds whose cells are no members
 pub dividers : (kind : PageKind) → has_dividers kind ≡ true → kind ≡ TableInterior
@@ -181,8 +182,11 @@ module _ (sizes : Sizes) (base : Paged) where
 
   -- the root of a tree is not refused
   pub root_not_bad : {F : Type 0} (root : ℕ) (kind : TreeKind) (depth : ℕ) (members : List Member) (numbers : List ℕ) → IsTree sizes base root kind depth members numbers → (fault : TreeFault F)
-      → IsBadRoot (base.pages root) root sizes.usable fault → IsOther fault
-  root_not_bad {F} root kind depth members numbers is (TreeDamaged page r) bad =
-      root_bad sizes base is.rooted is.is_root F page r (subst⁻¹ (λ (n : ℕ). IsBadRoot {F = F} (base.pages n) n sizes.usable (TreeDamaged page r)) is.root_is bad)
-  root_not_bad root kind depth members numbers is (Store fault) bad = tt
-  root_not_bad root kind depth members numbers is (Memory error) bad = tt
+      → IsDamageOrOther (IsBadRoot (base.pages root) root sizes.usable) fault → IsOther fault
+  root_not_bad root kind depth members numbers is =
+      damage-none (IsBadRoot (base.pages root) root sizes.usable)
+      (λ page r bad. root_bad sizes base is.rooted is.is_root page r (subst⁻¹ (λ (n : ℕ). IsBadRoot (base.pages n) n sizes.usable page r) is.root_is bad))
+
+-- the walk stays where cursors go down
+abbrev pub KeepsWalk : Sizes → Paged → Cursor → Cursor → Type 0
+KeepsWalk sizes base old new = (course : Course) → GoesFrom sizes base course old → GoesFrom sizes base course new

@@ -1,6 +1,10 @@
 pub mod PageFacts
 pub mod TreeFacts
 pub mod Steps
+pub mod Sought
+pub mod Paths
+pub mod Courses
+pub mod SoughtCourses
 pub mod Rows
 pub mod Calls
 pub mod Loops

@@ -3,7 +3,7 @@ use Rattle.std.proofs.Common.{◌≡◌, ℕ, ◌+◌, ◌<◌, ◌≤◌, List,
 use Rattle.format_spec.specs.declared.PageKind.{PageKind}
 use Rattle.format_spec.specs.declared.PageKind.TheVariants.{IndexInterior, TableInterior, IndexLeaf, TableLeaf}
 use Rattle.format_spec.specs.declared.CellView.{CellView}
-use Rattle.format_spec.specs.Cell.{IsCell, IsIndexCell, overflow_size}
+use Rattle.format_spec.specs.Cell.{IsCell, IsIndexCell}
 use Rattle.format_spec.specs.Page.{cell_place}
 use Rattle.format_spec.specs.Sizes.{IsUsable}
 use Rattle.cell_codec.specs.CellLaws.{cell-parts}

@@ -1,5 +1,5 @@
 -- The row of a member of a standing tree.
-use Rattle.std.proofs.Common.{◌≡◌, ◌≢◌, ℕ, zero, suc, pos, ◌+◌, ◌-◌, ◌*◌, ◌/◌, ◌%◌, ◌<◌, ◌≤◌, ◌⊎◌, ◌==◌, if◌then◌else◌, Bool, List, [], ◌∷◌, ◌++◌, length, map, take, drop, slice_get, slice_index_or, Option, Some, None, Result, Ok, Err, refl, sym, ap, ap₂, ◌∙◌, subst, inl, inr, arith, div-add-mod', zero-mul}
+use Rattle.std.proofs.Common.{◌≡◌, ℕ, zero, suc, pos, ◌+◌, ◌-◌, ◌*◌, ◌/◌, ◌%◌, ◌<◌, ◌≤◌, ◌⊎◌, ◌==◌, if◌then◌else◌, Bool, List, [], ◌∷◌, ◌++◌, length, map, slice_index_or, Some, None, Ok, Err, refl, sym, ap, ap₂, ◌∙◌, subst, inl, inr, arith, div-add-mod', zero-mul}
 use Rattle.std.proofs.Math.Path.{subst⁻¹}
 use Rattle.std.proofs.lemmas.Bool.{cases_eq, ne_eqb}
 use Rattle.std.proofs.lemmas.List.{length-map, append-nil}
@@ -13,25 +13,26 @@ use Rattle.format_spec.specs.declared.PageKind.{PageKind}
 use Rattle.format_spec.specs.declared.CellView.{CellView}
 use Rattle.format_spec.specs.Page.{cell_place}
 use Rattle.page_spec.specs.Pages.{Pages, IsInRange}
-use Rattle.page_spec.specs.Chains.{AreLinked, IsChain, IsBroken, pages_for, chain_bytes}
+use Rattle.page_spec.specs.Chains.{AreLinked, IsChain, pages_for, chain_bytes}
 use Rattle.page_spec.specs.ChainsLaws.{same_chain, chain-not_broken}
 use Rattle.page_layout.specs.ViewsLaws.{view-size}
 use Rattle.refusal.specs.declared.Rule.{Rule}
 use Rattle.refusal.specs.declared.Rule.TheVariants as broken
 use Rattle.tree_spec.specs.declared.TreeKind.{TreeKind}
 use Rattle.tree_spec.specs.declared.TreeKind.TheVariants.{Table, Index}
-use Rattle.tree_spec.specs.Trees.{TreeCell, TreeOf, Member, member, between, kind_at, page_of, cells_behind, own_cells, own_right}
+use Rattle.tree_spec.specs.Trees.{TreeCell, TreeOf, Member, member, between, kind_at, page_of, cells_behind, own_cells}
 use Rattle.tree_spec.specs.Standing.{Sizes, Paged, IsHeld}
-use Rattle.tree_walk.specs.declared.fault.TreeFault.{TreeFault}
-use Rattle.tree_walk.specs.declared.fault.TreeFault.TheVariants.{TreeDamaged, Store, Memory}
+use Rattle.tree_spec.specs.declared.fault.TreeFault.{TreeFault}
+use Rattle.tree_spec.specs.declared.fault.TreeFault.TheVariants.{TreeDamaged}
+use Rattle.tree_spec.specs.Faults.{IsOther, IsDamageOrOther}
+use Rattle.tree_spec.specs.FaultsLaws.{damage-none}
 use Rattle.tree_walk.specs.declared.place.Place.{Place}
-use Rattle.tree_walk.specs.declared.cursor.Cursor.{Cursor}
+use Rattle.tree_walk.specs.declared.path.Cursor.{Cursor}
 use Rattle.tree_walk.specs.declared.cursor.Row.{Row}
-use Rattle.tree_walk.specs.Payloads.{IsBadChain, IsPayload, ReadsPayload, part_at, tree_fault}
-use Rattle.tree_walk.specs.Pages.{IsOther}
+use Rattle.tree_walk.specs.Payloads.{IsBadChain, IsBadPayload, IsPayload, ReadsPayload, part_at, tree_fault}
 use Rattle.tree_walk.specs.Walks.{IsPast, from_child, from_cell, IsPlace, StandsAt, IsFirstRow}
 use Rattle.tree_walk.proofs.PageFacts.{local_part}
-use Rattle.tree_walk.proofs.TreeFacts.{views_of, CellAt, cell-at, all-at, behind-cell, held-own}
+use Rattle.tree_walk.proofs.TreeFacts.{CellAt, cell-at, all-at, behind-cell, held-own}
 use Rattle.tree_walk.proofs.Steps.{low_cell, none_left}
 
 -- only no bytes fill no page
@@ -98,13 +99,11 @@ module _ (sizes : Sizes) (base : Paged) (kind : TreeKind) (levels : ℕ) (tree :
       let one = same_chain base.pages sizes.size base.count sizes.usable here.cell.view.overflow rest_size holds.0 here.cell.chain holds.1 held.is_chain in
       h.2 ∙ ap₂ (λ (x y : List ℕ). x ++ y) part_is (holds.2 ∙ ap (λ (ns : List ℕ). chain_bytes base.pages sizes.usable ns rest_size) one) ∙ sym held.whole
 
-  chain_holds : {F : Type 0} (number : ℕ) (fault : TreeFault F) → 0 < rest_size → IsBadChain base.pages sizes.size sizes.usable base.count number here.cell.view.overflow rest_size fault → IsOther fault
-  chain_holds number (TreeDamaged page r) some bad = elim bad.1 [
+  chain_holds : (number page : ℕ) (r : Rule) → 0 < rest_size → IsBadChain base.pages sizes.size sizes.usable base.count number here.cell.view.overflow rest_size page r → ⊥
+  chain_holds number page r some bad = elim bad.1 [
     | inl first ↦ first.1 (chain-first base.pages sizes.size sizes.usable base.count here.cell.view.overflow rest_size here.cell.chain some held.is_chain)
     | inr later ↦ chain-not_broken base.pages sizes.size base.count sizes.usable here.cell.view.overflow rest_size here.cell.chain page held.is_chain later.1
   ]
-  chain_holds number (Store fault) some bad = tt
-  chain_holds number (Memory error) some bad = tt
 
   -- what is read of the payload
   pub payload-read : (F : Type 0) (payload : List ℕ) → ReadsPayload base.pages sizes.size sizes.usable base.count {F = F} place.page place.at (Ok payload) → payload ≡ here.cell.payload
@@ -112,12 +111,10 @@ module _ (sizes : Sizes) (base : Paged) (kind : TreeKind) (levels : ℕ) (tree :
       payload_is payload (subst (λ (v : CellView). IsPayload base.pages sizes.size sizes.usable base.count place.page place.at v payload) (view-here here.cell.view) (reads here.cell.view))
 
   pub payload-fault : {F : Type 0} (fault : TreeFault F) → ReadsPayload base.pages sizes.size sizes.usable base.count place.page place.at (Err fault) → IsOther fault
-  payload-fault {F} (TreeDamaged page r) reads =
-      let bad = subst (λ (v : CellView). (0 < v.payload - v.local) × IsBadChain base.pages sizes.size sizes.usable base.count {F = F} place.page.number v.overflow (v.payload - v.local) (TreeDamaged page r))
+  payload-fault = damage-none (IsBadPayload base.pages sizes.size sizes.usable base.count place.page place.at) (λ page r reads.
+      let bad = subst (λ (v : CellView). (0 < v.payload - v.local) × IsBadChain base.pages sizes.size sizes.usable base.count place.page.number v.overflow (v.payload - v.local) page r)
       (view-here here.cell.view) (reads here.cell.view) in
-      chain_holds {F = F} place.page.number (TreeDamaged page r) bad.0 bad.1
-  payload-fault (Store fault) reads = tt
-  payload-fault (Memory error) reads = tt
+      chain_holds place.page.number page r bad.0 bad.1)
 
 module _ (sizes : Sizes) (base : Paged) (kind : TreeKind) where
   -- the first of the members that are left
@@ -174,11 +171,11 @@ no_view = record { size = 0; rowid = pos 0; child = 0; payload = 0; local_at = 0
 module _ (pages : Pages) (size usable count number first bytes : ℕ) where
   pub rest-fault : {F : Type 0} (fault : ChainFault F) → IsInRange size count first
       → (IsOtherChain fault ⊎ Reads (OrFault (HoldsBytes pages size usable count first bytes) (BreaksAt pages size usable count first bytes)) (Err fault))
-      → IsBadChain pages size usable count number first bytes (tree_fault fault)
+      → IsDamageOrOther (IsBadChain pages size usable count number first bytes) (tree_fault fault)
   rest-fault (chain.ChainBroken page) in_range (inl other) = absurd other
   rest-fault (chain.ChainBroken page) in_range (inr reads) = (refl, inr (in_range, reads.holds))
   rest-fault (chain.Store fault) in_range reads = tt
   rest-fault (chain.Memory error) in_range reads = tt
 
-  pub bad-first : {F : Type 0} (fault : TreeFault F) → fault ≡ TreeDamaged number broken.Chain → ¬ IsInRange size count first → IsBadChain pages size usable count number first bytes fault
-  bad-first fault is out = subst⁻¹ (IsBadChain pages size usable count number first bytes) is (refl, inl (refl, out))
+  pub bad-first : {F : Type 0} (fault : TreeFault F) → fault ≡ TreeDamaged number broken.Chain → ¬ IsInRange size count first → IsDamageOrOther (IsBadChain pages size usable count number first bytes) fault
+  bad-first {F} fault is out = subst⁻¹ (λ (f : TreeFault F). IsDamageOrOther (IsBadChain pages size usable count number first bytes) f) is (refl, inl (refl, out))

@@ -1,37 +1,35 @@
 -- What each step of a cursor leaves of the members of a standing tree.
-use Rattle.std.proofs.Common.{◌≡◌, ◌≢◌, ℕ, ℤ, zero, suc, ◌+◌, ◌<◌, ◌≤◌, ◌⊎◌, Bool, true, false, List, [], ◌∷◌, ◌++◌, length, map, reverse, drop, slice_get, slice_index_or, Option, Some, None, Result, Ok, Err, refl, sym, ap, ap₂, ◌∙◌, subst, inl, inr, arith, length-append, append_assoc}
+use Rattle.std.proofs.Common.{◌≡◌, ◌≢◌, ℕ, ℤ, zero, suc, ◌+◌, ◌<◌, ◌≤◌, ◌⊎◌, true, false, List, [], ◌∷◌, ◌++◌, length, map, reverse, drop, slice_get, slice_index_or, Option, None, Result, Ok, Err, refl, sym, ap, ap₂, ◌∙◌, subst, inl, inr, arith, length-append, append_assoc}
 use Rattle.std.proofs.Math.Path.{subst⁻¹}
-use Rattle.std.specs.List.{AllByRecursion}
-use Rattle.std.proofs.lemmas.List.{length-map, append-nil, reverse-append, nil_from_length, drop_all}
+use Rattle.std.proofs.lemmas.List.{length-map, append-nil, reverse-append, drop_all}
 use Rattle.std.proofs.lemmas.Bool.{cases_lt}
-use Rattle.common_spec.specs.Reading.{OrFault}
-use Rattle.format_spec.specs.declared.PageKind.{PageKind}
-use Rattle.format_spec.specs.declared.PageKind.TheVariants.{IndexInterior, TableInterior, IndexLeaf, TableLeaf}
+use Rattle.format_spec.specs.declared.PageKind.TheVariants.{TableInterior}
 use Rattle.format_spec.specs.declared.CellView.{CellView}
-use Rattle.page_spec.specs.Pages.{Pages, IsInRange}
+use Rattle.page_spec.specs.Pages.{IsInRange}
 use Rattle.page_layout.specs.Views.{IsRefused}
 use Rattle.refusal.specs.declared.Rule.{Rule}
 use Rattle.refusal.specs.declared.Rule.TheVariants as broken
 use Rattle.tree_spec.specs.declared.TreeKind.{TreeKind}
 use Rattle.tree_spec.specs.declared.TreeKind.TheVariants.{Table, Index}
-use Rattle.tree_spec.specs.Trees.{TreeCell, TreeOf, Rooted, Member, member, between, kind_at, page_of, cells_behind, own_cells, own_right, list_of, IsFull, IsFullBelow}
+use Rattle.tree_spec.specs.Trees.{TreeCell, TreeOf, Rooted, Member, member, between, kind_at, page_of, cells_behind, own_cells, list_of, IsFull, IsFullBelow}
 use Rattle.tree_spec.specs.Bounds.{IsOrdered, greatest_rowid}
-use Rattle.tree_spec.specs.Standing.{Sizes, Paged, Stands, IsRoot, IsTree}
-use Rattle.tree_walk.specs.declared.fault.TreeFault.{TreeFault}
-use Rattle.tree_walk.specs.declared.fault.TreeFault.TheVariants.{TreeDamaged, Store, Memory}
+use Rattle.tree_spec.specs.Standing.{Sizes, Paged, Stands, IsRoot}
+use Rattle.tree_spec.specs.declared.fault.TreeFault.{TreeFault}
+use Rattle.tree_spec.specs.Faults.{IsOther, IsDamageOrOther}
+use Rattle.tree_spec.specs.FaultsLaws.{damage-none}
 use Rattle.tree_walk.specs.declared.page.TreePage.{TreePage}
 use Rattle.tree_walk.specs.declared.place.Place.{Place}
-use Rattle.tree_walk.specs.declared.cursor.Cursor.{Cursor}
-use Rattle.tree_walk.specs.Pages.{IsDecoded, IsOther, is_leaf, tree_kind}
-use Rattle.tree_walk.specs.Places.{low_bound, Rises, child_or, rowid_or, low_in, child_at, low_at, high_at, IsBadStep, IsOutOfPlace, IsBadRoot, IsEntered, IsChild}
+use Rattle.tree_walk.specs.declared.path.Cursor.{Cursor}
+use Rattle.tree_walk.specs.Pages.{IsDecoded, is_leaf, tree_kind}
+use Rattle.tree_walk.specs.Places.{Rises, child_or, rowid_or, low_in, child_at, low_at, high_at, IsBadStep, IsOutOfPlace, IsBadRoot, IsEntered, IsChild}
 use Rattle.tree_walk.specs.Walks.{IsPast, from_child, behind_child, from_cell, from_place, IsWithin, IsLeftAbove, IsPlace, IsLeft, IsIn, IsAtCell, IsAbove, StandsAt, Leaves, StepsDown}
-use Rattle.tree_walk.proofs.TreeFacts.{views_of, child_tree, tree_kind-at, leaf-at, interior-at, not-refused, read-kind, read-tree_kind, read-views, read-right, tree-rises, from_child-cut, from_place-all, behind-past, cell-at, behind-cell, child-page, child-stands, child-full, child-within}
+use Rattle.tree_walk.proofs.TreeFacts.{child_tree, tree_kind-at, leaf-at, interior-at, not-refused, read-kind, read-tree_kind, read-views, read-right, tree-rises, from_child-cut, from_place-all, behind-past, cell-at, behind-cell, child-page, child-stands, child-full, child-within}
 
 -- a list with one more at its end, from the end
 pub reverse-more : {A : Type 0} (xs : List A) (x : A) → reverse (xs ++ x ∷ []) ≡ x ∷ reverse xs
 reverse-more xs x = reverse-append xs (x ∷ [])
 
-not_empty : {A : Type 0} (xs : List A) → xs ≢ [] → 0 < length xs
+pub not_empty : {A : Type 0} (xs : List A) → xs ≢ [] → 0 < length xs
 not_empty [] some = absurd (some refl)
 not_empty (x ∷ xs) some = omega arith
 
@@ -47,8 +45,8 @@ module _ (sizes : Sizes) (base : Paged) (kind : TreeKind) (levels : ℕ) (tree :
       → IsOutOfPlace kind low high read r → ⊥
   not-out some read broken.Kind decoded out = out (read-tree_kind sizes base kind levels tree stands read decoded)
   not-out some read broken.Empty decoded out =
-      omega (arith, some, ap length (sym (read-views sizes base kind levels tree stands read decoded) ∙ out), length-map (own_cells levels tree) (λ (c : TreeCell). c.view))
-  not-out some read broken.Cells decoded out = out (in_order read decoded)
+      omega (arith, some, ap length (sym (read-views sizes base kind levels tree stands read decoded) ∙ out.1), length-map (own_cells levels tree) (λ (c : TreeCell). c.view))
+  not-out some read broken.Cells decoded out = out.2 (in_order read decoded)
   not-out some read broken.Child decoded out = out
   not-out some read broken.Depth decoded out = out
   not-out some read broken.Chain decoded out = out
@@ -150,6 +148,17 @@ module _ (sizes : Sizes) (base : Paged) (kind : TreeKind) (levels : ℕ) (tree :
   }
 
 module _ (sizes : Sizes) (base : Paged) (kind : TreeKind) where
+  -- no step down in a standing tree is refused
+  pub step-other : {F : Type 0} (old : Cursor) (levels : ℕ) (tree : TreeOf (suc levels)) (is : IsPlace sizes base kind (suc levels) tree old.here) → suc levels + length old.above.items ≤ 24
+      → old.here.at ≤ length old.here.page.views → (fault : TreeFault F)
+      → IsDamageOrOther (IsBadStep base.pages sizes.size sizes.usable base.count old.here (length old.above.items)) fault → IsOther fault
+  step-other old levels tree is deep within = damage-none (IsBadStep base.pages sizes.size sizes.usable base.count old.here (length old.above.items)) bad
+    where
+      bad : (page : ℕ) (r : Rule) → IsBadStep base.pages sizes.size sizes.usable base.count old.here (length old.above.items) page r → ⊥
+      bad page r (inl number) = number.2 (child-in_range sizes base kind levels tree old.here is within)
+      bad page r (inr (inl many)) = omega (arith, deep, many.3)
+      bad page r (inr (inr refused)) = child-not_refused sizes base kind levels tree old.here is within r refused.2.1
+
   step_by : {F : Type 0} (rest : List Member) (old new : Cursor) (levels : ℕ) (tree : TreeOf levels) (is : IsPlace sizes base kind levels tree old.here) (later : List Member)
       → IsLeft sizes base kind levels (reverse old.above.items) later → rest ≡ from_place kind levels tree old.here.at ++ later → levels + length old.above.items ≤ 24
       → old.here.at ≤ length old.here.page.views → is_leaf old.here.page.kind ≡ false → (result : Result Unit (TreeFault F))
@@ -158,14 +167,8 @@ module _ (sizes : Sizes) (base : Paged) (kind : TreeKind) where
       absurd (let leaf : is_leaf old.here.page.kind ≡ true = ap is_leaf is.kind_is ∙ leaf-at kind in cc)
   step_by rest old new (suc levels) tree is later left_above rest_is deep within inner (Ok done) steps =
       entered-above sizes base kind levels tree old.here is within rest later old new left_above rest_is deep steps.0 steps.1
-  step_by {F} rest old new (suc levels) tree is later left_above rest_is deep within inner (Err (TreeDamaged page r)) steps = bad steps
-    where
-      bad : IsBadStep base.pages {F = F} sizes.size sizes.usable base.count old.here (length old.above.items) (TreeDamaged page r) → ⊥
-      bad (inl number) = number.2 (child-in_range sizes base kind levels tree old.here is within)
-      bad (inr (inl many)) = omega (arith, deep, many.2)
-      bad (inr (inr refused)) = child-not_refused sizes base kind levels tree old.here is within r refused.1
-  step_by rest old new (suc levels) tree is later left_above rest_is deep within inner (Err (Store fault)) steps = tt
-  step_by rest old new (suc levels) tree is later left_above rest_is deep within inner (Err (Memory error)) steps = tt
+  step_by rest old new (suc levels) tree is later left_above rest_is deep within inner (Err fault) steps =
+      step-other old levels tree is deep within fault steps
 
   -- a step down
   pub stepped : {F : Type 0} (rest : List Member) (old new : Cursor) (result : Result Unit (TreeFault F)) → is_leaf old.here.page.kind ≡ false
@@ -213,7 +216,7 @@ module _ (sizes : Sizes) (base : Paged) (kind : TreeKind) where
         deep = omega (arith, at.deep, ap length above_are, length-append new.above.items (parent ∷ []));
       }
 
-  none_above : (levels : ℕ) (places : List Place) (later : List Member) → places ≡ [] → IsLeft sizes base kind levels places later → later ≡ []
+  pub none_above : (levels : ℕ) (places : List Place) (later : List Member) → places ≡ [] → IsLeft sizes base kind levels places later → later ≡ []
   none_above levels places later none left = subst (λ (p : List Place). IsLeft sizes base kind levels p later) none left
 
   -- past the last member
@@ -236,7 +239,7 @@ module _ (sizes : Sizes) (base : Paged) (kind : TreeKind) where
     past = λ past. absurd (not_past past);
   }
 
-  moved_place : (levels : ℕ) (tree : TreeOf levels) (old new : Place) → new.page ≡ old.page → new.low ≡ old.low → new.high ≡ old.high → IsPlace sizes base kind levels tree old
+  pub moved_place : (levels : ℕ) (tree : TreeOf levels) (old new : Place) → new.page ≡ old.page → new.low ≡ old.low → new.high ≡ old.high → IsPlace sizes base kind levels tree old
       → IsPlace sizes base kind levels tree new
   moved_place levels tree old new page low high is = record {
     number_is = ap (λ (p : TreePage). p.number) page ∙ is.number_is;
@@ -247,6 +250,19 @@ module _ (sizes : Sizes) (base : Paged) (kind : TreeKind) where
     stands = is.stands;
     full = is.full;
     within = subst⁻¹ (λ (l : Option ℤ). IsWithin kind levels l new.high tree) low (subst⁻¹ (λ (h : ℤ). IsWithin kind levels old.low h tree) high is.within);
+  }
+
+  -- a cursor at the same place
+  pub same-place : (from : (levels : ℕ) → TreeOf levels → ℕ → List Member) (rest : List Member) (old new : Cursor) → new.above.items ≡ old.above.items → new.here ≡ old.here → IsIn sizes base kind from rest old
+      → IsIn sizes base kind from rest new
+  same-place from rest old new above_are here_is is = record {
+    levels = is.levels;
+    tree = is.tree;
+    place_is = subst⁻¹ (IsPlace sizes base kind is.levels is.tree) here_is is.place_is;
+    later = is.later;
+    left_above = subst⁻¹ (λ (places : List Place). IsLeft sizes base kind is.levels (reverse places) is.later) above_are is.left_above;
+    rest_is = is.rest_is ∙ ap (λ (place : Place). from is.levels is.tree place.at ++ is.later) (sym here_is);
+    deep = omega (arith, is.deep, ap length above_are);
   }
 
   -- the cursor at the next cell or child of its page
@@ -372,8 +388,8 @@ module _ (sizes : Sizes) (base : Paged) (rooted : Rooted) (is : IsRoot sizes bas
   root_in_order : (read : TreePage) → IsDecoded (base.pages (page_of rooted.levels rooted.tree)) (page_of rooted.levels rooted.tree) sizes.usable read → Rises (tree_kind read.kind) None greatest_rowid read.views
   root_in_order = in_order sizes base rooted.kind rooted.levels rooted.tree is.stands is.full.below None greatest_rowid root_within_is
 
-  pub root_bad : (F : Type 0) (page : ℕ) (r : Rule) → IsBadRoot {F = F} (base.pages (page_of rooted.levels rooted.tree)) (page_of rooted.levels rooted.tree) sizes.usable (TreeDamaged page r) → ⊥
-  root_bad F page r bad = elim bad.1 [
+  pub root_bad : (page : ℕ) (r : Rule) → IsBadRoot (base.pages (page_of rooted.levels rooted.tree)) (page_of rooted.levels rooted.tree) sizes.usable page r → ⊥
+  root_bad page r bad = elim bad.1 [
     | inl refused ↦ not-refused sizes base rooted.kind rooted.levels rooted.tree is.stands r refused
     | inr out ↦ out.3 (root_in_order out.0 out.1)
   ]

@@ -1,16 +1,14 @@
 -- What a standing tree says of the pages that are read of it.
-use Rattle.std.proofs.Common.{◌≡◌, ◌≢◌, ℕ, ℤ, zero, suc, ◌+◌, ◌<◌, ◌≤◌, ◌<ℤ◌, ◌≤ℤ◌, ◌⊎◌, Bool, true, false, List, [], ◌∷◌, ◌++◌, length, map, drop, slice_get, slice_index_or, Option, Some, None, Result, Ok, Err, refl, sym, ap, ap₂, ◌∙◌, subst, inl, inr, arith, length-append, append_assoc}
-use Rattle.std.proofs.Math.Path.{subst⁻¹}
+use Rattle.std.proofs.Common.{◌≡◌, ℕ, ℤ, zero, suc, ◌<◌, ◌≤◌, ◌<ℤ◌, true, false, List, [], ◌∷◌, ◌++◌, length, map, drop, slice_get, slice_index_or, Option, Some, refl, sym, ap, ap₂, ◌∙◌, subst, arith, length-append, append_assoc}
 use Rattle.std.specs.List.{flat_map, AllByRecursion}
 use Rattle.std.proofs.lemmas.Int.{ints}
-use Rattle.std.proofs.lemmas.List.{length-map, append-nil, drop_all}
+use Rattle.std.proofs.lemmas.List.{length-map, append-nil}
 use Rattle.std.proofs.lemmas.Option.{slice_get_past}
 use Rattle.format_spec.specs.declared.PageKind.{PageKind}
 use Rattle.format_spec.specs.declared.PageKind.TheVariants.{IndexInterior, TableInterior, IndexLeaf, TableLeaf}
 use Rattle.format_spec.specs.declared.CellView.{CellView}
 use Rattle.format_spec.specs.Cell.{IsCell}
 use Rattle.format_spec.specs.Page.{IsPage, RightChild, header_place}
-use Rattle.page_spec.specs.Pages.{IsInRange}
 use Rattle.cell_codec.specs.CellLaws.{cell-same}
 use Rattle.page_layout.specs.Views.{HasViews, IsRefused}
 use Rattle.page_layout.specs.ViewsLaws.{kind_byte-same}
@@ -21,12 +19,12 @@ use Rattle.tree_spec.specs.declared.TreeKind.TheVariants.{Table, Index}
 use Rattle.tree_spec.specs.Trees.{TreeCell, TreeOf, Member, member, between, interior_kind, kind_at, page_of, cells_behind, own_cells, own_right, list_of, list_beside, IsFull, IsFullBelow}
 use Rattle.tree_spec.specs.Bounds.{RisesIn, BesideIn, InOrder}
 use Rattle.tree_spec.specs.BoundsLaws.{rises-bounds, InOrder-rises, rowids as member_rowids}
-use Rattle.tree_spec.specs.Standing.{Sizes, Paged, IsHeld, HasOwnPage, HasBelow, Stands, StandsBefore, StandsLast, IsNumber}
+use Rattle.tree_spec.specs.Standing.{Sizes, Paged, IsHeld, HasBelow, Stands, StandsBefore, StandsLast}
 use Rattle.tree_spec.specs.PagesLaws.{page-same}
 use Rattle.tree_walk.specs.declared.page.TreePage.{TreePage}
 use Rattle.tree_walk.specs.Pages.{IsDecoded, is_leaf, tree_kind}
-use Rattle.tree_walk.specs.Places.{rowids, low_bound, Rises, child_or, rowid_or, bound_or, low_in, IsOutOfPlace}
-use Rattle.tree_walk.specs.Walks.{from_child, behind_child, from_cell, from_place, IsWithin}
+use Rattle.tree_walk.specs.Places.{rowids, low_bound, Rises, child_or, rowid_or, bound_or, low_in}
+use Rattle.tree_walk.specs.Walks.{from_child, behind_child, from_place, IsWithin}
 
 abbrev pub views_of : List TreeCell → List CellView
 views_of cells = map (λ cell. cell.view) cells
@@ -177,7 +175,7 @@ tree-rises Index levels low high tree full within = tt
 -- Children.
 
 -- what is left from a child on is the child and what is left behind it
-from_child-all : (kind : TreeKind) (levels : ℕ) (children : List (TreeOf levels × TreeCell)) (last : TreeOf levels) → from_child kind levels children last 0 ≡ list_beside kind levels children last
+pub from_child-all : (kind : TreeKind) (levels : ℕ) (children : List (TreeOf levels × TreeCell)) (last : TreeOf levels) → from_child kind levels children last 0 ≡ list_beside kind levels children last
 from_child-all kind levels [] last = refl
 from_child-all kind levels (child ∷ children) last = refl
 
@@ -251,7 +249,7 @@ bound_same x y [] at low = absurd (omega arith)
 bound_same x y (v ∷ views) zero low = refl
 bound_same x y (v ∷ views) (suc at) low = bound_same x y views at (omega arith)
 
-low-next : (low : Option ℤ) (v : CellView) (views : List CellView) (at : ℕ) → at ≤ length views → low_in (Some v.rowid) views at ≡ bound_or low (slice_get (v ∷ views) at)
+pub low-next : (low : Option ℤ) (v : CellView) (views : List CellView) (at : ℕ) → at ≤ length views → low_in (Some v.rowid) views at ≡ bound_or low (slice_get (v ∷ views) at)
 low-next low v views zero within = refl
 low-next low v views (suc before) within = bound_same (Some v.rowid) low views before (omega arith)
 

@@ -1,4 +1,10 @@
 pub mod Pages
 pub mod Places
+pub mod Paths
+pub mod PathsLaws
 pub mod Payloads
 pub mod Walks
+pub mod Rising
+pub mod Courses
+pub mod Seeks
+pub mod SoughtCourses

@@ -1,5 +1,5 @@
 -- Places on the way of a cursor: the bounds and the child that a page gives, and which pages may be entered.
-use Rattle.std.specs.Prelude.{◌≡◌, ◌≢◌, ℕ, ℤ, zero, suc, ◌≤◌, ◌⊎◌, List, [], map, Option, Some, None, Result, slice_get}
+use Rattle.std.specs.Prelude.{◌≡◌, ◌≢◌, ℕ, ℤ, zero, suc, ◌<◌, ◌≤◌, ◌⊎◌, List, [], map, Option, Some, None, Result, slice_get}
 use Rattle.common_spec.specs.Reading.{OrFault}
 use Rattle.format_spec.specs.declared.CellView.{CellView}
 use Rattle.page_spec.specs.Pages.{Pages, IsInRange}
@@ -9,8 +9,8 @@ use Rattle.refusal.specs.declared.Rule.TheVariants as broken
 use Rattle.tree_spec.specs.declared.TreeKind.{TreeKind}
 use Rattle.tree_spec.specs.declared.TreeKind.TheVariants.{Table, Index}
 use Rattle.tree_spec.specs.Bounds.{RisesIn, below_rowids, greatest_rowid}
-use Rattle.tree_walk.specs.declared.fault.TreeFault.{TreeFault}
-use Rattle.tree_walk.specs.declared.fault.TreeFault.TheVariants.{TreeDamaged, Store, Memory}
+use Rattle.tree_spec.specs.declared.fault.TreeFault.{TreeFault}
+use Rattle.tree_spec.specs.Faults.{IsDamage, IsDamageOrOther}
 use Rattle.tree_walk.specs.declared.page.TreePage.{TreePage}
 use Rattle.tree_walk.specs.declared.place.Place.{Place}
 use Rattle.tree_walk.specs.Pages.{IsDecoded, tree_kind}
@@ -65,45 +65,37 @@ pub record IsBounded (page : TreePage) (low : Option ℤ) (high : ℤ) (place : 
   pub rises : Rises (tree_kind page.kind) low high page.views
 
 -- the rowids of a page do not keep the bounds
-abbrev pub OutOfOrder : {F : Type 0} → TreePage → Option ℤ → ℤ → TreeFault F → Type 0
-OutOfOrder page low high (TreeDamaged number rule) = (number ≡ page.number) × (rule ≡ broken.Cells) × ¬ Rises (tree_kind page.kind) low high page.views
-OutOfOrder page low high (Store fault) = ⊥
-OutOfOrder page low high (Memory error) = ⊥
+abbrev pub OutOfOrder : TreePage → Option ℤ → ℤ → ℕ → Rule → Type 0
+OutOfOrder page low high number rule = (number ≡ page.number) × (rule ≡ broken.Cells) × ¬ Rises (tree_kind page.kind) low high page.views
 
 -- the number of a child, or that it is out of range, which stands in the parent
-abbrev pub IsBadNumber : {F : Type 0} → ℕ → ℕ → Place → TreeFault F → Type 0
-IsBadNumber size count parent (TreeDamaged page rule) = (page ≡ parent.page.number) × (rule ≡ broken.Child) × ¬ IsInRange size count (child_at parent)
-IsBadNumber size count parent (Store fault) = ⊥
-IsBadNumber size count parent (Memory error) = ⊥
+abbrev pub IsBadNumber : ℕ → ℕ → Place → ℕ → Rule → Type 0
+IsBadNumber size count parent page rule = (page ≡ parent.page.number) × (rule ≡ broken.Child) × ¬ IsInRange size count (child_at parent)
 
 abbrev pub IsChildNumber : {F : Type 0} → ℕ → ℕ → Place → Result ℕ (TreeFault F) → Type 0
-IsChildNumber size count parent result = OrFault (λ number. (number ≡ child_at parent) × IsInRange size count number) (IsBadNumber size count parent) result
+IsChildNumber size count parent result = OrFault (λ number. (number ≡ child_at parent) × IsInRange size count number) (IsDamage (IsBadNumber size count parent)) result
 
 -- the most pages above the one in which a cursor stands
 abbrev pub most_above : ℕ
 most_above = 24
 
--- what is wrong with a page that was read, in its place
+-- what is wrong with a page that was read, in its place: of several the first
 abbrev pub IsOutOfPlace : TreeKind → Option ℤ → ℤ → TreePage → Rule → Type 0
 IsOutOfPlace kind low high page broken.Kind = tree_kind page.kind ≢ kind
-IsOutOfPlace kind low high page broken.Empty = page.views ≡ []
-IsOutOfPlace kind low high page broken.Cells = ¬ Rises (tree_kind page.kind) low high page.views
+IsOutOfPlace kind low high page broken.Empty = (tree_kind page.kind ≡ kind) × (page.views ≡ [])
+IsOutOfPlace kind low high page broken.Cells = (tree_kind page.kind ≡ kind) × (page.views ≢ []) × ¬ Rises (tree_kind page.kind) low high page.views
 IsOutOfPlace kind low high page _ = ⊥
 
 -- a page of these bytes is refused: as a page, or in its place
-abbrev pub IsBadPage : {F : Type 0} → List ℕ → ℕ → ℕ → TreeKind → Option ℤ → ℤ → TreeFault F → Type 0
-IsBadPage bytes number usable kind low high (TreeDamaged page rule) =
+abbrev pub IsBadPage : List ℕ → ℕ → ℕ → TreeKind → Option ℤ → ℤ → ℕ → Rule → Type 0
+IsBadPage bytes number usable kind low high page rule =
     (page ≡ number) × (IsRefused bytes number usable rule ⊎ ((read : TreePage) × IsDecoded bytes number usable read × IsOutOfPlace kind low high read rule))
-IsBadPage bytes number usable kind low high (Store fault) = Unit {0}
-IsBadPage bytes number usable kind low high (Memory error) = Unit {0}
 
 -- the page of a root is refused: it may have no cell, and either kind
-abbrev pub IsBadRoot : {F : Type 0} → List ℕ → ℕ → ℕ → TreeFault F → Type 0
-IsBadRoot bytes number usable (TreeDamaged page rule) =
+abbrev pub IsBadRoot : List ℕ → ℕ → ℕ → ℕ → Rule → Type 0
+IsBadRoot bytes number usable page rule =
     (page ≡ number) × (IsRefused bytes number usable rule
     ⊎ ((read : TreePage) × IsDecoded bytes number usable read × (rule ≡ broken.Cells) × ¬ Rises (tree_kind read.kind) None greatest_rowid read.views))
-IsBadRoot bytes number usable (Store fault) = Unit {0}
-IsBadRoot bytes number usable (Memory error) = Unit {0}
 
 -- the first place of a page of these bytes, with these bounds
 pub record IsEntered (bytes : List ℕ) (number usable : ℕ) (low : Option ℤ) (high : ℤ) (place : Place) : Type 0 where
@@ -121,26 +113,24 @@ pub record IsBelow (bytes : List ℕ) (number usable : ℕ) (parent child : Plac
 
 -- a page of these bytes is entered below another
 abbrev pub EntersPage : {F : Type 0} → List ℕ → ℕ → ℕ → Place → Result Place (TreeFault F) → Type 0
-EntersPage bytes number usable parent result = OrFault (IsBelow bytes number usable parent) (IsBadPage bytes number usable (tree_kind parent.page.kind) (low_at parent) (high_at parent)) result
+EntersPage bytes number usable parent result = OrFault (IsBelow bytes number usable parent) (IsDamageOrOther (IsBadPage bytes number usable (tree_kind parent.page.kind) (low_at parent) (high_at parent))) result
 
 -- the page of a root is entered
 abbrev pub EntersRoot : {F : Type 0} → List ℕ → ℕ → ℕ → Result Place (TreeFault F) → Type 0
-EntersRoot bytes number usable result = OrFault (IsEntered bytes number usable None greatest_rowid) (IsBadRoot bytes number usable) result
+EntersRoot bytes number usable result = OrFault (IsEntered bytes number usable None greatest_rowid) (IsDamageOrOther (IsBadRoot bytes number usable)) result
 
 module _ (pages : Pages) where
   -- the place of the child of another
   abbrev pub IsChild : ℕ → Place → Place → Type 0
   IsChild usable parent child = IsBelow (pages (child_at parent)) (child_at parent) usable parent child
 
-  -- why the child of a place is not entered: its number is out of range, too many pages are above it, or its page is refused
-  abbrev pub IsBadStep : {F : Type 0} → ℕ → ℕ → ℕ → Place → ℕ → TreeFault F → Type 0
-  IsBadStep {F} size usable count parent above (TreeDamaged page rule) =
-      IsBadNumber {F = F} size count parent (TreeDamaged page rule)
-      ⊎ ((page ≡ child_at parent) × (rule ≡ broken.Depth) × (most_above ≤ above))
-      ⊎ IsBadPage {F = F} (pages (child_at parent)) (child_at parent) usable (tree_kind parent.page.kind) (low_at parent) (high_at parent) (TreeDamaged page rule)
-  IsBadStep size usable count parent above (Store fault) = Unit {0}
-  IsBadStep size usable count parent above (Memory error) = Unit {0}
+  -- why the child of a place is not entered: its number is out of range; else too many pages are above it; else its page is refused
+  abbrev pub IsBadStep : ℕ → ℕ → ℕ → Place → ℕ → ℕ → Rule → Type 0
+  IsBadStep size usable count parent above page rule =
+      IsBadNumber size count parent page rule
+      ⊎ (IsInRange size count (child_at parent) × (page ≡ child_at parent) × (rule ≡ broken.Depth) × (most_above ≤ above))
+      ⊎ (IsInRange size count (child_at parent) × (above < most_above) × IsBadPage (pages (child_at parent)) (child_at parent) usable (tree_kind parent.page.kind) (low_at parent) (high_at parent) page rule)
 
   -- the child of a place is entered, or not
   abbrev pub EntersChild : {F : Type 0} → ℕ → ℕ → ℕ → Place → ℕ → Result Place (TreeFault F) → Type 0
-  EntersChild size usable count parent above result = OrFault (IsChild usable parent) (IsBadStep size usable count parent above) result
+  EntersChild size usable count parent above result = OrFault (IsChild usable parent) (IsDamageOrOther (IsBadStep size usable count parent above)) result

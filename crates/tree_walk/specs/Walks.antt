@@ -1,18 +1,16 @@
 -- Where a cursor stands in a tree, and which members are left from there on.
-use Rattle.std.specs.Prelude.{◌≡◌, ◌≢◌, ℕ, ℤ, zero, suc, ◌+◌, ◌<◌, ◌≤◌, ◌⊎◌, ◌↔◌, Bool, IsTrue, List, [], ◌∷◌, ◌++◌, length, map, reverse, drop, Option, Some, None, Result, Ok, Err}
-use Rattle.std.specs.List.{flat_map}
+use Rattle.std.specs.Prelude.{◌≡◌, ℕ, ℤ, zero, suc, ◌+◌, ◌<◌, ◌≤◌, List, [], ◌∷◌, ◌++◌, length, map, reverse, drop, Option, Some, None, Result, Ok, Err}
 use Rattle.common_spec.specs.Reading.{OrFault}
 use Rattle.tree_spec.specs.declared.TreeKind.{TreeKind}
 use Rattle.tree_spec.specs.declared.TreeKind.TheVariants.{Table, Index}
 use Rattle.tree_spec.specs.Trees.{TreeCell, TreeOf, Member, member, between, page_of, kind_at, own_cells, own_right, list_of, list_beside, IsFullBelow}
 use Rattle.tree_spec.specs.Bounds.{InOrder}
 use Rattle.tree_spec.specs.Standing.{Sizes, Paged, Stands, IsTree}
-use Rattle.tree_walk.specs.declared.fault.TreeFault.{TreeFault}
-use Rattle.tree_walk.specs.declared.fault.TreeFault.TheVariants.{TreeDamaged, Store, Memory}
+use Rattle.tree_spec.specs.declared.fault.TreeFault.{TreeFault}
+use Rattle.tree_spec.specs.Faults.{IsOther, IsDamageOrOther}
 use Rattle.tree_walk.specs.declared.place.Place.{Place}
-use Rattle.tree_walk.specs.declared.cursor.Cursor.{Cursor}
+use Rattle.tree_walk.specs.declared.path.Cursor.{Cursor}
 use Rattle.tree_walk.specs.declared.cursor.Row.{Row}
-use Rattle.tree_walk.specs.Pages.{IsOther}
 use Rattle.tree_walk.specs.Places.{low_bound, most_above, IsBadStep, IsChild}
 
 -- the cursor stands past all cells of its page, and so past the last member
@@ -142,4 +140,4 @@ ReadsRow sizes base cursor result = (kind : TreeKind) (rest : List Member) → S
 -- a cursor entered the child at which it was, or not
 abbrev pub StepsDown : {F : Type 0} → Sizes → Paged → Cursor → Cursor → Result Unit (TreeFault F) → Type 0
 StepsDown sizes base old new (Ok done) = (new.above.items ≡ old.above.items ++ old.here ∷ []) × IsChild base.pages sizes.usable old.here new.here
-StepsDown sizes base old new (Err fault) = IsBadStep base.pages sizes.size sizes.usable base.count old.here (length old.above.items) fault
+StepsDown sizes base old new (Err fault) = IsDamageOrOther (IsBadStep base.pages sizes.size sizes.usable base.count old.here (length old.above.items)) fault

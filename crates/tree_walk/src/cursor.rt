@@ -1,15 +1,21 @@
 // Cursors over a tree.
-ghost use Rattle.std.specs.Prelude.{◌≡◌, ◌+◌, ◌<◌, ◌≤◌, ◌↔◌, List, [], true, IfOk, IsNone, IsTrue, OnOk};
+ghost use Rattle.std.specs.Prelude.{◌≡◌, ◌+◌, ◌<◌, ◌≤◌, ◌↔◌, List, [], false, true, IfOk, IfSome, IsNone, IsTrue, OnOk};
 ghost use Rattle.arrayvec.specs.ArrayVec.{array_vec_len};
 ghost use Rattle.page_store.specs.Store.{HasSizes, OwesBy, Sees};
 ghost use Rattle.tree_spec.specs.declared.TreeKind.{TreeKind};
 ghost use Rattle.tree_spec.specs.Trees.{Member};
 ghost use Rattle.tree_spec.specs.Standing.{Paged, Sizes};
-ghost use Rattle.tree_walk.specs.Pages.{fault_in, is_leaf as is_leaf_of};
+ghost use Rattle.tree_spec.specs.Faults.{fault_in};
+ghost use Rattle.tree_walk.specs.Pages.{is_leaf as is_leaf_of};
+ghost use Rattle.page_spec.specs.Pages.{IsInRange};
+ghost use Rattle.tree_walk.specs.Courses.{Course, FromCell, GoesOn, IsOn, LandsOn, MovesOver, ReadsFirst, SettlesOn, StartsAt, StartsWalk};
+ghost use Rattle.tree_walk.specs.Paths.{IsKept};
+ghost use Rattle.tree_walk.specs.Places.{child_at};
+ghost use Rattle.tree_walk.specs.Rising.{ComesUp, KeepsHigh, KeepsLow, MovesUp, kind_of, rowid_at};
 ghost use Rattle.tree_walk.specs.Walks.{GoesDown, IsAtCell, IsPast, Lands, MovesOn, ReadsRow, Settles, StandsBelow, StandsFirst, StepsDown};
 
 use crate::entering::{enter_child, enter_root};
-use crate::fault::TreeFault;
+use crate::path::Cursor;
 use crate::payload::read_payload;
 use crate::place::Place;
 use crate::reading::{has_dividers, is_leaf};
@@ -18,19 +24,13 @@ use page_store::PageRead;
 use rbu_value::Bytes;
 use std::alloc::Global;
 use std::mem;
+use tree_spec::TreeFault;
 
 /// A member of a tree: a row of a table, with its record, or an entry of an index, whose rowid is 0.
 #[derive(Drop)]
 pub struct Row {
     pub rowid: i64,
     pub payload: Bytes,
-}
-
-/// A place in a tree: at one of its members, or past the last. Its path has at most 25 pages, of which `here` is the last.
-#[derive(Drop)]
-pub struct Cursor {
-    above: ArrayVec<Place, 24, Global>,
-    here: Place,
 }
 
 impl Cursor {
@@ -42,14 +42,17 @@ impl Cursor {
     }
 
     // Enters the child at which the cursor is. Refuses [55] with `child`, `depth`, `kind`, `cells` or `empty`.
-    fn step_down<S: PageRead>(
+    pub(crate) fn step_down<S: PageRead>(
         &mut self,
         alloc: Global,
         store: &mut S,
     ) -> Result<(), TreeFault<S::Fault>>
-        requires { HasSizes S.PageRead store.old }
+        requires sizes { HasSizes S.PageRead store.old }
+        requires inner { is_leaf_of self.old.here.page.kind ≡ false }
         ensures pages { Sees S.PageRead store.old store.new (λ m. StepsDown (record { size = S.size store.old; usable = S.usable store.old }) (record { count = S.count store.old; pages = m }) self.old self.new result) }
+        ensures named { OnOk result (IsInRange (S.size store.old) (S.count store.old) (child_at self.old.here)) }
         ensures room { OnOk result (array_vec_len self.old.above < 24) }
+        ensures bound { OnOk result (KeepsLow self.old self.new) }
         ensures longer { OnOk result (array_vec_len self.new.above ≡ array_vec_len self.old.above + 1) }
         ensures owes { OwesBy S.PageRead fault_in store.old store.new result }
     {
@@ -71,7 +74,9 @@ impl Cursor {
     ) -> Result<(), TreeFault<S::Fault>>
         requires { HasSizes S.PageRead store.old }
         ensures pages { Sees S.PageRead store.old store.new (λ m. GoesDown (record { size = S.size store.old; usable = S.usable store.old }) (record { count = S.count store.old; pages = m }) self.old self.new result) }
+        ensures walk { Sees S.PageRead store.old store.new (λ m. GoesOn (record { size = S.size store.old; usable = S.usable store.old }) (record { count = S.count store.old; pages = m }) self.old self.new result) }
         ensures leaf { OnOk result (is_leaf_of self.new.here.page.kind ≡ true) }
+        ensures bound { OnOk result (KeepsLow self.old self.new) }
         ensures owes { OwesBy S.PageRead fault_in store.old store.new result }
     {
         while !is_leaf(self.here.page.kind) {
@@ -91,6 +96,8 @@ impl Cursor {
     ) -> Result<bool, TreeFault<S::Fault>>
         requires { HasSizes S.PageRead store.old }
         ensures pages { Sees S.PageRead store.old store.new (λ m. Lands (record { size = S.size store.old; usable = S.usable store.old }) (record { count = S.count store.old; pages = m }) self.old self.new result) }
+        ensures walk { Sees S.PageRead store.old store.new (λ m. LandsOn (record { size = S.size store.old; usable = S.usable store.old }) (record { count = S.count store.old; pages = m }) self.old self.new result) }
+        ensures bound { OnOk result (KeepsLow self.old self.new) }
         ensures moved { IfOk result (λ moved. IsTrue moved ↔ ¬ IsPast self.new) }
         ensures owes { OwesBy S.PageRead fault_in store.old store.new result }
     {
@@ -103,6 +110,9 @@ impl Cursor {
     // Leaves the pages of which nothing is left.
     fn climb(&mut self)
         ensures left { (sizes : Sizes) (base : Paged) (kind : TreeKind) (rest : List Member) → IsAtCell sizes base kind rest self.old → IsAtCell sizes base kind rest self.new }
+        ensures walk { (sizes : Sizes) (base : Paged) (course : Course) → IsOn sizes base (FromCell sizes base) course self.old → IsOn sizes base (FromCell sizes base) course self.new }
+        ensures bound { KeepsHigh self.old self.new }
+        ensures inner { IsPast self.old → ¬ IsPast self.new → is_leaf_of self.new.here.page.kind ≡ false }
         ensures ends { IsPast self.new → self.new.above.items ≡ [] }
     {
         while self.is_past() {
@@ -114,13 +124,16 @@ impl Cursor {
     }
 
     // Comes to the first member from the cell on at which the cursor is. Answers whether there is one.
-    fn settle<S: PageRead>(
+    pub(crate) fn settle<S: PageRead>(
         &mut self,
         alloc: Global,
         store: &mut S,
     ) -> Result<bool, TreeFault<S::Fault>>
         requires { HasSizes S.PageRead store.old }
         ensures pages { Sees S.PageRead store.old store.new (λ m. Settles (record { size = S.size store.old; usable = S.usable store.old }) (record { count = S.count store.old; pages = m }) self.old self.new result) }
+        ensures walk { Sees S.PageRead store.old store.new (λ m. SettlesOn (record { size = S.size store.old; usable = S.usable store.old }) (record { count = S.count store.old; pages = m }) self.old self.new result) }
+        ensures kind { OnOk result (kind_of self.new ≡ kind_of self.old) }
+        ensures rises { IfOk result (ComesUp self.old self.new) }
         ensures moved { IfOk result (λ moved. IsTrue moved ↔ ¬ IsPast self.new) }
         ensures owes { OwesBy S.PageRead fault_in store.old store.new result }
     {
@@ -141,8 +154,10 @@ impl Cursor {
         store: &mut S,
         here: Place,
     ) -> Result<Cursor, TreeFault<S::Fault>>
-        requires { HasSizes S.PageRead store.old }
+        requires sizes { HasSizes S.PageRead store.old }
+        requires kept { IsKept here }
         ensures pages { Sees S.PageRead store.old store.new (λ m. StandsBelow (record { size = S.size store.old; usable = S.usable store.old }) (record { count = S.count store.old; pages = m }) here result) }
+        ensures walk { Sees S.PageRead store.old store.new (λ m. StartsAt (record { size = S.size store.old; usable = S.usable store.old }) (record { count = S.count store.old; pages = m }) here result) }
         ensures owes { OwesBy S.PageRead fault_in store.old store.new result }
     {
         let mut cursor = Cursor {
@@ -165,6 +180,7 @@ impl Cursor {
         requires first { 1 ≤ root }
         requires within { root ≤ S.count store.old }
         ensures pages { Sees S.PageRead store.old store.new (λ m. StandsFirst (record { size = S.size store.old; usable = S.usable store.old }) (record { count = S.count store.old; pages = m }) root result) }
+        ensures walk { Sees S.PageRead store.old store.new (λ m. StartsWalk (record { size = S.size store.old; usable = S.usable store.old }) (record { count = S.count store.old; pages = m }) root result) }
         ensures owes { OwesBy S.PageRead fault_in store.old store.new result }
     {
         match enter_root(alloc, store, root) {
@@ -173,7 +189,7 @@ impl Cursor {
         }
     }
 
-    /// Moves to the next member. False exactly where the cursor then stands past the last. Refuses [55].
+    /// Moves to the next member. False exactly where the cursor then stands past the last. Refuses [55]. The rowids of a table strictly rise, whatever the store holds.
     pub fn next<S: PageRead>(
         &mut self,
         alloc: Global,
@@ -181,6 +197,9 @@ impl Cursor {
     ) -> Result<bool, TreeFault<S::Fault>>
         requires { HasSizes S.PageRead store.old }
         ensures pages { Sees S.PageRead store.old store.new (λ m. MovesOn (record { size = S.size store.old; usable = S.usable store.old }) (record { count = S.count store.old; pages = m }) self.old self.new result) }
+        ensures walk { Sees S.PageRead store.old store.new (λ m. MovesOver (record { size = S.size store.old; usable = S.usable store.old }) (record { count = S.count store.old; pages = m }) self.old self.new result) }
+        ensures kind { OnOk result (kind_of self.new ≡ kind_of self.old) }
+        ensures rises { IfOk result (MovesUp self.old self.new) }
         ensures moved { IfOk result (λ moved. IsTrue moved ↔ ¬ IsPast self.new) }
         ensures owes { OwesBy S.PageRead fault_in store.old store.new result }
     {
@@ -202,7 +221,9 @@ impl Cursor {
     ) -> Result<Option<Row>, TreeFault<S::Fault>>
         requires { HasSizes S.PageRead store.old }
         ensures pages { Sees S.PageRead store.old store.new (λ m. ReadsRow (record { size = S.size store.old; usable = S.usable store.old }) (record { count = S.count store.old; pages = m }) self.now result) }
+        ensures walk { Sees S.PageRead store.old store.new (λ m. ReadsFirst (record { size = S.size store.old; usable = S.usable store.old }) (record { count = S.count store.old; pages = m }) self.now result) }
         ensures none { IfOk result (λ row. IsNone row ↔ IsPast self.now) }
+        ensures rowid { IfOk result (λ row. IfSome row (λ row. row.rowid ≡ rowid_at self.now)) }
         ensures owes { OwesBy S.PageRead fault_in store.old store.new result }
     {
         if self.is_past() {

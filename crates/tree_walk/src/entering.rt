@@ -1,13 +1,14 @@
 // Enters the pages of a tree.
-ghost use Rattle.std.specs.Prelude.{◌≡◌, ◌<◌, ◌≤◌, ◌↔◌, ℕ, List, [], IfErr, IsTrue, None, OnOk};
+ghost use Rattle.std.specs.Prelude.{◌≡◌, ◌<◌, ◌≤◌, ◌↔◌, ℕ, List, [], IfErr, IfOk, IsTrue, None, OnOk};
 ghost use Rattle.common_spec.specs.Reading.{OrFault};
 ghost use Rattle.page_spec.specs.Pages.{IsInRange};
 ghost use Rattle.page_store.specs.Store.{HasSizes, OwesBy, Sees};
-ghost use Rattle.tree_walk.specs.Pages.{IsDecoded, fault_in, tree_kind as tree_kind_of};
+ghost use Rattle.tree_spec.specs.Faults.{IsDamage, fault_in};
+ghost use Rattle.tree_walk.specs.Pages.{IsDecoded, tree_kind as tree_kind_of};
+ghost use Rattle.tree_walk.specs.Paths.{IsFirstUnder, IsKept};
 ghost use Rattle.tree_walk.specs.Places.{EntersChild, EntersPage, EntersRoot, IsBounded, IsChildNumber, OutOfOrder, child_at};
 
 use crate::bounds::is_in_order;
-use crate::fault::{TreeFault, damaged};
 use crate::page::TreePage;
 use crate::place::Place;
 use crate::reading::{read_page, tree_kind};
@@ -15,6 +16,7 @@ use cell_codec::PageKind;
 use page_store::{PageRead, is_in_range};
 use refusal::Rule;
 use std::alloc::Global;
+use tree_spec::{TreeFault, damaged};
 
 // The number of the child at which a place is.
 fn child_of(place: &Place) -> u32
@@ -41,7 +43,7 @@ pub fn child_number<S: PageRead>(store: &S, parent: &Place) -> Result<u32, TreeF
 
 // Stands at the first cell or child of a page. Refuses [55] with `cells` where its rowids do not keep the bounds.
 fn stand<F>(page: TreePage, low: Option<i64>, high: i64) -> Result<Place, TreeFault<F>>
-    ensures answer { OrFault (IsBounded page low high) (OutOfOrder page low high) result }
+    ensures answer { OrFault (IsBounded page low high) (IsDamage (OutOfOrder page low high)) result }
     ensures cause { IfErr result (λ fault. fault_in fault ≡ None) }
 {
     if !is_in_order(&page, low, high) {
@@ -72,6 +74,7 @@ fn are_of_one_kind(one: PageKind, other: PageKind) -> bool
 // Stands at the first cell or child of a page below another. Refuses [55] with `kind`, `empty` or `cells`.
 fn stand_below<F>(page: TreePage, parent: &Place) -> Result<Place, TreeFault<F>>
     ensures answer { (bytes : List ℕ) (number usable : ℕ) → IsDecoded bytes number usable page → EntersPage bytes number usable parent.now result }
+    ensures under { IfOk result (IsFirstUnder parent.now) }
     ensures cause { IfErr result (λ fault. fault_in fault ≡ None) }
 {
     if !are_of_one_kind(page.kind, parent.page.kind) {
@@ -93,6 +96,7 @@ fn enter_page<S: PageRead>(
     requires sizes { HasSizes S.PageRead store.old }
     requires number { IsInRange (S.size store.old) (S.count store.old) number }
     ensures pages { Sees S.PageRead store.old store.new (λ m. EntersPage (m number) number (S.usable store.old) parent.now result) }
+    ensures under { IfOk result (IsFirstUnder parent.now) }
     ensures owes { OwesBy S.PageRead fault_in store.old store.new result }
 {
     match read_page(alloc, store, number) {
@@ -110,6 +114,8 @@ pub fn enter_child<S: PageRead>(
 ) -> Result<Place, TreeFault<S::Fault>>
     requires { HasSizes S.PageRead store.old }
     ensures pages { Sees S.PageRead store.old store.new (λ m. EntersChild m (S.size store.old) (S.usable store.old) (S.count store.old) parent.now above result) }
+    ensures under { IfOk result (IsFirstUnder parent.now) }
+    ensures named { OnOk result (IsInRange (S.size store.old) (S.count store.old) (child_at parent.now)) }
     ensures room { OnOk result (above < 24) }
     ensures owes { OwesBy S.PageRead fault_in store.old store.new result }
 {
@@ -126,6 +132,7 @@ pub fn enter_child<S: PageRead>(
 // Stands at the first cell or child of a root's page. Refuses [55] with `cells`.
 fn stand_at_root<F>(page: TreePage) -> Result<Place, TreeFault<F>>
     ensures answer { (bytes : List ℕ) (number usable : ℕ) → IsDecoded bytes number usable page → EntersRoot bytes number usable result }
+    ensures kept { IfOk result IsKept }
     ensures cause { IfErr result (λ fault. fault_in fault ≡ None) }
 {
     stand(page, None, i64::MAX)
@@ -141,6 +148,7 @@ pub fn enter_root<S: PageRead>(
     requires first { 1 ≤ root }
     requires within { root ≤ S.count store.old }
     ensures pages { Sees S.PageRead store.old store.new (λ m. EntersRoot (m root) root (S.usable store.old) result) }
+    ensures kept { IfOk result IsKept }
     ensures owes { OwesBy S.PageRead fault_in store.old store.new result }
 {
     match read_page(alloc, store, root) {

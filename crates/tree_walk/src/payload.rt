@@ -1,16 +1,16 @@
 // Reads the payloads of cells.
 ghost use Rattle.std.specs.Prelude.{◌≡◌, ◌<◌, length};
 ghost use Rattle.page_store.specs.Store.{HasSizes, OwesBy, Sees};
-ghost use Rattle.tree_walk.specs.Pages.{fault_in};
+ghost use Rattle.tree_spec.specs.Faults.{fault_in};
 ghost use Rattle.tree_walk.specs.Payloads.{ReadsPayload, ReadsRest, tree_fault};
 
-use crate::fault::{TreeFault, damaged};
 use crate::page::TreePage;
 use overflow_chain::{ChainFault, read_chain};
 use page_store::{PageRead, is_in_range};
 use rbu_value::Bytes;
 use refusal::Rule;
 use std::alloc::Global;
+use tree_spec::{TreeFault, damaged};
 
 // A chain that breaks is damage of its tree.
 fn in_tree<F>(fault: ChainFault<F>) -> TreeFault<F>

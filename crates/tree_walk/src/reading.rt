@@ -6,9 +6,9 @@ ghost use Rattle.format_spec.specs.Page.{cell_place};
 ghost use Rattle.format_spec.specs.Sizes.{IsUsable};
 ghost use Rattle.page_layout.specs.Views.{HasPageFault, IsMemory};
 ghost use Rattle.page_store.specs.Store.{HasSizes, Looks, OwesBy, Sees};
-ghost use Rattle.tree_walk.specs.Pages.{IsDecoded, IsOther, IsReadFault, ReadsPage, fault_in, has_dividers as has_dividers_of, is_leaf as is_leaf_of, tree_kind as tree_kind_of};
+ghost use Rattle.tree_spec.specs.Faults.{IsOther, fault_in};
+ghost use Rattle.tree_walk.specs.Pages.{IsDecoded, IsReadFault, ReadsPage, has_dividers as has_dividers_of, is_leaf as is_leaf_of, tree_kind as tree_kind_of};
 
-use crate::fault::{TreeFault, damaged};
 use crate::page::TreePage;
 use cell_codec::{CellView, PageKind};
 use owned_list::OwnedList;
@@ -17,7 +17,7 @@ use page_store::{PageRead, page_buffer};
 use rbu_value::Bytes;
 use refusal::Rule;
 use std::alloc::Global;
-use tree_spec::TreeKind;
+use tree_spec::{TreeFault, TreeKind, damaged};
 
 /// The kind of the trees that have pages of this kind.
 pub fn tree_kind(kind: PageKind) -> TreeKind

@@ -1,2 +1,3 @@
 pub mod FrameIndex
 pub mod IndexLaws
+pub mod OverlayLaws

@@ -8,6 +8,8 @@
 #![tactic(auto)]
 
 mod index;
+mod laws;
 
 pub use index::WalIndex;
+pub use laws::last_frame_is_overlaid;
 pub use wal_codec::Log;

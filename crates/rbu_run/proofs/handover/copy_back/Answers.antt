@@ -8,7 +8,8 @@ use Rattle.file_spec.specs.OnlyChangesLaws.{only-same, only-then, only-torn, onl
 use Rattle.file_spec.specs.Records.{shown_files}
 use Rattle.file_spec.specs.Steps.{AfterSync, AfterFailedSync}
 use Rattle.rbu_run.specs.Handover.{HasPages}
-use Rattle.rbu_run.proofs.Parts.{on-ok, on-ok-map}
+use Rattle.std.proofs.lemmas.Result.{on_ok_weaker}
+use Rattle.rbu_run.proofs.Parts.{on-ok}
 use Rattle.rbu_run.proofs.Copies.{pages-copied}
 use Rattle.rbu_run.proofs.Moments.{records-go, led-ok}
 use Rattle.rbu_run.proofs.PhaseCalls.{logged-then, logged-written, logged-stable, shown-stable}
@@ -51,8 +52,7 @@ returns-clause-stable g c =
     let shows : Leads (λ a b. length (content (shown_files a.now.at) Target) ≡ 8192 → shown_files b.now.at Target ≡ Some c.args.pages.now) (g.D.Disk.trail c.args.disk.now) (g.D.Disk.trail c.write_at-2.new.self) =
     Leads-weaken (records-go g.D.Disk g.met.D.Disk.tied (λ f h. length (content f Target) ≡ 8192 → HasPages c.args.pages.now f h) c.args.disk.now c.write_at-2.new.self (copied g c))
     (λ a b is long. ap (λ (files : Files). files Target) (is long)) in
-    on-ok-map c.sync.result (led-ok _ _ c.sync.result (AfterSync Target) (AfterFailedSync Target) c.sync.ensures.moments)
-    (shown-stable (λ r. length (content (shown_files r) Target) ≡ 8192) Target c.args.pages.now shows)
+    on_ok_weaker c.sync.result (shown-stable (λ r. length (content (shown_files r) Target) ≡ 8192) Target c.args.pages.now shows) (led-ok _ _ c.sync.result (AfterSync Target) (AfterFailedSync Target) c.sync.ensures.moments)
 
 pub returns-clause-only : goal.returns-clause-only
 returns-clause-only g c =

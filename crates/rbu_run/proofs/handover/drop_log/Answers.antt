@@ -1,5 +1,5 @@
 use Rattle.file_spec.specs.Steps.{AfterFolderSync, AfterFailedFolderSync}
-use Rattle.rbu_run.proofs.Parts.{on-ok-map}
+use Rattle.std.proofs.lemmas.Result.{on_ok_weaker}
 use Rattle.rbu_run.proofs.Moments.{led-ok}
 use Rattle.rbu_run.proofs.PhaseCalls.{between-then, between-gone, between-folder, folder-names, gone-target}
 use Rattle.rbu_run.proofs.handover.drop_log.Goals as goal
@@ -12,8 +12,8 @@ returns-clause-moments g c = between-then (between-gone c.remove.result c.remove
 
 pub returns-clause-names : goal.returns-clause-names
 returns-clause-names g c =
-    on-ok-map c.sync_folder.result (led-ok _ _ c.sync_folder.result AfterFolderSync AfterFailedFolderSync c.sync_folder.ensures.moments) folder-names
+    on_ok_weaker c.sync_folder.result folder-names (led-ok _ _ c.sync_folder.result AfterFolderSync AfterFailedFolderSync c.sync_folder.ensures.moments)
 
 pub returns-clause-target : goal.returns-clause-target
 returns-clause-target g c =
-    on-ok-map c.sync_folder.result (led-ok _ _ c.sync_folder.result AfterFolderSync AfterFailedFolderSync c.sync_folder.ensures.moments) (gone-target c.in_ok-remove.ensures.moments)
+    on_ok_weaker c.sync_folder.result (gone-target c.in_ok-remove.ensures.moments) (led-ok _ _ c.sync_folder.result AfterFolderSync AfterFailedFolderSync c.sync_folder.ensures.moments)

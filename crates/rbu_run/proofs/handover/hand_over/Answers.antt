@@ -1,7 +1,8 @@
 use Rattle.std.proofs.Common.{◌≡◌, Some, rules}
 use Rattle.common_spec.specs.Told.{Leads}
 use Rattle.format_spec.specs.Log.{pair_of}
-use Rattle.rbu_run.proofs.Parts.{on-err, on-ok-map, on-err-map}
+use Rattle.std.proofs.lemmas.Result.{on_ok_weaker, on_err_weaker}
+use Rattle.rbu_run.proofs.Parts.{on-err}
 use Rattle.rbu_run.proofs.Handovers.{PagesCopied, log-moved, pages-copied, handed-over, stopped-log, stopped-move, stopped-copy, stopped-drop}
 use Rattle.file_spec.specs.declared.FileName.TheVariants.{Target, Wal}
 use Rattle.file_spec.specs.Files.{with_file}
@@ -57,10 +58,10 @@ copied g c =
     (log-moved (pair_of c.args.salt) c.args.pages.now c.in_ok-write_log.ensures.done c.in_ok-move_log.ensures.done) c.in_ok-copy_back.ensures.done
 
 pub returns-clause-done : goal.returns-clause-done
-returns-clause-done g c = on-ok-map c.drop_log.result c.drop_log.ensures.done (handed-over (pair_of c.args.salt) c.args.pages.now (copied g c))
+returns-clause-done g c = on_ok_weaker c.drop_log.result (handed-over (pair_of c.args.salt) c.args.pages.now (copied g c)) c.drop_log.ensures.done
 
 pub returns-clause-failed : goal.returns-clause-failed
-returns-clause-failed g c = on-err-map c.drop_log.result c.drop_log.ensures.failed (stopped-drop (pair_of c.args.salt) c.args.pages.now (copied g c))
+returns-clause-failed g c = on_err_weaker c.drop_log.result (stopped-drop (pair_of c.args.salt) c.args.pages.now (copied g c)) c.drop_log.ensures.failed
 
 -- what a crash may leave at each end
 pub returns-in_err-write_log-clause-moments : goal.returns-in_err-write_log-clause-moments
@@ -103,4 +104,4 @@ returns-clause-moments g c =
     c.drop_log.ensures.moments)
 
 pub returns-clause-target : goal.returns-clause-target
-returns-clause-target g c = on-ok-map c.drop_log.result c.drop_log.ensures.target (handing.target-settled (pair_of c.args.salt) c.args.pages.now (stands g c))
+returns-clause-target g c = on_ok_weaker c.drop_log.result (handing.target-settled (pair_of c.args.salt) c.args.pages.now (stands g c)) c.drop_log.ensures.target

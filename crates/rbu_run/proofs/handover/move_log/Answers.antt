@@ -1,5 +1,5 @@
 use Rattle.file_spec.specs.Steps.{AfterFolderSync, AfterFailedFolderSync}
-use Rattle.rbu_run.proofs.Parts.{on-ok-map}
+use Rattle.std.proofs.lemmas.Result.{on_ok_weaker}
 use Rattle.rbu_run.proofs.Moments.{led-ok}
 use Rattle.rbu_run.proofs.PhaseCalls.{moves-then, moves-renamed, between-folder, moved-log}
 use Rattle.rbu_run.proofs.handover.move_log.Goals as goal
@@ -12,4 +12,4 @@ returns-clause-moments g c = moves-then (moves-renamed c.rename.result c.rename.
 
 pub returns-clause-moved : goal.returns-clause-moved
 returns-clause-moved g c =
-    on-ok-map c.sync_folder.result (led-ok _ _ c.sync_folder.result AfterFolderSync AfterFailedFolderSync c.sync_folder.ensures.moments) (moved-log c.in_ok-rename.ensures.moments)
+    on_ok_weaker c.sync_folder.result (moved-log c.in_ok-rename.ensures.moments) (led-ok _ _ c.sync_folder.result AfterFolderSync AfterFailedFolderSync c.sync_folder.ensures.moments)

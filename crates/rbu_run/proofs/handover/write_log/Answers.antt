@@ -8,7 +8,8 @@ use Rattle.file_spec.specs.Records.{shown_files}
 use Rattle.file_spec.specs.Steps.{AfterSync, AfterFailedSync}
 use Rattle.format_spec.specs.Log.{pair_of}
 use Rattle.rbu_run.specs.Handover.{log_of}
-use Rattle.rbu_run.proofs.Parts.{on-ok, on-ok-map, length-five_parts}
+use Rattle.std.proofs.lemmas.Result.{on_ok_weaker}
+use Rattle.rbu_run.proofs.Parts.{on-ok, length-five_parts}
 use Rattle.rbu_run.proofs.LogWrites.{log_of-parts, Wrote-made}
 use Rattle.rbu_run.proofs.Moments.{records-go, led-ok}
 use Rattle.rbu_run.proofs.PhaseCalls.{building-then, building-created, building-stable, shown-stable}
@@ -59,5 +60,4 @@ returns-clause-stable g c =
     let shows : Leads (λ a b. shown_files a.now.at Oal ≡ None → shown_files b.now.at Oal ≡ Some log) (g.D.Disk.trail c.args.disk.now) (g.D.Disk.trail c.write_parts.new.disk) =
     Leads-weaken (records-go g.D.Disk g.met.D.Disk.tied (λ f h. f Oal ≡ None → h ≡ with_file f Oal (Some log)) c.args.disk.now c.write_parts.new.disk wrote)
     (λ a b is none. ap (λ (files : Files). files Oal) (is none)) in
-    on-ok-map c.sync.result (led-ok _ _ c.sync.result (AfterSync Oal) (AfterFailedSync Oal) c.sync.ensures.moments)
-    (shown-stable (λ r. shown_files r Oal ≡ None) Oal log shows)
+    on_ok_weaker c.sync.result (shown-stable (λ r. shown_files r Oal ≡ None) Oal log shows) (led-ok _ _ c.sync.result (AfterSync Oal) (AfterFailedSync Oal) c.sync.ensures.moments)

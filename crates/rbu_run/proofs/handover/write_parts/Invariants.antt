@@ -2,9 +2,8 @@ use Rattle.std.proofs.Common.{◌≡◌, [], length, take, Some}
 use Rattle.std.specs.List.{flat_map}
 use Rattle.file_spec.specs.declared.FileName.TheVariants.{Oal}
 use Rattle.file_spec.specs.Files.{with_file, OnlyChanges}
-use Rattle.rbu_disk.specs.Disk.{AllowsAll, Goes}
+use Rattle.rbu_disk.specs.Disk.{AllowsAll, Goes, GoesOn}
 use Rattle.rbu_run.specs.Phases.{KeepsBuilding}
-use Rattle.rbu_run.specs.Crash.{GoesOn}
 use Rattle.rbu_run.proofs.handover.write_parts.Given as goal
 
 abbrev pub invariant-loop-part : goal.invariant-loop-part

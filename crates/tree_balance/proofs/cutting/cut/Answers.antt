@@ -3,7 +3,7 @@ use Rattle.std.proofs.Math.Path.{subst⁻¹}
 use Rattle.std.specs.List.{All}
 use Rattle.format_spec.specs.Page.{cell_room}
 use Rattle.tree_balance.specs.Cuts.{risen}
-use Rattle.tree_balance.proofs.Needs.{cells-need, enough_cells, half-behind}
+use Rattle.tree_balance.specs.NeedsLaws.{cells-need, enough_cells, half-behind}
 use Rattle.tree_balance.proofs.cutting.cut.Goals as goal
 
 pub overflow_sub-most : goal.overflow_sub-most

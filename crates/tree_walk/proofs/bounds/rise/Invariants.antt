@@ -1,4 +1,4 @@
-use Rattle.std.proofs.Common.{◌≡◌, ◌↔◌, drop}
+use Rattle.std.proofs.Common.{◌↔◌, drop}
 use Rattle.tree_spec.specs.Bounds.{RisesIn}
 use Rattle.tree_walk.specs.Places.{low_bound, rowids}
 use Rattle.tree_walk.proofs.bounds.rise.Given as goal

@@ -1,6 +1,7 @@
-use Rattle.std.proofs.Common.{◌≡◌, ℕ, refl, sym, subst}
+use Rattle.std.proofs.Common.{ℕ, refl, subst}
 use Rattle.std.proofs.Math.Path.{subst⁻¹}
 use Rattle.page_spec.specs.Pages.{IsInRange}
+use Rattle.tree_spec.specs.Faults.{IsDamage}
 use Rattle.tree_walk.specs.Places.{IsBadNumber, child_at}
 use Rattle.tree_walk.proofs.entering.child_number.Goals as goal
 
@@ -13,4 +14,4 @@ returns-then-not-is_in_range-clause-answer g c =
     subst (λ (k : ℕ). ¬ IsInRange size count k) c.child_of-number.ensures
     (subst (λ (n : ℕ). ¬ IsInRange size n c.child_of-number.result) c.count.ensures
     (subst (λ (s : ℕ). ¬ IsInRange s c.count.result c.child_of-number.result) c.page_size.ensures (λ is. let bad = c.is_in_range.ensures.1 is in cc))) in
-    subst⁻¹ (IsBadNumber size count parent) c.damaged.ensures.is (refl, refl, out)
+    subst⁻¹ (λ f. IsDamage (IsBadNumber size count parent) f) c.damaged.ensures.is (refl, refl, out)

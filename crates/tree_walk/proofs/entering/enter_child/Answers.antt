@@ -1,8 +1,10 @@
-use Rattle.std.proofs.Common.{◌≡◌, Err, refl, inl, inr}
+use Rattle.std.proofs.Common.{Err, refl, inl, inr, subst, arith}
 use Rattle.std.proofs.Math.Path.{subst⁻¹}
 use Rattle.std.proofs.lemmas.Option.{IfSome_then}
+use Rattle.tree_spec.specs.Faults.{IsDamageOrOther}
+use Rattle.page_spec.specs.Pages.{IsInRange}
 use Rattle.tree_walk.specs.Places.{IsBadStep}
-use Rattle.tree_walk.proofs.Calls.{owes-free, some-all, bad_number-step, page-child}
+use Rattle.tree_walk.proofs.Calls.{owes-free, some-all, bad_number-step, page-child, ok-so}
 use Rattle.tree_walk.proofs.entering.enter_child.Goals as goal
 
 pub returns-in-Err-clause-pages : goal.returns-in-Err-clause-pages
@@ -24,8 +26,8 @@ returns-then-above-ge24-clause-pages g c =
       same = refl;
       count = refl;
       answer = some-all (g.S.PageRead.pages store) (λ m.
-          subst⁻¹ (IsBadStep m (g.S.PageRead.size store) (g.S.PageRead.usable store) (g.S.PageRead.count store) a.parent.now a.above) c.damaged.ensures.is
-          (inr (inl (c.in-Ok.ensures.answer.0, refl, c.if-above-ge24.true))));
+          subst⁻¹ (λ f. IsDamageOrOther (IsBadStep m (g.S.PageRead.size store) (g.S.PageRead.usable store) (g.S.PageRead.count store) a.parent.now a.above) f) c.damaged.ensures.is
+          (inr (inl (subst (IsInRange (g.S.PageRead.size store) (g.S.PageRead.count store)) c.in-Ok.ensures.answer.0 c.in-Ok.ensures.answer.1, c.in-Ok.ensures.answer.0, refl, c.if-above-ge24.true))));
     }
 
 pub returns-clause-pages : goal.returns-clause-pages
@@ -37,7 +39,7 @@ returns-clause-pages g c =
       same = enters.same;
       count = enters.count;
       answer = IfSome_then (g.S.PageRead.pages store) enters.answer (λ m entered.
-          page-child m (g.S.PageRead.size store) (g.S.PageRead.usable store) (g.S.PageRead.count store) a.parent.now a.above c.in-Ok.number c.in-Ok.ensures.answer.0 c.enter_page.result entered);
+          page-child m (g.S.PageRead.size store) (g.S.PageRead.usable store) (g.S.PageRead.count store) a.parent.now a.above c.in-Ok.number c.in-Ok.ensures.answer.0 c.in-Ok.ensures.answer.1 (omega (arith, c.if-above-ge24.false)) c.enter_page.result entered);
     }
 
 pub returns-in-Err-clause-owes : goal.returns-in-Err-clause-owes
@@ -45,3 +47,8 @@ returns-in-Err-clause-owes g c = owes-free g.S.PageRead (Err c.in-Err.fault) (re
 
 pub returns-then-above-ge24-clause-owes : goal.returns-then-above-ge24-clause-owes
 returns-then-above-ge24-clause-owes g c = owes-free g.S.PageRead (Err c.damaged.result) (record { size = refl; usable = refl; fixed = refl }) refl c.damaged.ensures.cause
+
+pub returns-clause-named : goal.returns-clause-named
+returns-clause-named g c =
+    let store = c.args.store.now in
+    ok-so c.enter_page.result (subst (IsInRange (g.S.PageRead.size store) (g.S.PageRead.count store)) c.in-Ok.ensures.answer.0 c.in-Ok.ensures.answer.1)

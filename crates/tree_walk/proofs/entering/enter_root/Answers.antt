@@ -1,4 +1,3 @@
-use Rattle.std.proofs.Common.{◌≡◌}
 use Rattle.std.proofs.lemmas.Option.{IfSome_then}
 use Rattle.tree_walk.proofs.Calls.{owes-free, refused-root}
 use Rattle.tree_walk.proofs.entering.enter_root.Goals as goal

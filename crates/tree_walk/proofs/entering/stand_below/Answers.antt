@@ -1,4 +1,4 @@
-use Rattle.std.proofs.Common.{rules, ◌≡◌, FitsSigned, ◌∙◌}
+use Rattle.std.proofs.Common.{rules, FitsSigned, ◌∙◌}
 use Rattle.std.specs.Int.{w64}
 use Rattle.std.proofs.lemmas.Int.{to_z-of_z}
 use mir.Val.{to_z, of_z}
@@ -18,7 +18,7 @@ pub returns-then-has_no_cell-clause-answer : goal.returns-then-has_no_cell-claus
 returns-then-has_no_cell-clause-answer g c = λ bytes number usable decoded.
     let parent = c.args.parent.now in
     misplaced bytes number usable (tree_kind parent.page.kind) (low_at parent) (high_at parent) c.args.page broken.Empty c.damaged-then-has_no_cell.result c.damaged-then-has_no_cell.ensures.is decoded
-    (c.has_no_cell.ensures.0 c.if-has_no_cell.true)
+    (c.are_of_one_kind.ensures.0 c.if-not-are_of_one_kind.false, c.has_no_cell.ensures.0 c.if-has_no_cell.true)
 
 pub returns-clause-answer : goal.returns-clause-answer
 returns-clause-answer g c = λ bytes number usable decoded.

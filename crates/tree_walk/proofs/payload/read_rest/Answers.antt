@@ -1,8 +1,9 @@
-use Rattle.std.proofs.Common.{◌≡◌, ℕ, Err, refl, sym, subst, ◌∙◌}
+use Rattle.std.proofs.Common.{ℕ, Err, refl, subst}
 use Rattle.std.proofs.Math.Path.{subst⁻¹}
 use Rattle.std.proofs.lemmas.Option.{IfSome_then}
 use Rattle.page_spec.specs.Pages.{IsInRange}
 use Rattle.overflow_chain.specs.Chain.{HoldsBytes}
+use Rattle.tree_spec.specs.Faults.{IsDamageOrOther}
 use Rattle.tree_walk.specs.Payloads.{IsBadChain}
 use Rattle.tree_walk.proofs.Calls.{owes-free, owes-chain, some-all}
 use Rattle.tree_walk.proofs.Rows.{rest-fault, bad-first}
@@ -48,7 +49,7 @@ returns-in-Err-clause-pages g c =
       same = reads.same;
       count = reads.count;
       answer = IfSome_then (g.S.PageRead.pages store) reads.answer (λ m reads.
-          subst⁻¹ (IsBadChain m size usable count a.number a.first a.size) c.in_tree.ensures (rest-fault m size usable count a.number a.first a.size c.in-Err.fault in_range reads));
+          subst⁻¹ (λ f. IsDamageOrOther (IsBadChain m size usable count a.number a.first a.size) f) c.in_tree.ensures (rest-fault m size usable count a.number a.first a.size c.in-Err.fault in_range reads));
     }
 
 pub returns-then-not-is_in_range-clause-owes : goal.returns-then-not-is_in_range-clause-owes

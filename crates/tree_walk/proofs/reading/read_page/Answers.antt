@@ -1,4 +1,4 @@
-use Rattle.std.proofs.Common.{◌≡◌, ℕ, List, Err, refl, sym, ◌∙◌, subst}
+use Rattle.std.proofs.Common.{◌≡◌, ℕ, List, Err, ◌∙◌, subst}
 use Rattle.std.proofs.lemmas.Option.{IfSome_then}
 use Rattle.tree_walk.specs.Pages.{IsDecoded, IsReadFault}
 use Rattle.tree_walk.proofs.Calls.{owes-free}

@@ -1,0 +1,17 @@
+pub mod RowKeys
+pub mod Tables
+pub mod StepFaults
+pub mod Plans
+pub mod Outcomes
+pub mod PlansLaws
+pub mod OutcomesLaws
+pub mod MidwayLaws
+pub mod DataTables
+pub mod PreparedRows
+pub mod Inputs
+pub mod LittleUpdate
+pub mod InputsLaws
+pub mod MembersLaws
+pub mod EndLaws
+pub mod LittleRows
+pub mod FinishLaws

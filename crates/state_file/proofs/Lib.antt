@@ -1,0 +1,12 @@
+pub mod RowCells
+pub mod RowsRead
+pub mod Payloads
+pub mod StateSteps
+pub mod StateCalls
+pub mod StatesRead
+pub mod Spelled
+pub mod Placings
+pub mod Filling
+pub mod FirstPage
+pub mod Halves
+pub mod StateRoom

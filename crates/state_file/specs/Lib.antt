@@ -1,0 +1,9 @@
+pub mod StateFile
+pub mod State
+pub mod Reading
+pub mod Saving
+pub mod Phases
+pub mod Keys
+pub mod Numbers
+pub mod Lent
+pub mod Placing

@@ -1,0 +1,21 @@
+use Rattle.std.proofs.Common.{◌≡◌, ◌-◌, length, IfSome}
+use Rattle.page_store.specs.Store.{Stays}
+use Rattle.tree_walk.specs.Rising.{KeepsLow}
+use Rattle.tree_walk.proofs.Calls.{KeepsLeft, KeepsWalk}
+use Rattle.tree_walk.proofs.path.Cursor.descend.Given as goal
+
+abbrev pub invariant-loop-alloc : goal.invariant-loop-alloc
+invariant-loop-alloc g l = record {
+  stays : Stays g.S.PageRead l.fn.store l.store;
+  faults : g.S.PageRead.faults l.store ≡ g.S.PageRead.faults l.fn.store;
+  count : g.S.PageRead.count l.store ≡ g.S.PageRead.count l.fn.store;
+  same : g.S.PageRead.pages l.store ≡ g.S.PageRead.pages l.fn.store;
+  walk : IfSome (g.S.PageRead.pages l.fn.store) (λ m.
+      KeepsWalk (record { size = g.S.PageRead.size l.fn.store; usable = g.S.PageRead.usable l.fn.store }) (record { count = g.S.PageRead.count l.fn.store; pages = m }) l.fn.self l.self);
+  bound : KeepsLow l.fn.self l.self;
+  left : IfSome (g.S.PageRead.pages l.fn.store) (λ m.
+      KeepsLeft (record { size = g.S.PageRead.size l.fn.store; usable = g.S.PageRead.usable l.fn.store }) (record { count = g.S.PageRead.count l.fn.store; pages = m }) l.fn.self l.self);
+}
+
+abbrev pub decreases-loop-alloc : goal.decreases-loop-alloc
+decreases-loop-alloc g l = 24 - length l.self.above.items

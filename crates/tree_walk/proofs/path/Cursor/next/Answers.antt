@@ -1,0 +1,95 @@
+use Rattle.std.proofs.Common.{◌≡◌, false, true, reverse, sym, refl, ◌∙◌}
+use Rattle.std.proofs.lemmas.Option.{IfSome_then}
+use Rattle.tree_walk.specs.Pages.{is_leaf}
+use Rattle.tree_walk.specs.Walks.{IsPast}
+use Rattle.tree_walk.proofs.Calls.{some-all}
+use Rattle.tree_walk.specs.Courses.{behind_first}
+use Rattle.tree_walk.proofs.Courses.{past-stays, leaf-next, entry-goes}
+use Rattle.tree_walk.proofs.Paths.{path-moved, next-up, behind-up}
+use Rattle.tree_walk.proofs.Steps.{stays_past, next_of_leaf, next_of_index}
+use Rattle.tree_walk.proofs.path.Cursor.next.Goals as goal
+
+pub returns-then-is_past-clause-pages : goal.returns-then-is_past-clause-pages
+returns-then-is_past-clause-pages g c =
+    let store = c.args.store.now in
+    record {
+      same = refl;
+      count = refl;
+      answer = some-all (g.S.PageRead.pages store) (λ m. λ kind rest stands.
+          stays_past (record { size = g.S.PageRead.size store; usable = g.S.PageRead.usable store }) (record { count = g.S.PageRead.count store; pages = m }) kind rest c.args.self.now
+          (c.is_past.ensures.0 c.if-is_past.true) stands);
+    }
+
+pub returns-then-is_leaf-clause-pages : goal.returns-then-is_leaf-clause-pages
+returns-then-is_leaf-clause-pages g c =
+    let store = c.args.store.now in
+    let old = c.args.self.now in
+    let not_past : ¬ IsPast old = λ past. let bad = c.is_past.ensures.1 past in cc in
+    let leaf : is_leaf old.here.page.kind ≡ true = sym c.is_leaf.ensures ∙ c.if-is_leaf.true in
+    let settles = c.settle.ensures.pages in
+    record {
+      same = settles.same;
+      count = settles.count;
+      answer = IfSome_then (g.S.PageRead.pages store) settles.answer (λ m settles. λ kind rest stands.
+          settles kind _
+          (next_of_leaf (record { size = g.S.PageRead.size store; usable = g.S.PageRead.usable store }) (record { count = g.S.PageRead.count store; pages = m }) kind rest old _
+          (record { above_are = refl; page_is = refl; low_is = refl; high_is = refl; at_is = refl }) not_past leaf stands));
+    }
+
+pub returns-clause-pages : goal.returns-clause-pages
+returns-clause-pages g c =
+    let store = c.args.store.now in
+    let old = c.args.self.now in
+    let not_past : ¬ IsPast old = λ past. let bad = c.is_past.ensures.1 past in cc in
+    let inner : is_leaf old.here.page.kind ≡ false = sym c.is_leaf.ensures ∙ c.if-is_leaf.false in
+    let lands = c.land.ensures.pages in
+    record {
+      same = lands.same;
+      count = lands.count;
+      answer = IfSome_then (g.S.PageRead.pages store) lands.answer (λ m lands. λ kind rest stands.
+          lands kind _
+          (next_of_index (record { size = g.S.PageRead.size store; usable = g.S.PageRead.usable store }) (record { count = g.S.PageRead.count store; pages = m }) kind rest old _
+          (record { above_are = refl; page_is = refl; low_is = refl; high_is = refl; at_is = refl }) not_past inner stands));
+    }
+
+pub invariant_of-self : goal.invariant_of-self
+invariant_of-self g c = let old = c.args.self.now in record { path = path-moved (reverse old.above.items) old.here _ (record { page_is = refl; low_is = refl; high_is = refl }) old.path }
+
+pub returns-then-is_leaf-clause-rises : goal.returns-then-is_leaf-clause-rises
+returns-then-is_leaf-clause-rises g c =
+    next-up c.args.self.now c.settle.new.self _ c.settle.result (λ past. let bad = c.is_past.ensures.1 past in cc) (record { page_is = refl; low_is = refl; high_is = refl }) refl c.settle.ensures.rises
+
+pub returns-clause-rises : goal.returns-clause-rises
+returns-clause-rises g c =
+    behind-up c.args.self.now _ c.land.new.self c.land.result (λ past. let bad = c.is_past.ensures.1 past in cc) (record { page_is = refl; low_is = refl; high_is = refl }) refl c.land.ensures.bound c.land.ensures.moved
+
+pub returns-then-is_past-clause-walk : goal.returns-then-is_past-clause-walk
+returns-then-is_past-clause-walk g c =
+    let store = c.args.store.now in
+    record { same = refl; count = refl; answer = some-all (g.S.PageRead.pages store) (λ m. λ course stands. past-stays (record { size = g.S.PageRead.size store; usable = g.S.PageRead.usable store }) (record { count = g.S.PageRead.count store; pages = m }) course c.args.self.now (c.is_past.ensures.0 c.if-is_past.true) stands) }
+
+pub returns-then-is_leaf-clause-walk : goal.returns-then-is_leaf-clause-walk
+returns-then-is_leaf-clause-walk g c =
+    let store = c.args.store.now in
+    let old = c.args.self.now in
+    let not_past : ¬ IsPast old = λ past. let bad = c.is_past.ensures.1 past in cc in
+    let leaf : is_leaf old.here.page.kind ≡ true = sym c.is_leaf.ensures ∙ c.if-is_leaf.true in
+    let settles = c.settle.ensures.walk in
+    record {
+      same = settles.same;
+      count = settles.count;
+      answer = IfSome_then (g.S.PageRead.pages store) settles.answer (λ m settles. λ course stands. settles (behind_first course) (leaf-next (record { size = g.S.PageRead.size store; usable = g.S.PageRead.usable store }) (record { count = g.S.PageRead.count store; pages = m }) old _ refl refl not_past course leaf stands));
+    }
+
+pub returns-clause-walk : goal.returns-clause-walk
+returns-clause-walk g c =
+    let store = c.args.store.now in
+    let old = c.args.self.now in
+    let not_past : ¬ IsPast old = λ past. let bad = c.is_past.ensures.1 past in cc in
+    let inner : is_leaf old.here.page.kind ≡ false = sym c.is_leaf.ensures ∙ c.if-is_leaf.false in
+    let lands = c.land.ensures.walk in
+    record {
+      same = lands.same;
+      count = lands.count;
+      answer = IfSome_then (g.S.PageRead.pages store) lands.answer (λ m lands. λ course stands. lands (behind_first course) (entry-goes (record { size = g.S.PageRead.size store; usable = g.S.PageRead.usable store }) (record { count = g.S.PageRead.count store; pages = m }) old _ refl refl not_past course inner stands));
+    }

@@ -19,9 +19,9 @@ use Rattle.put_spec.specs.Steps.{Spelled, spelled, HasCells, child_page, with_di
 use Rattle.put_spec.specs.StepsLaws.{page-tells}
 use Rattle.delete_spec.specs.Deletes.{Before, alone, became, parent_with, IsOpened, IsDeleted}
 use Rattle.delete_spec.specs.NeighboursLaws.{alone-among}
-use Rattle.delete_spec.specs.DeletesLaws.{divider-chain, last-same, delete-cut, delete-settled, group-above, root-rises}
-use Rattle.delete_spec.specs.Steps.{DeleteBelow, GrowsBelow, DeleteAt}
-use Rattle.delete_spec.specs.StepsLaws.{divider-payload, own-page, around-map, spelled-children, child-page, child-number, child-ready}
+use Rattle.delete_spec.specs.DeletesLaws.{divider-chain, last-same, delete-cut, delete-settled, group-above, root-stays, root-rises}
+use Rattle.delete_spec.specs.Steps.{GrowsBelow, DeleteAt}
+use Rattle.delete_spec.specs.StepsLaws.{divider-payload, own-page, around-map, spelled-children, none-spelled, child-page, child-number, child-ready}
 
 -- the cells between siblings, with one more sibling
 pub siblings-cells : {Child : Type 0} (siblings : List (Child × TreeCell)) (left : Child) (cell : TreeCell) (dividers : List Spelled)
@@ -148,11 +148,17 @@ module _ (sizes : Sizes) (gone : Member) where
         some = s.some;
       }
 
-  -- A child that kept a cell, and was not cut.
-  pub kept-grows : (levels page : ℕ) (old new : Paged) (left first bytes : ℕ) → DeleteBelow sizes gone levels page old new left first bytes → 0 < left → GrowsBelow sizes gone levels page old new [] first bytes
-  kept-grows levels page old new left first bytes below some tree trunks is free ready =
+  -- A root that was not cut stays.
+  pub root-uncut : (levels root : ℕ) (old new : Paged) (first bytes : ℕ) → GrowsBelow sizes gone levels root old new [] first bytes → DeleteAt sizes gone levels root old new first bytes
+  root-uncut levels root old new first bytes below tree trunks is free ready =
       let done = below tree trunks is free ready in
-      record { siblings = []; home = done.home; rest = done.rest; chain = done.chain; deleted = done.deleted; page = done.page; dividers_are = refl; some = omega (arith, done.cells) }
+      let after : After levels = record { base = new; siblings = done.siblings; home = done.home; trunks = done.rest; first = first; bytes = bytes; chain = done.chain } in
+      record {
+        rooted = record { kind = Table; levels = levels; tree = done.home };
+        rest = done.rest;
+        chain = done.chain;
+        deleted = root-stays sizes levels gone old tree trunks after done.deleted (none-spelled done.siblings (sym done.dividers_are)) done.page (λ _ _. done.some);
+      }
 
   -- A root that was cut gets a level.
   pub root-grown : (levels root : ℕ) (old between new : Paged) (dividers : List Spelled) (first bytes : ℕ) → GrowsBelow sizes gone (suc levels) root old between dividers first bytes

@@ -31,7 +31,7 @@ use Rattle.delete_spec.specs.Deletes.{Before, hand_of, alone, pair, parent_with,
 use Rattle.delete_spec.specs.NeighboursLaws.{alone-among, pair-among, end-among, group-count}
 use Rattle.delete_spec.specs.DeletesLaws.{cells-same, leaf-taken, left-loose, right-loose, left-leaf-gone, right-leaf-gone, group-above, delete-settled, parent-untouched, root-stays, root-sinks}
 use Rattle.delete_spec.specs.WorldsLaws.{world-deleted}
-use Rattle.delete_spec.specs.Steps.{IsReady, Gives, IsPayload, DeleteDone, DeleteBelow, EmptiesBelow, RootDone, DeleteAt}
+use Rattle.delete_spec.specs.Steps.{IsReady, Gives, IsPayload, DeleteDone, DeleteBelow, EmptiesBelow, GrowsBelow, RootDone, DeleteAt}
 
 -- Lists of cells.
 
@@ -70,6 +70,11 @@ bytes-spelled (cell ∷ cells) = ap (λ (l : List (List ℕ)). cell.bytes ∷ l)
 pub spelled-children : {Child : Type 0} (children : List (Child × TreeCell)) → map spelled (cells_behind children) ≡ map (λ (child : Child × TreeCell). spelled child.1) children
 spelled-children [] = refl
 spelled-children (child ∷ children) = ap (λ (l : List Spelled). spelled child.1 ∷ l) (spelled-children children)
+
+-- no cell is behind a child: no child has one
+pub none-spelled : {Child : Type 0} (children : List (Child × TreeCell)) → [] ≡ map spelled (cells_behind children) → children ≡ []
+none-spelled [] e = refl
+none-spelled (x ∷ xs) e = absurd (let h : ⊥ = cc in h)
 
 -- the divider of a table has no payload
 pub divider-payload : (sizes : Sizes) (base : Paged) (divider : TreeCell) → IsHeld sizes base (interior_kind Table) divider → divider.payload ≡ []
@@ -174,26 +179,35 @@ module _ (sizes : Sizes) (gone : Member) where
         right_is = refl;
       }
 
-  -- A delete below a child that keeps a cell is one below its parent, which is not written.
-  pub parent-deleted : (levels page : ℕ) (old : Paged) (cells : List Spelled) (right at : ℕ) (new : Paged) (left first bytes : ℕ) → HasCells sizes old TableInterior page cells right
-      → DeleteBelow sizes gone levels (child_page at cells right) old new left first bytes → 0 < left → DeleteBelow sizes gone (suc levels) page old new (length cells) first bytes
-  parent-deleted levels page old cells right at new left first bytes has below some tree trunks is free ready =
+  -- A child that kept a cell, and was not cut.
+  pub kept-grows : (levels page : ℕ) (old new : Paged) (left first bytes : ℕ) → DeleteBelow sizes gone levels page old new left first bytes → 0 < left → GrowsBelow sizes gone levels page old new [] first bytes
+  kept-grows levels page old new left first bytes below some tree trunks is free ready =
+      let done = below tree trunks is free ready in
+      record { siblings = []; home = done.home; rest = done.rest; chain = done.chain; deleted = done.deleted; page = done.page; dividers_are = refl; some = omega (arith, done.cells) }
+
+  -- A delete below a child that is not cut is one below its parent, which is not written.
+  pub parent-uncut : (levels page : ℕ) (old : Paged) (cells : List Spelled) (right at : ℕ) (new : Paged) (first bytes : ℕ) → HasCells sizes old TableInterior page cells right
+      → GrowsBelow sizes gone levels (child_page at cells right) old new [] first bytes → DeleteBelow sizes gone (suc levels) page old new (length cells) first bytes
+  parent-uncut levels page old cells right at new first bytes has below tree trunks is free ready =
       let told = page-tells sizes old Table (suc levels) page tree cells right is has ready.stands in
       let child = child_at at tree.children tree.last in
       let named : page_of levels child ≡ child_page at cells right =
       child-page sizes old levels at tree.children tree.last ready.stands.1.0
       ∙ sym (ap (λ (cs : List Spelled). child_page at cs right) told.0 ∙ ap (λ (r : ℕ). child_page at (map spelled (cells_behind tree.children)) r) told.1) in
       let done = below child trunks named free (child-ready sizes levels old tree trunks at ready) in
+      let done_below : IsDeleted sizes levels gone (alone levels old child trunks) (record { base = new; siblings = []; home = done.home; trunks = done.rest; first = first; bytes = bytes; chain = done.chain }) =
+      subst (λ (s : List (TreeOf levels × TreeCell)). IsDeleted sizes levels gone (alone levels old child trunks) (record { base = new; siblings = s; home = done.home; trunks = done.rest; first = first; bytes = bytes; chain = done.chain }))
+      (none-spelled done.siblings (sym done.dividers_are)) done.deleted in
       let a = alone-among levels at tree.children tree.last in
       let same : parent_with levels tree.page at tree.children tree.last [] child ≡ tree = λ i. record { page = tree.page; children = a.0 i; last = a.1 i } in
       let home = parent_with levels tree.page at tree.children tree.last [] done.home in
       let after : After levels = record { base = new; siblings = []; home = done.home; trunks = done.rest; first = first; bytes = bytes; chain = done.chain } in
-      let o = done.deleted.opened in
+      let o = done_below.opened in
       let number = subst⁻¹ (IsNumber sizes new) done.page
       (IsInRange-wider sizes.size old.count new.count (page_of levels child) o.turns.grows (child-number sizes old levels at tree.children tree.last ready.stands.1.0 ready.stands.1.1)) in
       let opened = group-above sizes levels gone tree.page at tree.children tree.last (alone levels old child trunks) after
       (subst⁻¹ (λ (t : TreeOf (suc levels)). Within sizes old (pages_of (suc levels) t) trunks) same ready.within)
-      (subst⁻¹ (Stands sizes old Table (suc levels)) same ready.stands) done.deleted number (inl done.page) (λ _ _. omega (arith, done.cells)) in
+      (subst⁻¹ (Stands sizes old Table (suc levels)) same ready.stands) done_below number (inl done.page) (λ _ _. done.some) in
       let keeps : Keeps (tree.page ∷ []) old new = Turns-keeps sizes old new (pages_of levels child) (hand_after after) trunks done.rest (tree.page ∷ [])
       (λ n. omega (arith, ready.within n, child-within n levels at tree.children tree.last)) o.turns in
       let deleted = parent-untouched sizes levels gone tree.page at tree.children tree.last (alone levels old child trunks) after opened done.page
@@ -213,6 +227,12 @@ module _ (sizes : Sizes) (gone : Member) where
           ap (λ (xs : List (TreeOf levels × TreeCell)). length (cells_behind xs)) a.0,
         );
       }
+
+  -- A delete below a child that keeps a cell is one below its parent, which is not written.
+  pub parent-deleted : (levels page : ℕ) (old : Paged) (cells : List Spelled) (right at : ℕ) (new : Paged) (left first bytes : ℕ) → HasCells sizes old TableInterior page cells right
+      → DeleteBelow sizes gone levels (child_page at cells right) old new left first bytes → 0 < left → DeleteBelow sizes gone (suc levels) page old new (length cells) first bytes
+  parent-deleted levels page old cells right at new left first bytes has below some =
+      parent-uncut levels page old cells right at new first bytes has (kept-grows levels (child_page at cells right) old new left first bytes below some)
 
   -- the delete is done but for the own page, which is as said
   pub record HasOpened (levels : ℕ) (old : Paged) (tree : TreeOf levels) (trunks : List Trunk) (home : TreeOf levels) (new : Paged) (first bytes : ℕ) : Type 0 where
@@ -560,10 +580,6 @@ module _ (sizes : Sizes) (gone : Member) where
       sunk levels 1 (alone levels old tree.last trunks) after written new (λ n. omega (arith, ready.within n, count n)) free e.opened refl writes
       (empty-own levels written 1 only e.home e.none e.right_is is_page) (subst⁻¹ (λ (p : ℕ). Gives sizes p written new) (e.page ∙ sym told.1) gives) (λ deep other. absurd (other refl))
       )
-    where
-      none-spelled : (children : List (TreeOf levels × TreeCell)) → [] ≡ map spelled (cells_behind children) → children ≡ []
-      none-spelled [] e = refl
-      none-spelled (x ∷ xs) e = absurd (let h : ⊥ = cc in h)
 
   -- In a world, where the row is out of a root's tree, and the overflow chain of the cell that was taken out is given back, it is out of the world.
   pub delete-in-world : (front : List Rooted) (old : Rooted) (back : List Rooted) (a b c : Paged) (p : List Trunk) (first bytes : ℕ) → old.kind ≡ Table → IsWorld sizes a (with_tree front old back p)

@@ -237,12 +237,15 @@ pub fn missing_row_is_not_there()
         → MissingBelow sizes old.levels (root_of old) rowid base → (m : Member) → Contains (list_in old) m → m.rowid ≢ rowid }
 {}
 
-/// Where a child was cut, or a divider became longer, the page with the dividers that came is cut or written, and a root gets a level.
+/// Where a child was cut, or a divider became longer, the page with the dividers that came is cut or written, and a root gets a level. Where nothing came, the page is not written, and a root stays.
 pub fn page_of_a_delete_is_cut()
     ensures kept { (sizes : Sizes) (gone : Member) (levels page : ℕ) (old new : Paged) (left first bytes : ℕ) → DeleteBelow sizes gone levels page old new left first bytes → 0 < left → GrowsBelow sizes gone levels page old new [] first bytes }
     ensures parent { (sizes : Sizes) (gone : Member) (levels page : ℕ) (old : Paged) (cells : List Spelled) (right at : ℕ) (between : Paged) (grew : List Spelled) (first bytes : ℕ) (new : Paged) (dividers : List Spelled) → HasCells sizes old TableInterior page cells right
         → at ≤ length cells → 0 < length (with_dividers cells at grew) → GrowsBelow sizes gone levels (child_page at cells right) old between grew first bytes
         → IsSettled sizes (suc levels) Table page right (with_dividers cells at grew) between new dividers → GrowsBelow sizes gone (suc levels) page old new dividers first bytes }
+    ensures parent_stays { (sizes : Sizes) (gone : Member) (levels page : ℕ) (old : Paged) (cells : List Spelled) (right at : ℕ) (new : Paged) (first bytes : ℕ) → HasCells sizes old TableInterior page cells right
+        → GrowsBelow sizes gone levels (child_page at cells right) old new [] first bytes → DeleteBelow sizes gone (suc levels) page old new (length cells) first bytes }
+    ensures root_stays { (sizes : Sizes) (gone : Member) (levels root : ℕ) (old new : Paged) (first bytes : ℕ) → GrowsBelow sizes gone levels root old new [] first bytes → DeleteAt sizes gone levels root old new first bytes }
     ensures root { (sizes : Sizes) (gone : Member) (levels root : ℕ) (old between new : Paged) (dividers : List Spelled) (first bytes : ℕ) → GrowsBelow sizes gone (suc levels) root old between dividers first bytes
         → IsDeepened sizes TableInterior Table root dividers between new → DeleteAt sizes gone (suc levels) root old new first bytes }
 {}

@@ -1,6 +1,8 @@
+pub mod CutsLaws
 pub mod Deletes
 pub mod DeletesLaws
 pub mod JoinsLaws
+pub mod MissingLaws
 pub mod NeighboursLaws
 pub mod Steps
 pub mod StepsLaws

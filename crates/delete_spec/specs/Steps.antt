@@ -1,17 +1,22 @@
 -- What a writer of tables does page by page where it deletes a row, and what that means for whatever tree stands there.
-use Rattle.std.specs.Prelude.{◌≡◌, ℕ, ◌-◌, List, [], ◌∷◌, ◌++◌, length}
+use Rattle.std.specs.Prelude.{◌≡◌, ◌≢◌, ℕ, ℤ, ◌-◌, ◌<◌, List, [], ◌∷◌, ◌++◌, length, map}
+use Rattle.std.specs.List.{AllByRecursion}
 use Rattle.byte_fields.specs.Bytes.{part_of}
 use Rattle.page_spec.specs.Chains.{IsChain, chain_bytes}
 use Rattle.page_spec.specs.Counts.{times}
 use Rattle.page_spec.specs.Freelists.{Trunk, free_pages}
 use Rattle.tree_spec.specs.declared.TreeKind.TheVariants.{Table}
-use Rattle.tree_spec.specs.Trees.{TreeOf, Rooted, Member, page_of, pages_of, own_cells, own_right}
+use Rattle.tree_spec.specs.Trees.{TreeCell, TreeOf, Rooted, cells_behind, Member, page_of, pages_of, own_cells, own_right, list_of}
+use Rattle.tree_spec.specs.Bounds.{InOrder}
 use Rattle.tree_spec.specs.Standing.{Sizes, Paged, Stands}
 use Rattle.tree_spec.specs.Worlds.{IsFree}
 use Rattle.tree_spec.specs.Changes.{Within, Turns}
-use Rattle.put_spec.specs.Puts.{After}
-use Rattle.put_spec.specs.Steps.{Spelled}
+use Rattle.put_spec.specs.Steps.{Spelled, spelled}
 use Rattle.delete_spec.specs.Deletes.{alone, IsOpened, IsDeleted, IsRootDeleted}
+
+-- no member has the rowid
+abbrev pub HasNone : ℤ → List Member → Type 0
+HasNone rowid members = AllByRecursion (λ m. m.rowid ≢ rowid) members
 
 module _ (sizes : Sizes) where
   -- what a delete needs: the tree stands, and its pages are in hand
@@ -28,6 +33,10 @@ module _ (sizes : Sizes) where
   IsPayload base cell payload =
       (chain : List ℕ) → IsChain base.pages sizes.size sizes.usable base.count cell.view.overflow (cell.view.payload - cell.view.local) chain
       → payload ≡ part_of cell.bytes cell.view.local_at cell.view.local ++ chain_bytes base.pages sizes.usable chain (cell.view.payload - cell.view.local)
+
+  -- whatever tree stands at the page, none of its rows has the rowid
+  abbrev pub MissingBelow : (levels : ℕ) → ℕ → ℤ → Paged → Type 0
+  MissingBelow levels page rowid base = (tree : TreeOf levels) (low high : ℤ) → page_of levels tree ≡ page → Stands sizes base Table levels tree → InOrder levels low high tree → HasNone rowid (list_of Table levels tree)
 
   module _ (gone : Member) where
     -- What a delete left of a tree, in its page, with the overflow chain of the cell that was taken out.
@@ -70,3 +79,19 @@ module _ (sizes : Sizes) where
     abbrev pub DeleteAt : (levels : ℕ) → ℕ → Paged → Paged → ℕ → ℕ → Type 0
     DeleteAt levels root old new first bytes =
         (tree : TreeOf levels) (trunks : List Trunk) → page_of levels tree ≡ root → IsFree sizes old trunks → IsReady levels old tree trunks → RootDone levels old tree trunks new first bytes
+
+    -- What a delete left of a tree that may have been cut: its page has a cell, and in front of it stand the pages that the dividers name.
+    pub record GrownDone (levels : ℕ) (old : Paged) (tree : TreeOf levels) (trunks : List Trunk) (new : Paged) (dividers : List Spelled) (first bytes : ℕ) : Type 0 where
+      pub siblings : List (TreeOf levels × TreeCell)
+      pub home : TreeOf levels
+      pub rest : List Trunk
+      pub chain : List ℕ
+      pub deleted : IsDeleted sizes levels gone (alone levels old tree trunks) (record { base = new; siblings = siblings; home = home; trunks = rest; first = first; bytes = bytes; chain = chain })
+      pub page : page_of levels home ≡ page_of levels tree
+      pub dividers_are : map spelled (cells_behind siblings) ≡ dividers
+      pub some : 0 < length (own_cells levels home)
+
+    -- whatever tree stands at the page, the delete is done, and the page was cut at these dividers
+    abbrev pub GrowsBelow : (levels : ℕ) → ℕ → Paged → Paged → List Spelled → ℕ → ℕ → Type 0
+    GrowsBelow levels page old new dividers first bytes =
+        (tree : TreeOf levels) (trunks : List Trunk) → page_of levels tree ≡ page → IsFree sizes old trunks → IsReady levels old tree trunks → GrownDone levels old tree trunks new dividers first bytes

@@ -5,6 +5,8 @@ use Rattle.std.specs.List.{AllByRecursion}
 use Rattle.std.proofs.lemmas.List.{append-nil, map-append, length-map, nil_from_length}
 use Rattle.format_spec.specs.declared.PageKind.TheVariants.{TableInterior, TableLeaf}
 use Rattle.format_spec.specs.Page.{IsPage}
+use Rattle.byte_fields.specs.Bytes.{part_of}
+use Rattle.page_spec.specs.Chains.{chain_bytes}
 use Rattle.page_spec.specs.Counts.{hit, times}
 use Rattle.page_spec.specs.CountsLaws.{times-append, hit-itself}
 use Rattle.page_spec.specs.FreePagesLaws.{due-most}
@@ -12,24 +14,24 @@ use Rattle.page_spec.specs.FreelistsLaws.{IsInRange-wider}
 use Rattle.page_spec.specs.Freelists.{Trunk, free_pages}
 use Rattle.tree_spec.specs.declared.TreeKind.{TreeKind}
 use Rattle.tree_spec.specs.declared.TreeKind.TheVariants.{Table}
-use Rattle.tree_spec.specs.Trees.{TreeCell, TreeOf, Leaf, Rooted, Member, interior_kind, page_of, own_cells, cells_behind, pages_of, pages_beside, pages_in, member, root_of}
-use Rattle.tree_spec.specs.Standing.{Sizes, Paged, Keeps, IsNumber, IsHeld, IsBehind, HasOwnPage, Stands, StandsBefore, StandsLast}
+use Rattle.tree_spec.specs.Trees.{TreeCell, TreeOf, Leaf, Rooted, Member, interior_kind, kind_at, page_of, own_cells, own_right, cells_behind, pages_of, pages_beside, pages_in, member, root_of}
+use Rattle.tree_spec.specs.Standing.{Sizes, Paged, Keeps, IsNumber, IsHeld, HasOwnPage, Stands, StandsBefore, StandsLast}
 use Rattle.tree_spec.specs.StandingLaws.{held-kept, keeps-first, Stands-kept}
 use Rattle.tree_spec.specs.Worlds.{IsFree, IsWorld, with_tree, greatest_count}
 use Rattle.tree_spec.specs.WorldsLaws.{all-front, all-back, all-join, world-root, world-within}
 use Rattle.tree_spec.specs.Changes.{Within, Turns, Writes}
 use Rattle.tree_spec.specs.ChangesLaws.{Turns-wide, Turns-within, Turns-write, Turns-keeps}
-use Rattle.put_spec.specs.Children.{child_at, children_with, last_with}
+use Rattle.put_spec.specs.Children.{child_at}
 use Rattle.put_spec.specs.ChildrenLaws.{beside-first, child-within, child-stands}
 use Rattle.put_spec.specs.Puts.{After, hand_after, moved}
 use Rattle.put_spec.specs.PutsLaws.{pages-parts}
 use Rattle.put_spec.specs.Steps.{Spelled, spelled, bytes_in, HasCells, child_page, GivesBack}
 use Rattle.put_spec.specs.StepsLaws.{page-tells}
-use Rattle.delete_spec.specs.Deletes.{hand_of, alone, pair, became, parent_with, IsOpened, IsDeleted, IsRootDeleted, IsWorldDeleted}
+use Rattle.delete_spec.specs.Deletes.{Before, hand_of, alone, pair, parent_with, IsOpened, IsDeleted, IsWorldDeleted}
 use Rattle.delete_spec.specs.NeighboursLaws.{alone-among, pair-among, end-among, group-count}
 use Rattle.delete_spec.specs.DeletesLaws.{cells-same, leaf-taken, left-loose, right-loose, left-leaf-gone, right-leaf-gone, group-above, delete-settled, parent-untouched, root-stays, root-sinks}
 use Rattle.delete_spec.specs.WorldsLaws.{world-deleted}
-use Rattle.delete_spec.specs.Steps.{IsReady, Gives, IsPayload, DeleteDone, EmptiedDone, DeleteBelow, EmptiesBelow, RootDone, DeleteAt}
+use Rattle.delete_spec.specs.Steps.{IsReady, Gives, IsPayload, DeleteDone, DeleteBelow, EmptiesBelow, GrowsBelow, RootDone, DeleteAt}
 
 -- Lists of cells.
 
@@ -68,6 +70,49 @@ bytes-spelled (cell ∷ cells) = ap (λ (l : List (List ℕ)). cell.bytes ∷ l)
 pub spelled-children : {Child : Type 0} (children : List (Child × TreeCell)) → map spelled (cells_behind children) ≡ map (λ (child : Child × TreeCell). spelled child.1) children
 spelled-children [] = refl
 spelled-children (child ∷ children) = ap (λ (l : List Spelled). spelled child.1 ∷ l) (spelled-children children)
+
+-- no cell is behind a child: no child has one
+pub none-spelled : {Child : Type 0} (children : List (Child × TreeCell)) → [] ≡ map spelled (cells_behind children) → children ≡ []
+none-spelled [] e = refl
+none-spelled (x ∷ xs) e = absurd (let h : ⊥ = cc in h)
+
+-- the divider of a table has no payload
+pub divider-payload : (sizes : Sizes) (base : Paged) (divider : TreeCell) → IsHeld sizes base (interior_kind Table) divider → divider.payload ≡ []
+divider-payload sizes base divider held =
+    held.whole
+    ∙ ap (λ (n : ℕ). part_of divider.bytes divider.view.local_at n ++ chain_bytes base.pages sizes.usable divider.chain (divider.view.payload - divider.view.local)) held.is_cell.local
+    ∙ ap (λ (n : ℕ). chain_bytes base.pages sizes.usable divider.chain n) (let none : divider.view.payload - divider.view.local ≡ 0 = omega (arith, held.is_cell.payload) in none)
+
+module _ (sizes : Sizes) where
+  -- a written interior page is that of its tree
+  pub own-page : (levels : ℕ) (base : Paged) (tree : TreeOf (suc levels)) (page : ℕ) (cells : List Spelled) (right : ℕ) → tree.page ≡ page → cells ≡ map spelled (cells_behind tree.children) → right ≡ page_of levels tree.last
+      → IsPage (base.pages page) page sizes.usable TableInterior (bytes_in cells) right → HasOwnPage sizes base Table (suc levels) tree
+  own-page levels base tree page cells right is same right_is written =
+      subst⁻¹ (λ (p : ℕ). IsPage (base.pages p) p sizes.usable TableInterior (map (λ (c : TreeCell). c.bytes) (cells_behind tree.children)) (page_of levels tree.last)) is
+      (subst (λ (b : List (List ℕ)). IsPage (base.pages page) page sizes.usable TableInterior b (page_of levels tree.last)) (ap bytes_in same ∙ bytes-spelled (cells_behind tree.children))
+      (subst (λ (r : ℕ). IsPage (base.pages page) page sizes.usable TableInterior (bytes_in cells) r) right_is written))
+
+  -- A child.
+
+  pub child-page : (base : Paged) (levels i : ℕ) (children : List (TreeOf levels × TreeCell)) (last : TreeOf levels) → AllByRecursion (StandsBefore sizes base Table levels) children
+      → page_of levels (child_at i children last) ≡ child_page i (map spelled (cells_behind children)) (page_of levels last)
+  child-page base levels i [] last all = refl
+  child-page base levels zero (child ∷ children) last all = sym all.0.0.names
+  child-page base levels (suc i) (child ∷ children) last all = child-page base levels i children last all.1
+
+  pub child-number : (base : Paged) (levels i : ℕ) (children : List (TreeOf levels × TreeCell)) (last : TreeOf levels) → AllByRecursion (StandsBefore sizes base Table levels) children
+      → StandsLast sizes base Table levels last → IsNumber sizes base (page_of levels (child_at i children last))
+  child-number base levels i [] last all end = end.0
+  child-number base levels zero (child ∷ children) last all end = all.0.0.in_range
+  child-number base levels (suc i) (child ∷ children) last all end = child-number base levels i children last all.1 end
+
+  -- what a delete below a child needs
+  pub child-ready : (levels : ℕ) (base : Paged) (tree : TreeOf (suc levels)) (trunks : List Trunk) (i : ℕ) → IsReady sizes (suc levels) base tree trunks
+      → IsReady sizes levels base (child_at i tree.children tree.last) trunks
+  child-ready levels base tree trunks i ready = record {
+    within = λ n. omega (arith, ready.within n, child-within n levels i tree.children tree.last);
+    stands = child-stands sizes Table base levels i tree.children tree.last ready.stands.1.0 ready.stands.1.1.1;
+  }
 
 module _ (sizes : Sizes) (gone : Member) where
   same-member : (old : Paged) (cell : Spelled) (item : TreeCell) → gone.rowid ≡ cell.view.rowid → IsPayload sizes old cell gone.payload → spelled item ≡ cell → IsHeld sizes old TableLeaf item → member item ≡ gone
@@ -134,48 +179,35 @@ module _ (sizes : Sizes) (gone : Member) where
         right_is = refl;
       }
 
-  -- A child.
+  -- A child that kept a cell, and was not cut.
+  pub kept-grows : (levels page : ℕ) (old new : Paged) (left first bytes : ℕ) → DeleteBelow sizes gone levels page old new left first bytes → 0 < left → GrowsBelow sizes gone levels page old new [] first bytes
+  kept-grows levels page old new left first bytes below some tree trunks is free ready =
+      let done = below tree trunks is free ready in
+      record { siblings = []; home = done.home; rest = done.rest; chain = done.chain; deleted = done.deleted; page = done.page; dividers_are = refl; some = omega (arith, done.cells) }
 
-  pub child-page : (base : Paged) (levels i : ℕ) (children : List (TreeOf levels × TreeCell)) (last : TreeOf levels) → AllByRecursion (StandsBefore sizes base Table levels) children
-      → page_of levels (child_at i children last) ≡ child_page i (map spelled (cells_behind children)) (page_of levels last)
-  child-page base levels i [] last all = refl
-  child-page base levels zero (child ∷ children) last all = sym all.0.0.names
-  child-page base levels (suc i) (child ∷ children) last all = child-page base levels i children last all.1
-
-  pub child-number : (base : Paged) (levels i : ℕ) (children : List (TreeOf levels × TreeCell)) (last : TreeOf levels) → AllByRecursion (StandsBefore sizes base Table levels) children
-      → StandsLast sizes base Table levels last → IsNumber sizes base (page_of levels (child_at i children last))
-  child-number base levels i [] last all end = end.0
-  child-number base levels zero (child ∷ children) last all end = all.0.0.in_range
-  child-number base levels (suc i) (child ∷ children) last all end = child-number base levels i children last all.1 end
-
-  -- what a delete below a child needs
-  pub child-ready : (levels : ℕ) (base : Paged) (tree : TreeOf (suc levels)) (trunks : List Trunk) (i : ℕ) → IsReady sizes (suc levels) base tree trunks
-      → IsReady sizes levels base (child_at i tree.children tree.last) trunks
-  child-ready levels base tree trunks i ready = record {
-    within = λ n. omega (arith, ready.within n, child-within n levels i tree.children tree.last);
-    stands = child-stands sizes Table base levels i tree.children tree.last ready.stands.1.0 ready.stands.1.1.1;
-  }
-
-  -- A delete below a child that keeps a cell is one below its parent, which is not written.
-  pub parent-deleted : (levels page : ℕ) (old : Paged) (cells : List Spelled) (right at : ℕ) (new : Paged) (left first bytes : ℕ) → HasCells sizes old TableInterior page cells right
-      → DeleteBelow sizes gone levels (child_page at cells right) old new left first bytes → 0 < left → DeleteBelow sizes gone (suc levels) page old new (length cells) first bytes
-  parent-deleted levels page old cells right at new left first bytes has below some tree trunks is free ready =
+  -- A delete below a child that is not cut is one below its parent, which is not written.
+  pub parent-uncut : (levels page : ℕ) (old : Paged) (cells : List Spelled) (right at : ℕ) (new : Paged) (first bytes : ℕ) → HasCells sizes old TableInterior page cells right
+      → GrowsBelow sizes gone levels (child_page at cells right) old new [] first bytes → DeleteBelow sizes gone (suc levels) page old new (length cells) first bytes
+  parent-uncut levels page old cells right at new first bytes has below tree trunks is free ready =
       let told = page-tells sizes old Table (suc levels) page tree cells right is has ready.stands in
       let child = child_at at tree.children tree.last in
       let named : page_of levels child ≡ child_page at cells right =
-      child-page old levels at tree.children tree.last ready.stands.1.0
+      child-page sizes old levels at tree.children tree.last ready.stands.1.0
       ∙ sym (ap (λ (cs : List Spelled). child_page at cs right) told.0 ∙ ap (λ (r : ℕ). child_page at (map spelled (cells_behind tree.children)) r) told.1) in
-      let done = below child trunks named free (child-ready levels old tree trunks at ready) in
+      let done = below child trunks named free (child-ready sizes levels old tree trunks at ready) in
+      let done_below : IsDeleted sizes levels gone (alone levels old child trunks) (record { base = new; siblings = []; home = done.home; trunks = done.rest; first = first; bytes = bytes; chain = done.chain }) =
+      subst (λ (s : List (TreeOf levels × TreeCell)). IsDeleted sizes levels gone (alone levels old child trunks) (record { base = new; siblings = s; home = done.home; trunks = done.rest; first = first; bytes = bytes; chain = done.chain }))
+      (none-spelled done.siblings (sym done.dividers_are)) done.deleted in
       let a = alone-among levels at tree.children tree.last in
       let same : parent_with levels tree.page at tree.children tree.last [] child ≡ tree = λ i. record { page = tree.page; children = a.0 i; last = a.1 i } in
       let home = parent_with levels tree.page at tree.children tree.last [] done.home in
       let after : After levels = record { base = new; siblings = []; home = done.home; trunks = done.rest; first = first; bytes = bytes; chain = done.chain } in
-      let o = done.deleted.opened in
+      let o = done_below.opened in
       let number = subst⁻¹ (IsNumber sizes new) done.page
-      (IsInRange-wider sizes.size old.count new.count (page_of levels child) o.turns.grows (child-number old levels at tree.children tree.last ready.stands.1.0 ready.stands.1.1)) in
+      (IsInRange-wider sizes.size old.count new.count (page_of levels child) o.turns.grows (child-number sizes old levels at tree.children tree.last ready.stands.1.0 ready.stands.1.1)) in
       let opened = group-above sizes levels gone tree.page at tree.children tree.last (alone levels old child trunks) after
       (subst⁻¹ (λ (t : TreeOf (suc levels)). Within sizes old (pages_of (suc levels) t) trunks) same ready.within)
-      (subst⁻¹ (Stands sizes old Table (suc levels)) same ready.stands) done.deleted number (inl done.page) (λ _ _. omega (arith, done.cells)) in
+      (subst⁻¹ (Stands sizes old Table (suc levels)) same ready.stands) done_below number (inl done.page) (λ _ _. done.some) in
       let keeps : Keeps (tree.page ∷ []) old new = Turns-keeps sizes old new (pages_of levels child) (hand_after after) trunks done.rest (tree.page ∷ [])
       (λ n. omega (arith, ready.within n, child-within n levels at tree.children tree.last)) o.turns in
       let deleted = parent-untouched sizes levels gone tree.page at tree.children tree.last (alone levels old child trunks) after opened done.page
@@ -195,6 +227,12 @@ module _ (sizes : Sizes) (gone : Member) where
           ap (λ (xs : List (TreeOf levels × TreeCell)). length (cells_behind xs)) a.0,
         );
       }
+
+  -- A delete below a child that keeps a cell is one below its parent, which is not written.
+  pub parent-deleted : (levels page : ℕ) (old : Paged) (cells : List Spelled) (right at : ℕ) (new : Paged) (left first bytes : ℕ) → HasCells sizes old TableInterior page cells right
+      → DeleteBelow sizes gone levels (child_page at cells right) old new left first bytes → 0 < left → DeleteBelow sizes gone (suc levels) page old new (length cells) first bytes
+  parent-deleted levels page old cells right at new left first bytes has below some =
+      parent-uncut levels page old cells right at new first bytes has (kept-grows levels (child_page at cells right) old new left first bytes below some)
 
   -- the delete is done but for the own page, which is as said
   pub record HasOpened (levels : ℕ) (old : Paged) (tree : TreeOf levels) (trunks : List Trunk) (home : TreeOf levels) (new : Paged) (first bytes : ℕ) : Type 0 where
@@ -304,7 +342,7 @@ module _ (sizes : Sizes) (gone : Member) where
       let count = λ (n : ℕ). ap (λ (t : TreeOf (suc zero)). times n (pages_of (suc zero) t)) was in
       let within = child-emptied old tree trunks left divider right ready (λ n. omega (arith, count n, (group-count n zero i others tree.last ((left, divider) ∷ []) right [] right).0)) in
       let g = left-gone old left divider right trunks mid given first bytes within rest.0 right_stands free empties gives in
-      let number = IsInRange-wider sizes.size old.count given.count right.page g.done.opened.turns.grows (child-number old zero i others tree.last beside ready.stands.1.1) in
+      let number = IsInRange-wider sizes.size old.count given.count right.page g.done.opened.turns.grows (child-number sizes old zero i others tree.last beside ready.stands.1.1) in
       let after : After zero = record { base = given; siblings = []; home = right; trunks = g.rest; first = first; bytes = bytes; chain = g.chain } in
       let opened = group-above sizes zero gone tree.page i others tree.last (pair zero old left divider right trunks) after
       (subst⁻¹ (λ (t : TreeOf (suc zero)). Within sizes old (pages_of (suc zero) t) trunks) was ready.within) (subst⁻¹ (Stands sizes old Table (suc zero)) was ready.stands) g.done number (inl refl) (λ _ full. full.0) in
@@ -447,28 +485,43 @@ module _ (sizes : Sizes) (gone : Member) where
         deleted = root-stays sizes levels gone old tree trunks after done.deleted refl done.page (λ deep other. omega (arith, done.cells, some deep (λ one. other (done.page ∙ is ∙ one))));
       }
 
+  -- A root's page takes what another page has, and that is given back.
+  pub sunk : (levels root : ℕ) (before : Before levels) (after : After levels) (written new : Paged) → Within sizes before.base (root ∷ hand_of before) before.trunks → IsFree sizes before.base before.trunks
+      → IsOpened sizes levels gone before after → after.siblings ≡ [] → Writes root after.base written → HasOwnPage sizes written Table levels (moved levels root after.home) → Gives sizes (page_of levels after.home) written new
+      → (0 < levels → root ≢ 1 → 0 < length (own_cells levels after.home))
+      → RootDone sizes gone (suc levels) before.base (record { page = root; children = before.siblings; last = before.home }) before.trunks new after.first after.bytes
+  sunk levels root before after written new within free o none writes own gives some =
+      let later = root ∷ hand_after after in
+      let wide = Turns-wide sizes before.base after.base (hand_of before) (hand_after after) (root ∷ hand_of before) later before.trunks after.trunks (hit root) (λ n. omega arith) (λ n. omega arith) o.turns in
+      let within_later = Turns-within sizes before.base after.base (root ∷ hand_of before) later before.trunks after.trunks within wide in
+      let turned = Turns-write sizes after.base written root later after.trunks within_later (omega (arith, hit-itself root)) writes in
+      let home = page_of levels after.home in
+      let in_hand : 0 < times home later =
+      omega (
+        arith,
+        times-append home (pages_beside levels after.siblings after.home) after.chain,
+        ap (λ (s : List (TreeOf levels × TreeCell)). times home (pages_beside levels s after.home)) none,
+        pages-parts home levels after.home,
+        hit-itself home,
+      ) in
+      let given = gives after.trunks (turned.freelist (o.turns.freelist free)) (not-free after.base written later later after.trunks after.trunks home within_later turned in_hand) in
+      record {
+        rooted = record { kind = Table; levels = levels; tree = moved levels root after.home };
+        rest = given.0;
+        chain = after.chain;
+        deleted = root-sinks sizes levels gone root before after written new given.0 o none within writes own given.1 some;
+      }
+
   -- One of a root's two leaves is gone, and the root takes the cells of the other.
   leaf-left : (old : Paged) (root : ℕ) (left : Leaf) (divider : TreeCell) (right : Leaf) (trunks : List Trunk) (home : Leaf) (given : Paged) (first bytes : ℕ) (cells : List Spelled) (none : ℕ) (written new : Paged)
       → Within sizes old (root ∷ hand_of (pair zero old left divider right trunks)) trunks → IsFree sizes old trunks → HasGone old left divider right trunks home given first bytes
       → HasCells sizes given TableLeaf home.page cells none → Writes root given written → IsPage (written.pages root) root sizes.usable TableLeaf (bytes_in cells) 0 → Gives sizes home.page written new
       → RootDone sizes gone (suc zero) old (record { page = root; children = (left, divider) ∷ []; last = right }) trunks new first bytes
   leaf-left old root left divider right trunks home given first bytes cells none written new within free g has writes is_page gives =
-      let o = g.done.opened in
       let after : After zero = record { base = given; siblings = []; home = home; trunks = g.rest; first = first; bytes = bytes; chain = g.chain } in
-      let told = page-tells sizes given Table zero home.page home cells none refl has (g.done.own, o.below) in
-      let later = root ∷ hand_after after in
-      let wide = Turns-wide sizes old given (hand_of (pair zero old left divider right trunks)) (hand_after after) (root ∷ hand_of (pair zero old left divider right trunks)) later trunks g.rest (hit root) (λ n. omega arith) (λ n. omega arith) o.turns in
-      let within_later = Turns-within sizes old given (root ∷ hand_of (pair zero old left divider right trunks)) later trunks g.rest within wide in
-      let turned = Turns-write sizes given written root later g.rest within_later (omega (arith, hit-itself root)) writes in
-      let given_back = gives g.rest (turned.freelist (o.turns.freelist free))
-      (not-free given written later later g.rest g.rest home.page within_later turned (omega (arith, own-some home g.chain))) in
-      record {
-        rooted = record { kind = Table; levels = zero; tree = moved zero root home };
-        rest = given_back.0;
-        chain = g.chain;
-        deleted = root-sinks sizes zero gone root (pair zero old left divider right trunks) after written new given_back.0 o refl within writes
-            (subst (λ (b : List (List ℕ)). IsPage (written.pages root) root sizes.usable TableLeaf b 0) (ap bytes_in told.0 ∙ bytes-spelled home.cells) is_page) given_back.1 (λ deep. absurd (omega arith));
-      }
+      let told = page-tells sizes given Table zero home.page home cells none refl has (g.done.own, g.done.opened.below) in
+      sunk zero root (pair zero old left divider right trunks) after written new within free g.done.opened refl writes
+      (subst (λ (b : List (List ℕ)). IsPage (written.pages root) root sizes.usable TableLeaf b 0) (ap bytes_in told.0 ∙ bytes-spelled home.cells) is_page) gives (λ deep. absurd (omega arith))
 
   -- A root has two leaves, of which the left one goes.
   pub root-left-goes : (root : ℕ) (old : Paged) (cells : List Spelled) (right : ℕ) (cell : Spelled) (mid given : Paged) (first bytes : ℕ) (kept : List Spelled) (none : ℕ) (written new : Paged)
@@ -500,6 +553,32 @@ module _ (sizes : Sizes) (gone : Member) where
       (
       leaf-left old root two.left two.divider tree.last trunks two.left given first bytes kept none written new two.within_root free g
       (subst⁻¹ (λ (p : ℕ). HasCells sizes given TableLeaf p kept none) two.named has_kept) writes is_page (subst⁻¹ (λ (p : ℕ). Gives sizes p written new) two.named gives_last)
+      )
+
+  -- a page without a cell
+  empty-own : (levels : ℕ) (base : Paged) (root only : ℕ) (home : TreeOf levels) → own_cells levels home ≡ [] → own_right levels home ≡ only → IsPage (base.pages root) root sizes.usable (kind_at Table levels) [] only
+      → HasOwnPage sizes base Table levels (moved levels root home)
+  empty-own zero base root only home none right is =
+      subst⁻¹ (λ (cells : List TreeCell). IsPage (base.pages root) root sizes.usable (kind_at Table zero) (map (λ (c : TreeCell). c.bytes) cells) 0) none
+      (subst⁻¹ (λ (r : ℕ). IsPage (base.pages root) root sizes.usable (kind_at Table zero) [] r) right is)
+  empty-own (suc levels) base root only home none right is =
+      subst⁻¹ (λ (cells : List TreeCell). IsPage (base.pages root) root sizes.usable (kind_at Table (suc levels)) (map (λ (c : TreeCell). c.bytes) cells) (page_of levels home.last)) none
+      (subst⁻¹ (λ (r : ℕ). IsPage (base.pages root) root sizes.usable (kind_at Table (suc levels)) [] r) right is)
+
+  -- Page 1 has no cell and one child, which has none any more either: it takes what that has, a leaf without a cell or the child's only child.
+  pub root-only-child : (levels : ℕ) (old : Paged) (right only : ℕ) (mid written new : Paged) (first bytes : ℕ) → HasCells sizes old TableInterior 1 [] right → EmptiesBelow sizes gone levels right only old mid first bytes
+      → Writes 1 mid written → IsPage (written.pages 1) 1 sizes.usable (kind_at Table levels) [] only → Gives sizes right written new → DeleteAt sizes gone (suc levels) 1 old new first bytes
+  root-only-child levels old right only mid written new first bytes has empties writes is_page gives tree trunks is free ready =
+      let told = page-tells sizes old Table (suc levels) 1 tree [] right is has ready.stands in
+      let none = none-spelled tree.children told.0 in
+      let was : record { page = 1; children = []; last = tree.last } ≡ tree = λ j. record { page = sym is j; children = sym none j; last = tree.last } in
+      let count = λ (n : ℕ). ap (λ (t : TreeOf (suc levels)). times n (pages_of (suc levels) t)) was in
+      let e = empties tree.last trunks (sym told.1) free (record { within = λ n. omega (arith, ready.within n, count n); stands = ready.stands.1.1.1 }) in
+      let after : After levels = record { base = mid; siblings = []; home = e.home; trunks = e.rest; first = first; bytes = bytes; chain = e.chain } in
+      subst (λ (t : TreeOf (suc levels)). RootDone sizes gone (suc levels) old t trunks new first bytes) was
+      (
+      sunk levels 1 (alone levels old tree.last trunks) after written new (λ n. omega (arith, ready.within n, count n)) free e.opened refl writes
+      (empty-own levels written 1 only e.home e.none e.right_is is_page) (subst⁻¹ (λ (p : ℕ). Gives sizes p written new) (e.page ∙ sym told.1) gives) (λ deep other. absurd (other refl))
       )
 
   -- In a world, where the row is out of a root's tree, and the overflow chain of the cell that was taken out is given back, it is out of the world.

@@ -1,20 +1,20 @@
 // The laws of deletes as contracts, so that they are proved here: crates above cite them from specs/.
-ghost use Rattle.std.specs.Prelude.{◌≡◌, ◌≢◌, ◌⊎◌, ◌↔◌, ℕ, zero, suc, ◌+◌, ◌-◌, ◌<◌, ◌≤◌, List, [], ◌∷◌, ◌++◌, length, max, Contains};
+ghost use Rattle.std.specs.Prelude.{◌≡◌, ◌≢◌, ◌⊎◌, ◌↔◌, ℕ, ℤ, zero, suc, ◌+◌, ◌-◌, ◌<◌, ◌≤◌, List, [], ◌∷◌, ◌++◌, length, max, Contains};
 ghost use Rattle.std.specs.List.{AllByRecursion};
 ghost use Rattle.format_spec.specs.declared.PageKind.TheVariants.{TableInterior, TableLeaf};
 ghost use Rattle.format_spec.specs.Cell.{IsCell};
 ghost use Rattle.format_spec.specs.Page.{IsPage};
 ghost use Rattle.page_spec.specs.Freelists.{Trunk};
 ghost use Rattle.tree_spec.specs.declared.TreeKind.TheVariants.{Table};
-ghost use Rattle.tree_spec.specs.Trees.{Member, TreeCell, TreeOf, Leaf, Rooted, interior_kind, page_of, pages_of, pages_in, own_cells, member, root_of, IsFull};
+ghost use Rattle.tree_spec.specs.Trees.{Member, TreeCell, TreeOf, Leaf, Rooted, interior_kind, kind_at, page_of, pages_of, pages_in, list_in, own_cells, member, root_of, IsFull};
 ghost use Rattle.tree_spec.specs.Standing.{Sizes, Paged, SamePage, IsNumber, IsHeld, IsBehind, HasOwnPage, HasBelow, Stands};
 ghost use Rattle.tree_spec.specs.Worlds.{IsWorld, with_tree, greatest_count, slack};
 ghost use Rattle.tree_spec.specs.Changes.{Within, Turns, Writes};
-ghost use Rattle.put_spec.specs.Children.{Rises, child_at, children_with, last_with};
+ghost use Rattle.put_spec.specs.Children.{Belongs, Meets, Rises, child_at, children_with, last_with};
 ghost use Rattle.put_spec.specs.Puts.{After, IsInteriorCut, cut_after, moved, deeper};
-ghost use Rattle.put_spec.specs.Steps.{Spelled, bytes_in, HasCells, child_page, GivesBack};
+ghost use Rattle.put_spec.specs.Steps.{Spelled, bytes_in, views_in, HasCells, child_page, with_dividers, IsSettled, IsDeepened, GivesBack};
 ghost use Rattle.delete_spec.specs.Deletes.{TakenOut, Before, hand_of, alone, pair, became, parent_with, IsOpened, IsLoose, IsDeleted, IsRootDeleted, IsWorldDeleted};
-ghost use Rattle.delete_spec.specs.Steps.{Gives, IsPayload, DeleteBelow, EmptiesBelow, DeleteAt};
+ghost use Rattle.delete_spec.specs.Steps.{Gives, IsPayload, DeleteBelow, EmptiesBelow, GrowsBelow, DeleteAt, MissingBelow};
 
 /// A cell is taken out of a leaf, and its overflow chain is in hand then.
 pub fn cell_is_taken_out_of_a_leaf()
@@ -155,7 +155,7 @@ pub fn parent_of_a_leaf_that_goes_is_written()
         → IsPage (new.pages page) page sizes.usable TableInterior (bytes_in front) cell.view.child → DeleteBelow sizes gone (suc zero) page old new (length front) first bytes }
 {}
 
-/// A root stays where it keeps a cell, or needs none; one with two leaves of which one goes takes the cells of the other.
+/// A root stays where it keeps a cell, or needs none; one with two leaves of which one goes takes the cells of the other; page 1 without a cell takes what its only child has, where that has no cell either.
 pub fn root_of_a_delete_is_written()
     ensures kept { (sizes : Sizes) (gone : Member) (levels root : ℕ) (old new : Paged) (left first bytes : ℕ) → DeleteBelow sizes gone levels root old new left first bytes → (0 < levels → root ≢ 1 → 0 < left)
         → DeleteAt sizes gone levels root old new first bytes }
@@ -167,6 +167,8 @@ pub fn root_of_a_delete_is_written()
         → HasCells sizes old TableInterior root cells right → cells ≡ cell ∷ [] → EmptiesBelow sizes gone zero right 0 old mid first bytes → Gives sizes right mid given
         → HasCells sizes given TableLeaf cell.view.child kept none → Writes root given written → IsPage (written.pages root) root sizes.usable TableLeaf (bytes_in kept) 0 → Gives sizes cell.view.child written new
         → DeleteAt sizes gone (suc zero) root old new first bytes }
+    ensures only_child { (sizes : Sizes) (gone : Member) (levels : ℕ) (old : Paged) (right only : ℕ) (mid written new : Paged) (first bytes : ℕ) → HasCells sizes old TableInterior 1 [] right → EmptiesBelow sizes gone levels right only old mid first bytes
+        → Writes 1 mid written → IsPage (written.pages 1) 1 sizes.usable (kind_at Table levels) [] only → Gives sizes right written new → DeleteAt sizes gone (suc levels) 1 old new first bytes }
 {}
 
 /// What a writer did at a root is a delete in its world, once the overflow chain of the cell that was taken out is given back.
@@ -183,7 +185,7 @@ pub fn parent_of_a_leaf_that_goes_is_emptied()
         → EmptiesBelow sizes gone zero right 0 old mid first bytes → Gives sizes right mid given → EmptiesBelow sizes gone (suc zero) page cell.view.child old given first bytes }
 {}
 
-/// Of two interior pages beside one another one has no cell any more: the other takes its only child, and the divider between them. Their parent is written without the cell of the left one, or, where it has no other, is not written.
+/// Of two interior pages beside one another one has no cell any more: the other takes its only child, and the divider between them. Their parent is written without the cell of the left one, or, where it has no other, is not written; a root takes what the two became. Where they do not go into one page they are cut again.
 pub fn interior_neighbours_are_joined()
     ensures right { (sizes : Sizes) (gone : Member) (levels page : ℕ) (old : Paged) (cells : List Spelled) (right : ℕ) (front : List Spelled) (cell : Spelled) (back : List Spelled) (only : ℕ) (mid given written : Paged) (first bytes : ℕ)
         (middle : Spelled) (beside : List Spelled) (last : ℕ) → HasCells sizes old TableInterior page cells right → cells ≡ front ++ cell ∷ back → IsCell TableInterior sizes.usable middle.bytes middle.view → middle.view.rowid ≡ cell.view.rowid
@@ -203,4 +205,47 @@ pub fn interior_neighbours_are_joined()
         (middle : Spelled) (beside : List Spelled) (last : ℕ) → HasCells sizes old TableInterior page cells right → cells ≡ front ++ cell ∷ back → IsCell TableInterior sizes.usable middle.bytes middle.view → middle.view.rowid ≡ cell.view.rowid
         → front ++ back ≡ [] → EmptiesBelow sizes gone (suc levels) cell.view.child only old mid first bytes → HasCells sizes mid TableInterior (child_page (length front) (front ++ back) right) beside last → middle.view.child ≡ only → Gives sizes cell.view.child mid given
         → Writes (child_page (length front) (front ++ back) right) given written → IsPage (written.pages (child_page (length front) (front ++ back) right)) (child_page (length front) (front ++ back) right) sizes.usable TableInterior (bytes_in (middle ∷ beside)) last → EmptiesBelow sizes gone (suc (suc levels)) page right old written first bytes }
+    ensures right_root { (sizes : Sizes) (gone : Member) (levels page : ℕ) (old : Paged) (cells : List Spelled) (right : ℕ) (front : List Spelled) (cell : Spelled) (back : List Spelled) (only : ℕ) (mid given written : Paged) (first bytes : ℕ)
+        (middle : Spelled) (beside : List Spelled) (last : ℕ) → HasCells sizes old TableInterior page cells right → cells ≡ front ++ cell ∷ back → IsCell TableInterior sizes.usable middle.bytes middle.view → middle.view.rowid ≡ cell.view.rowid
+        → front ++ back ≡ [] → EmptiesBelow sizes gone (suc levels) (child_page (length front) (front ++ back) right) only old mid first bytes → HasCells sizes mid TableInterior cell.view.child beside last → middle.view.child ≡ last → Gives sizes cell.view.child mid given → Writes (child_page (length front) (front ++ back) right) given written
+        → IsPage (written.pages (child_page (length front) (front ++ back) right)) (child_page (length front) (front ++ back) right) sizes.usable TableInterior (bytes_in (beside ++ middle ∷ [])) only → (taken new : Paged) → Writes page written taken
+        → IsPage (taken.pages page) page sizes.usable TableInterior (bytes_in (beside ++ middle ∷ [])) only → Gives sizes (child_page (length front) (front ++ back) right) taken new → DeleteAt sizes gone (suc (suc levels)) page old new first bytes }
+    ensures left_root { (sizes : Sizes) (gone : Member) (levels page : ℕ) (old : Paged) (cells : List Spelled) (right : ℕ) (front : List Spelled) (cell : Spelled) (back : List Spelled) (only : ℕ) (mid given written : Paged) (first bytes : ℕ)
+        (middle : Spelled) (beside : List Spelled) (last : ℕ) → HasCells sizes old TableInterior page cells right → cells ≡ front ++ cell ∷ back → IsCell TableInterior sizes.usable middle.bytes middle.view → middle.view.rowid ≡ cell.view.rowid
+        → front ++ back ≡ [] → EmptiesBelow sizes gone (suc levels) cell.view.child only old mid first bytes → HasCells sizes mid TableInterior (child_page (length front) (front ++ back) right) beside last → middle.view.child ≡ only → Gives sizes cell.view.child mid given → Writes (child_page (length front) (front ++ back) right) given written
+        → IsPage (written.pages (child_page (length front) (front ++ back) right)) (child_page (length front) (front ++ back) right) sizes.usable TableInterior (bytes_in (middle ∷ beside)) last → (taken new : Paged) → Writes page written taken
+        → IsPage (taken.pages page) page sizes.usable TableInterior (bytes_in (middle ∷ beside)) last → Gives sizes (child_page (length front) (front ++ back) right) taken new → DeleteAt sizes gone (suc (suc levels)) page old new first bytes }
+    ensures right_cut { (sizes : Sizes) (gone : Member) (levels page : ℕ) (old : Paged) (cells : List Spelled) (right : ℕ) (front : List Spelled) (cell : Spelled) (back : List Spelled) (only : ℕ) (mid given written : Paged) (first bytes : ℕ)
+        (middle : Spelled) (beside : List Spelled) (last : ℕ) → HasCells sizes old TableInterior page cells right → cells ≡ front ++ cell ∷ back → IsCell TableInterior sizes.usable middle.bytes middle.view → middle.view.rowid ≡ cell.view.rowid
+        → EmptiesBelow sizes gone (suc levels) (child_page (length front) (front ++ back) right) only old mid first bytes → HasCells sizes mid TableInterior cell.view.child beside last → middle.view.child ≡ last → Gives sizes cell.view.child mid given → (grew : List Spelled) → IsSettled sizes (suc levels) Table (child_page (length front) (front ++ back) right) only (beside ++ middle ∷ []) given written grew
+        → (new : Paged) (dividers : List Spelled) → 0 < length (with_dividers (front ++ back) (length front) grew) → IsSettled sizes (suc (suc levels)) Table page right (with_dividers (front ++ back) (length front) grew) written new dividers
+        → GrowsBelow sizes gone (suc (suc levels)) page old new dividers first bytes }
+    ensures left_cut { (sizes : Sizes) (gone : Member) (levels page : ℕ) (old : Paged) (cells : List Spelled) (right : ℕ) (front : List Spelled) (cell : Spelled) (back : List Spelled) (only : ℕ) (mid given written : Paged) (first bytes : ℕ)
+        (middle : Spelled) (beside : List Spelled) (last : ℕ) → HasCells sizes old TableInterior page cells right → cells ≡ front ++ cell ∷ back → IsCell TableInterior sizes.usable middle.bytes middle.view → middle.view.rowid ≡ cell.view.rowid
+        → EmptiesBelow sizes gone (suc levels) cell.view.child only old mid first bytes → HasCells sizes mid TableInterior (child_page (length front) (front ++ back) right) beside last → middle.view.child ≡ only → Gives sizes cell.view.child mid given → (grew : List Spelled) → IsSettled sizes (suc levels) Table (child_page (length front) (front ++ back) right) last (middle ∷ beside) given written grew
+        → (new : Paged) (dividers : List Spelled) → 0 < length (with_dividers (front ++ back) (length front) grew) → IsSettled sizes (suc (suc levels)) Table page right (with_dividers (front ++ back) (length front) grew) written new dividers
+        → GrowsBelow sizes gone (suc (suc levels)) page old new dividers first bytes }
+{}
+
+/// A row that is not found where its rowid belongs is not there.
+pub fn missing_row_is_not_there()
+    ensures leaf { (sizes : Sizes) (rowid : ℤ) (page : ℕ) (base : Paged) (cells : List Spelled) (right i : ℕ) → HasCells sizes base TableLeaf page cells right → Belongs rowid i (views_in cells) → ¬ Meets rowid i (views_in cells)
+        → MissingBelow sizes zero page rowid base }
+    ensures interior { (sizes : Sizes) (rowid : ℤ) (levels page : ℕ) (base : Paged) (cells : List Spelled) (right i : ℕ) → HasCells sizes base TableInterior page cells right → Belongs rowid i (views_in cells)
+        → MissingBelow sizes levels (child_page i cells right) rowid base → MissingBelow sizes (suc levels) page rowid base }
+    ensures world { (sizes : Sizes) (rowid : ℤ) (front : List Rooted) (old : Rooted) (back : List Rooted) (base : Paged) (trunks : List Trunk) → old.kind ≡ Table → IsWorld sizes base (with_tree front old back trunks)
+        → MissingBelow sizes old.levels (root_of old) rowid base → (m : Member) → Contains (list_in old) m → m.rowid ≢ rowid }
+{}
+
+/// Where a child was cut, or a divider became longer, the page with the dividers that came is cut or written, and a root gets a level. Where nothing came, the page is not written, and a root stays.
+pub fn page_of_a_delete_is_cut()
+    ensures kept { (sizes : Sizes) (gone : Member) (levels page : ℕ) (old new : Paged) (left first bytes : ℕ) → DeleteBelow sizes gone levels page old new left first bytes → 0 < left → GrowsBelow sizes gone levels page old new [] first bytes }
+    ensures parent { (sizes : Sizes) (gone : Member) (levels page : ℕ) (old : Paged) (cells : List Spelled) (right at : ℕ) (between : Paged) (grew : List Spelled) (first bytes : ℕ) (new : Paged) (dividers : List Spelled) → HasCells sizes old TableInterior page cells right
+        → at ≤ length cells → 0 < length (with_dividers cells at grew) → GrowsBelow sizes gone levels (child_page at cells right) old between grew first bytes
+        → IsSettled sizes (suc levels) Table page right (with_dividers cells at grew) between new dividers → GrowsBelow sizes gone (suc levels) page old new dividers first bytes }
+    ensures parent_stays { (sizes : Sizes) (gone : Member) (levels page : ℕ) (old : Paged) (cells : List Spelled) (right at : ℕ) (new : Paged) (first bytes : ℕ) → HasCells sizes old TableInterior page cells right
+        → GrowsBelow sizes gone levels (child_page at cells right) old new [] first bytes → DeleteBelow sizes gone (suc levels) page old new (length cells) first bytes }
+    ensures root_stays { (sizes : Sizes) (gone : Member) (levels root : ℕ) (old new : Paged) (first bytes : ℕ) → GrowsBelow sizes gone levels root old new [] first bytes → DeleteAt sizes gone levels root old new first bytes }
+    ensures root { (sizes : Sizes) (gone : Member) (levels root : ℕ) (old between new : Paged) (dividers : List Spelled) (first bytes : ℕ) → GrowsBelow sizes gone (suc levels) root old between dividers first bytes
+        → IsDeepened sizes TableInterior Table root dividers between new → DeleteAt sizes gone (suc levels) root old new first bytes }
 {}

@@ -101,14 +101,26 @@ fn is_log(log: &Log, frames: &[u32], committed: u64, sums: [u32; 2]) -> bool {
         && log.sums == sums
 }
 
+// What is kept of a log of which so many frames are needed.
+fn is_read(
+    alloc: Global,
+    log: &[u8],
+    needed: u64,
+    frames: &[u32],
+    sums: [u32; 2],
+) -> Result<bool, Fail> {
+    let log = read_log(alloc, log, needed)?;
+    Ok(is_log(&log, frames, if frames.is_empty() { 0 } else { 2 }, sums))
+}
+
 // The frames of a log in either order of its checksums' bytes, with the sums at the fifth frame, at the fourth and at the header.
 fn check_frames(alloc: Global, log: &[u8], sums: [[u32; 2]; 3]) -> Result<(), Fail> {
-    let whole = read_log(alloc, log, 2)?;
-    ensure(is_log(&whole, &[4, 5, 6, 7, 8], 2, sums[0]), "all frames")?;
-    let torn = read_log(alloc, front(log, 2711), 0)?;
-    ensure(is_log(&torn, &[4, 5, 6, 7], 2, sums[1]), "a torn frame")?;
-    let empty = read_log(alloc, front(log, 32), 0)?;
-    ensure(is_log(&empty, &[], 0, sums[2]), "no frame")
+    let whole = is_read(alloc, log, 2, &[4, 5, 6, 7, 8], sums[0])?;
+    ensure(whole, "all frames")?;
+    let torn = is_read(alloc, front(log, 2711), 0, &[4, 5, 6, 7], sums[1])?;
+    ensure(torn, "a torn frame")?;
+    let empty = is_read(alloc, front(log, 32), 0, &[], sums[2])?;
+    ensure(empty, "no frame")
 }
 
 // The fault of a log of which so many frames are needed.
@@ -116,69 +128,95 @@ fn has_fault(alloc: Global, log: &[u8], needed: u64, fault: LogFault) -> bool {
     read_log(alloc, log, needed).is_err_and(|other| other == fault)
 }
 
+fn log_is_read(alloc: Global, magic: u8, all: &[u8], sums: [[u32; 2]; 3]) -> Result<(), Fail> {
+    let log = log_of_sqlite(alloc, magic, all)?;
+    check_frames(alloc, log.as_slice(), sums)
+}
+
 #[test]
 fn logs_of_sqlite_are_read(rt: HostRuntime) -> Result<(), Fail> {
-    let alloc = rt.alloc();
-    let little = log_of_sqlite(alloc, 0x82, LITTLE_SUMS)?;
-    check_frames(
-        alloc,
-        little.as_slice(),
-        [
-            [1329627534, 1496084888],
-            [2191546951, 2330691379],
-            [1801082023, 1489528302],
-        ],
-    )?;
-    let big = log_of_sqlite(alloc, 0x83, BIG_SUMS)?;
-    check_frames(
-        alloc,
-        big.as_slice(),
-        [
-            [3650018325, 2861063366],
-            [2961653325, 135667648],
-            [2857785965, 4083730523],
-        ],
-    )
+    let little = [
+        [1329627534, 1496084888],
+        [2191546951, 2330691379],
+        [1801082023, 1489528302],
+    ];
+    log_is_read(rt.alloc(), 0x82, LITTLE_SUMS, little)?;
+    let big = [
+        [3650018325, 2861063366],
+        [2961653325, 135667648],
+        [2857785965, 4083730523],
+    ];
+    log_is_read(rt.alloc(), 0x83, BIG_SUMS, big)
+}
+
+// How many bytes of the log there are, how many frames are needed, and the fault: no commit, an older frame, a part of a frame, and
+// a short header.
+const FAULTS: [(usize, u64, LogFault); 4] = [
+    (3248, 3, LogFault::LogFrame { number: 3 }),
+    (3248, 7, LogFault::LogFrame { number: 6 }),
+    (2711, 5, LogFault::LogFrame { number: 5 }),
+    (31, 0, LogFault::LogHeader),
+];
+
+fn have_faults(alloc: Global, log: &[u8]) -> Result<(), Fail> {
+    for (len, needed, fault) in FAULTS {
+        ensure(
+            has_fault(alloc, front(log, len), needed, fault),
+            "a log with a fault",
+        )?;
+    }
+    Ok(())
+}
+
+fn log_lacks_frames(alloc: Global) -> Result<(), Fail> {
+    let log = log_of_sqlite(alloc, 0x82, LITTLE_SUMS)?;
+    have_faults(alloc, log.as_slice())
+}
+
+fn sums_have_the_other_order(alloc: Global) -> Result<(), Fail> {
+    let log = log_of_sqlite(alloc, 0x83, LITTLE_SUMS)?;
+    let is_refused = has_fault(alloc, log.as_slice(), 0, LogFault::LogHeader);
+    ensure(is_refused, "a wrong checksum")
 }
 
 #[test]
 fn logs_that_lack_a_needed_frame_are_refused(rt: HostRuntime) -> Result<(), Fail> {
-    let alloc = rt.alloc();
-    let log = log_of_sqlite(alloc, 0x82, LITTLE_SUMS)?;
-    let bytes = log.as_slice();
-    let no_commit = LogFault::LogFrame { number: 3 };
-    ensure(has_fault(alloc, bytes, 3, no_commit), "no commit")?;
-    let old = LogFault::LogFrame { number: 6 };
-    ensure(has_fault(alloc, bytes, 7, old), "an older frame")?;
-    let torn = LogFault::LogFrame { number: 5 };
-    ensure(
-        has_fault(alloc, front(bytes, 2711), 5, torn),
-        "a part of a frame",
-    )?;
-    ensure(
-        has_fault(alloc, front(bytes, 31), 0, LogFault::LogHeader),
-        "a short header",
-    )?;
-    let other = log_of_sqlite(alloc, 0x83, LITTLE_SUMS)?;
-    ensure(
-        has_fault(alloc, other.as_slice(), 0, LogFault::LogHeader),
-        "a wrong checksum",
-    )
+    log_lacks_frames(rt.alloc())?;
+    sums_have_the_other_order(rt.alloc())
+}
+
+// The index of the log with these pages in its frames.
+fn index_of(alloc: Global, log: &[u8], pages: &[u32]) -> Result<WalIndex, Fail> {
+    let mut log = read_log(alloc, log, 0)?;
+    log.frames = OwnedList::from_vec(pages.to_vec(alloc)?);
+    Ok(WalIndex::of_log(alloc, &log)?)
+}
+
+// A page, a mark, and the page's last frame up to the mark; the last two have none.
+const LAST_FRAMES: [(u32, u64, Option<u64>); 5] = [
+    (1, 5, Some(4)),
+    (1, 3, Some(2)),
+    (3, 4, Some(1)),
+    (2, 2, None),
+    (7, 9, None),
+];
+
+fn finds_last_frames(index: &WalIndex) -> Result<(), Fail> {
+    for (page, mark, frame) in LAST_FRAMES {
+        ensure(index.find(page, mark) == frame, "a page's last frame")?;
+    }
+    ensure(index.max_frame() == 5 && index.pages() == 9, "sizes")
+}
+
+fn counts_copied_frames(index: &mut WalIndex) -> Result<(), Fail> {
+    index.set_backfilled(2);
+    ensure(index.backfilled() == 2, "frames that were copied")
 }
 
 #[test]
 fn last_frames_of_pages_are_found(rt: HostRuntime) -> Result<(), Fail> {
-    let alloc = rt.alloc();
-    let bytes = log_of_sqlite(alloc, 0x82, LITTLE_SUMS)?;
-    let mut log = read_log(alloc, bytes.as_slice(), 0)?;
-    log.frames = OwnedList::from_vec([3, 1, 2, 1, 3].to_vec(alloc)?);
-    let mut index = WalIndex::of_log(alloc, &log)?;
-    ensure(index.find(1, 5) == Some(4), "the last frame")?;
-    ensure(index.find(1, 3) == Some(2), "the last frame below the mark")?;
-    ensure(index.find(3, 4) == Some(1), "the first frame")?;
-    ensure(index.find(2, 2).is_none(), "a frame past the mark")?;
-    ensure(index.find(7, 9).is_none(), "a page without a frame")?;
-    ensure(index.max_frame() == 5 && index.pages() == 9, "sizes")?;
-    index.set_backfilled(2);
-    ensure(index.backfilled() == 2, "frames that were copied")
+    let log = log_of_sqlite(rt.alloc(), 0x82, LITTLE_SUMS)?;
+    let mut index = index_of(rt.alloc(), log.as_slice(), &[3, 1, 2, 1, 3])?;
+    finds_last_frames(&index)?;
+    counts_copied_frames(&mut index)
 }

@@ -50,13 +50,15 @@ fn spelled(alloc: Global, text: &[u8]) -> Result<Vec<u8>, AllocError> {
     Ok(line)
 }
 
+fn is_spelled(alloc: Global, text: &str, line: &'static str) -> Result<(), Fail> {
+    let tokens = spelled(alloc, text.as_bytes())?;
+    ensure(tokens.as_slice() == line.as_bytes(), line)
+}
+
 #[test]
 fn texts_are_cut_into_tokens(rt: HostRuntime) -> Result<(), Fail> {
     for (text, line) in TEXTS {
-        assert_eq!(rt;
-            spelled(rt.alloc(), text.as_bytes())?.as_slice(),
-            line.as_bytes()
-        );
+        is_spelled(rt.alloc(), text, line)?;
     }
     Ok(())
 }
@@ -299,36 +301,41 @@ fn push_listed(line: &mut Vec<u8>, columns: &[(u32, Collation)]) -> Result<(), A
     Ok(())
 }
 
-// A table as the rows above write it.
-fn table_line(alloc: Global, table: &Table) -> Result<Vec<u8>, AllocError> {
-    let mut line = Vec::from_slice(alloc, table.name.as_slice())?;
-    line.push(b'|')?;
-    push_columns(&mut line, table.columns.as_slice())?;
-    line.push(b'|')?;
-    match table.rowid_column {
-        Some(place) => line.push(digit(place))?,
-        None => line.push(b'-')?,
-    }
-    line.push(b'|')?;
-    push_places(&mut line, table.key.as_slice())?;
-    line.push(b'|')?;
+fn push_unique(line: &mut Vec<u8>, table: &Table) -> Result<(), AllocError> {
     let mut first = true;
     for columns in table.unique.as_slice() {
         if !first {
             line.push(b',')?;
         }
         first = false;
-        push_listed(&mut line, columns.as_slice())?;
+        push_listed(line, columns.as_slice())?;
     }
-    Ok(line)
+    Ok(())
 }
 
-// An index as the rows above write it.
-fn index_line(alloc: Global, index: &Index) -> Result<Vec<u8>, AllocError> {
-    let mut line = Vec::from_slice(alloc, index.name.as_slice())?;
+// A table as the rows above write it.
+fn push_table(line: &mut Vec<u8>, table: &Table) -> Result<(), AllocError> {
+    line.extend_from_slice(table.name.as_slice())?;
     line.push(b'|')?;
-    line.extend_from_slice(index.table.as_slice())?;
-    line.extend_from_slice(if index.unique { b"|u|" } else { b"||" })?;
+    push_columns(line, table.columns.as_slice())?;
+    line.push(b'|')?;
+    line.push(match table.rowid_column {
+        Some(place) => digit(place),
+        None => b'-',
+    })?;
+    line.push(b'|')?;
+    push_places(line, table.key.as_slice())?;
+    line.push(b'|')?;
+    push_unique(line, table)
+}
+
+fn is_table(alloc: Global, table: &Table, line: &str) -> Result<bool, AllocError> {
+    let mut read = Vec::new(alloc);
+    push_table(&mut read, table)?;
+    Ok(read.as_slice() == line.as_bytes())
+}
+
+fn push_index_columns(line: &mut Vec<u8>, index: &Index) -> Result<(), AllocError> {
     for (place, collation, descends) in index.columns.as_slice() {
         line.push(digit(*place))?;
         line.push(collation_letter(*collation))?;
@@ -336,30 +343,72 @@ fn index_line(alloc: Global, index: &Index) -> Result<Vec<u8>, AllocError> {
             line.push(b'd')?;
         }
     }
-    Ok(line)
+    Ok(())
 }
 
-fn table_fault(alloc: Global, text: &str) -> Option<SqlFault> {
-    read_table(alloc, text.as_bytes()).err()
+// An index as the rows above write it.
+fn push_index(line: &mut Vec<u8>, index: &Index) -> Result<(), AllocError> {
+    line.extend_from_slice(index.name.as_slice())?;
+    line.push(b'|')?;
+    line.extend_from_slice(index.table.as_slice())?;
+    line.extend_from_slice(if index.unique { b"|u|" } else { b"||" })?;
+    push_index_columns(line, index)
 }
 
-fn index_fault(alloc: Global, text: &str, table: &Table) -> Option<SqlFault> {
-    read_index(alloc, text.as_bytes(), table).err()
+fn is_index(alloc: Global, index: &Index, line: &str) -> Result<bool, AllocError> {
+    let mut read = Vec::new(alloc);
+    push_index(&mut read, index)?;
+    Ok(read.as_slice() == line.as_bytes())
+}
+
+fn table_is_read(alloc: Global, text: &str, line: &'static str) -> Result<(), Fail> {
+    let table = read_table(alloc, text.as_bytes())?;
+    ensure(is_table(alloc, &table, line)?, line)
+}
+
+fn table_has_fault(alloc: Global, text: &'static str, fault: SqlFault) -> Result<(), Fail> {
+    let is_fault = read_table(alloc, text.as_bytes()).is_err_and(|other| other == fault);
+    ensure(is_fault, text)
 }
 
 #[test]
 fn texts_of_tables_are_read(rt: HostRuntime) -> Result<(), Fail> {
     for (text, line) in TABLES {
-        let table = read_table(rt.alloc(), text.as_bytes())?;
-        assert_eq!(rt; table_line(rt.alloc(), &table)?.as_slice(), line.as_bytes());
+        table_is_read(rt.alloc(), text, line)?;
     }
     for (text, offset) in NO_TABLES {
-        let fault = Some(SqlFault::SqlSyntax { offset });
-        ensure(table_fault(rt.alloc(), text) == fault, text)?;
+        table_has_fault(rt.alloc(), text, SqlFault::SqlSyntax { offset })?;
     }
     for (text, clause) in OUTSIDE {
-        let fault = Some(SqlFault::OutsideProfile { clause });
-        ensure(table_fault(rt.alloc(), text) == fault, text)?;
+        table_has_fault(rt.alloc(), text, SqlFault::OutsideProfile { clause })?;
+    }
+    Ok(())
+}
+
+fn index_is_read(alloc: Global, text: &str, table: &Table, line: &'static str) -> Result<(), Fail> {
+    let index = read_index(alloc, text.as_bytes(), table)?;
+    ensure(is_index(alloc, &index, line)?, line)
+}
+
+fn index_has_fault(
+    alloc: Global,
+    text: &'static str,
+    table: &Table,
+    fault: SqlFault,
+) -> Result<(), Fail> {
+    let is_fault = read_index(alloc, text.as_bytes(), table).is_err_and(|other| other == fault);
+    ensure(is_fault, text)
+}
+
+fn indexes_are_read(alloc: Global, table: &Table) -> Result<(), Fail> {
+    for (text, line) in INDEXES {
+        index_is_read(alloc, text, table, line)?;
+    }
+    for (text, offset) in NO_INDEXES {
+        index_has_fault(alloc, text, table, SqlFault::SqlSyntax { offset })?;
+    }
+    for (text, clause) in OUTSIDE_INDEXES {
+        index_has_fault(alloc, text, table, SqlFault::OutsideProfile { clause })?;
     }
     Ok(())
 }
@@ -367,17 +416,5 @@ fn texts_of_tables_are_read(rt: HostRuntime) -> Result<(), Fail> {
 #[test]
 fn texts_of_indexes_are_read(rt: HostRuntime) -> Result<(), Fail> {
     let table = read_table(rt.alloc(), INDEXED.as_bytes())?;
-    for (text, line) in INDEXES {
-        let index = read_index(rt.alloc(), text.as_bytes(), &table)?;
-        assert_eq!(rt; index_line(rt.alloc(), &index)?.as_slice(), line.as_bytes());
-    }
-    for (text, offset) in NO_INDEXES {
-        let fault = Some(SqlFault::SqlSyntax { offset });
-        ensure(index_fault(rt.alloc(), text, &table) == fault, text)?;
-    }
-    for (text, clause) in OUTSIDE_INDEXES {
-        let fault = Some(SqlFault::OutsideProfile { clause });
-        ensure(index_fault(rt.alloc(), text, &table) == fault, text)?;
-    }
-    Ok(())
+    indexes_are_read(rt.alloc(), &table)
 }

@@ -1,10 +1,12 @@
-//! Tests of pages as lists of cells, of the shares of a list of cells, of page stores, overflow chains and the freelist, and of the pages that a writer of trees takes, over pages in memory.
+//! Tests of pages as lists of cells, of the shares of a list of cells, of page stores, overflow chains and the freelist, of the pages that a writer of trees takes, and of cursors over trees, over pages in memory.
 //!
 //! They stand in a crate of their own, over the crates that they call, since a crate with tests is proved twice.
 #![tactic(auto)]
 
 #[cfg(test)]
 mod chains;
+#[cfg(test)]
+mod cursors;
 #[cfg(test)]
 mod free_lists;
 #[cfg(test)]

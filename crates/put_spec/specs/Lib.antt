@@ -1,6 +1,7 @@
 pub mod Children
 pub mod Puts
 pub mod Steps
+pub mod ImagesLaws
 pub mod ChildrenLaws
 pub mod LeavesLaws
 pub mod PutsLaws

@@ -24,6 +24,7 @@ use Rattle.tree_spec.specs.Worlds.{IsFree}
 use Rattle.tree_spec.specs.WorldsLaws.{all-back}
 use Rattle.tree_spec.specs.Changes.{Turns, Writes}
 use Rattle.tree_spec.specs.ChangesLaws.{free-within, Turns-then, Turns-write, Turns-within, Turns-keeps}
+use Rattle.put_spec.specs.ImagesLaws.{IsSplit, HasFirst, split-map, first-map, none-map, map-append, map-map, length-of}
 use Rattle.put_spec.specs.Children.{Belongs, Meets, views_of, child_at, children_with, last_with, interior_with}
 use Rattle.put_spec.specs.ChildrenLaws.{child-stands, child-within, keeps-fewer}
 use Rattle.put_spec.specs.Puts.{Before, After, hand_before, hand_after, child_before, interior_after, leaf_after, IsCut, cut_after, moved, deeper, IsReady, IsOpened, IsPut, IsRootPut}
@@ -32,51 +33,6 @@ use Rattle.put_spec.specs.LeavesLaws.{belongs-within, leaf-inserted, leaf-met}
 use Rattle.put_spec.specs.Steps.{Spelled, spelled, bytes_in, views_in, HasCells, child_page, with_dividers, IsRaised, AreParts, before_at, Took, IsFronted, IsSpread, IsSettled, IsMovedOut, IsRooted, PutDone, PutBelow, RootDone, PutAt, PutUnder, PutInto, IsDeepened, IsLeafEdit}
 
 -- Lists of cells.
-
--- a list whose image is in two parts
-pub record IsSplit {A B : Type 0} (f : A → B) (xs : List A) (ys zs : List B) : Type 0 where
-  pub front : List A
-  pub back : List A
-  pub whole : xs ≡ front ++ back
-  pub one : map f front ≡ ys
-  pub two : map f back ≡ zs
-
-split-map : {A B : Type 0} (f : A → B) (xs : List A) (ys zs : List B) → map f xs ≡ ys ++ zs → IsSplit f xs ys zs
-split-map f xs [] zs e = record { front = []; back = xs; whole = refl; one = refl; two = e }
-split-map f [] (y ∷ ys) zs e = absurd (let h : ⊥ = cc in h)
-split-map f (x ∷ xs) (y ∷ ys) zs e =
-    let first : f x ≡ y = cc in
-    let after : map f xs ≡ ys ++ zs = cc in
-    let rest = split-map f xs ys zs after in
-    record { front = x ∷ rest.front; back = rest.back; whole = ap (λ l. x ∷ l) rest.whole; one = cc (first, rest.one); two = rest.two }
-
--- a list whose image has a first item
-pub record HasFirst {A B : Type 0} (f : A → B) (xs : List A) (y : B) (ys : List B) : Type 0 where
-  pub first : A
-  pub after : List A
-  pub whole : xs ≡ first ∷ after
-  pub one : f first ≡ y
-  pub rest : map f after ≡ ys
-
-first-map : {A B : Type 0} (f : A → B) (xs : List A) (y : B) (ys : List B) → map f xs ≡ y ∷ ys → HasFirst f xs y ys
-first-map f [] y ys e = absurd (let h : ⊥ = cc in h)
-first-map f (x ∷ xs) y ys e = record { first = x; after = xs; whole = refl; one = cc; rest = cc }
-
-none-map : {A B : Type 0} (f : A → B) (xs : List A) → map f xs ≡ [] → xs ≡ []
-none-map f [] e = refl
-none-map f (x ∷ xs) e = absurd (let h : ⊥ = cc in h)
-
-map-append : {A B : Type 0} (f : A → B) (xs ys : List A) → map f (xs ++ ys) ≡ map f xs ++ map f ys
-map-append f [] ys = refl
-map-append f (x ∷ xs) ys = ap (λ l. f x ∷ l) (map-append f xs ys)
-
-map-map : {A B C : Type 0} (g : B → C) (f : A → B) (xs : List A) → map g (map f xs) ≡ map (λ x. g (f x)) xs
-map-map g f [] = refl
-map-map g f (x ∷ xs) = ap (λ l. g (f x) ∷ l) (map-map g f xs)
-
-length-of : {A B : Type 0} (f : A → B) (xs : List A) → length (map f xs) ≡ length xs
-length-of f [] = refl
-length-of f (x ∷ xs) = omega (arith, length-of f xs)
 
 bytes-of : (cells : List TreeCell) → bytes_in (map spelled cells) ≡ map (λ (cell : TreeCell). cell.bytes) cells
 bytes-of cells = map-map (λ (cell : Spelled). cell.bytes) spelled cells

@@ -1,4 +1,4 @@
--- Bytes have one fault at most, and a record has none.
+-- Bytes have one fault at most, and a record has none: crates above cite these facts in their proofs.
 use Rattle.std.proofs.Common.{◌≡◌, ℕ, ◌+◌, List, [], ◌∷◌, ◌++◌, length, inl, inr, refl, sym, ◌∙◌, ap, subst, length-append, take, arith}
 use Rattle.std.proofs.lemmas.List.{append_cancel_left, take_at}
 use Rattle.std.proofs.lemmas.List.Sums.{sum_by-cons}

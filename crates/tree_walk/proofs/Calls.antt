@@ -34,18 +34,6 @@ pub ok-so : {T E P : Type 0} (result : Result T E) → P → OnOk result P
 ok-so (Ok done) p = p
 ok-so (Err error) p = tt
 
--- what is said of a store's sizes and count after a call that leaves them
-pub at-sizes : {P F : Type 0} (g : Ghosts P F) {before after : P} → Stays g before after → g.count after ≡ g.count before → (Q : ℕ → ℕ → ℕ → Type 0)
-    → Q (g.size after) (g.usable after) (g.count after) → Q (g.size before) (g.usable before) (g.count before)
-at-sizes g {before} {after} stays count Q q =
-    subst (λ (s : ℕ). Q s (g.usable before) (g.count before)) stays.size
-    (subst (λ (u : ℕ). Q (g.size after) u (g.count before)) stays.usable (subst (λ (n : ℕ). Q (g.size after) (g.usable after) n) count q))
-
--- what holds of every state holds of the one that is told
-pub some-all : {S : Type 0} (told : Option S) {P : S → Type 0} → ((f : S) → P f) → IfSome told P
-some-all None all = tt
-some-all (Some f) all = all f
-
 -- what a call owes whose error is no fault of the store
 pub owes-free : {P F T : Type 0} (g : Ghosts P F) {before after : P} (result : Result T (TreeFault F)) → Stays g before after → g.faults after ≡ g.faults before → IfErr result (λ fault. fault_in fault ≡ None)
     → OwesBy g fault_in before after result

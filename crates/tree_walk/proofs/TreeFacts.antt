@@ -18,7 +18,7 @@ use Rattle.tree_spec.specs.declared.TreeKind.{TreeKind}
 use Rattle.tree_spec.specs.declared.TreeKind.TheVariants.{Table, Index}
 use Rattle.tree_spec.specs.Trees.{TreeCell, TreeOf, Member, member, between, interior_kind, kind_at, page_of, cells_behind, own_cells, own_right, list_of, list_beside, IsFull, IsFullBelow}
 use Rattle.tree_spec.specs.Bounds.{RisesIn, BesideIn, InOrder}
-use Rattle.tree_spec.specs.BoundsLaws.{rises-bounds, InOrder-rises, rowids as member_rowids}
+use Rattle.tree_spec.specs.BoundsLaws.{own_cells-rise}
 use Rattle.tree_spec.specs.Standing.{Sizes, Paged, IsHeld, HasBelow, Stands, StandsBefore, StandsLast}
 use Rattle.tree_spec.specs.PagesLaws.{page-same}
 use Rattle.tree_walk.specs.declared.page.TreePage.{TreePage}
@@ -140,36 +140,14 @@ module _ (sizes : Sizes) (base : Paged) (kind : TreeKind) where
 
 -- Order.
 
--- a tree whose pages have cells has members
-some-members : (levels : ℕ) (tree : TreeOf levels) → IsFull levels tree → 0 < length (list_of Table levels tree)
-some-members zero tree full = omega (arith, length-map tree.cells member, full.0)
-some-members (suc levels) tree full =
-    let front = flat_map (λ (child : TreeOf levels × TreeCell). list_of Table levels child.0 ++ between Table child.1) tree.children in
-    omega (arith, length-append front (list_of Table levels tree.last), some-members levels tree.last full.1.1)
-
-rises-strict : (low high : ℤ) (xs : List ℤ) → 0 < length xs → RisesIn low high xs → low <ℤ high
-rises-strict low high [] some rises = absurd (omega arith)
-rises-strict low high (x ∷ xs) some rises = omega (arith, ints, rises.0, rises-bounds x high xs rises.1)
-
-leaf-rises : (low high : ℤ) (cells : List TreeCell) → RisesIn low high (map (λ (c : TreeCell). c.view.rowid) cells) → RisesIn low high (rowids (views_of cells))
-leaf-rises low high [] rises = rises
-leaf-rises low high (c ∷ cells) rises = (rises.0, leaf-rises c.view.rowid high cells rises.1)
-
-dividers-rise : (levels : ℕ) (low high : ℤ) (children : List (TreeOf levels × TreeCell)) (last : TreeOf levels) → AllByRecursion (λ child. IsFull levels child.0) children
-    → BesideIn (InOrder levels) low high children last → RisesIn low high (rowids (views_of (cells_behind children)))
-dividers-rise levels low high [] last full beside = rises-bounds low high (member_rowids (list_of Table levels last)) (InOrder-rises levels low high last beside)
-dividers-rise levels low high (child ∷ children) last full beside =
-    let members = list_of Table levels child.0 in
-    let rowid = child.1.view.rowid in (
-      rises-strict low rowid (member_rowids members) (omega (arith, length-map members (λ (m : Member). m.rowid), some-members levels child.0 full.0)) (InOrder-rises levels low rowid child.0 beside.0),
-      dividers-rise levels rowid high children last full.1 beside.1,
-    )
+views-rise : (low high : ℤ) (cells : List TreeCell) → RisesIn low high (map (λ (c : TreeCell). c.view.rowid) cells) → RisesIn low high (rowids (views_of cells))
+views-rise low high [] rises = rises
+views-rise low high (c ∷ cells) rises = (rises.0, views-rise c.view.rowid high cells rises.1)
 
 -- the rowids of a tree's own page keep its bounds
 pub tree-rises : (kind : TreeKind) (levels : ℕ) (low : Option ℤ) (high : ℤ) (tree : TreeOf levels) → IsFullBelow levels tree → IsWithin kind levels low high tree
     → Rises kind low high (views_of (own_cells levels tree))
-tree-rises Table zero low high tree full within = leaf-rises (low_bound low) high tree.cells within
-tree-rises Table (suc levels) low high tree full within = dividers-rise levels (low_bound low) high tree.children tree.last full.0 within
+tree-rises Table levels low high tree full within = views-rise (low_bound low) high (own_cells levels tree) (own_cells-rise levels (low_bound low) high tree full within)
 tree-rises Index levels low high tree full within = tt
 
 -- Children.

@@ -8,7 +8,7 @@ use Rattle.tree_walk.specs.Walks.{Settles}
 use Rattle.tree_walk.specs.Courses.{SettlesOn}
 use Rattle.tree_walk.specs.SoughtCourses.{ComesOn, SeeksOn}
 use Rattle.tree_walk.specs.Seeks.{ComesTo, SeeksDown}
-use Rattle.tree_walk.proofs.Calls.{at-sizes}
+use Rattle.page_store.specs.StoreLaws.{at-sizes}
 use Rattle.tree_walk.proofs.path.Cursor.come_to.Goals as goal
 
 pub returns-in-Err-clause-pages : goal.returns-in-Err-clause-pages

@@ -6,7 +6,7 @@ use Rattle.page_spec.specs.Pages.{IsInRange}
 use Rattle.tree_walk.specs.Places.{child_at}
 use Rattle.tree_walk.specs.Walks.{StepsDown}
 use Rattle.tree_walk.proofs.Courses.{step-entered, step-refused}
-use Rattle.tree_walk.proofs.Calls.{at-sizes, some-all}
+use Rattle.page_store.specs.StoreLaws.{at-sizes, some-all}
 use Rattle.tree_walk.proofs.Steps.{stepped}
 use Rattle.tree_walk.proofs.path.Cursor.descend.Goals as goal
 

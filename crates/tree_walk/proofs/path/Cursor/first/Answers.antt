@@ -5,7 +5,8 @@ use Rattle.tree_spec.specs.FaultsLaws.{damage-then}
 use Rattle.tree_walk.specs.Courses.{StartsAt, stops}
 use Rattle.tree_walk.specs.Places.{IsBadRoot}
 use Rattle.tree_walk.specs.Walks.{StandsBelow}
-use Rattle.tree_walk.proofs.Calls.{at-sizes, root_first, root_not_bad}
+use Rattle.page_store.specs.StoreLaws.{at-sizes}
+use Rattle.tree_walk.proofs.Calls.{root_first, root_not_bad}
 use Rattle.tree_walk.proofs.path.Cursor.first.Goals as goal
 
 pub returns-in-Ok-clause-pages : goal.returns-in-Ok-clause-pages

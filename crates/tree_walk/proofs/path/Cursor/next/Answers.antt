@@ -2,7 +2,7 @@ use Rattle.std.proofs.Common.{◌≡◌, false, true, reverse, sym, refl, ◌∙
 use Rattle.std.proofs.lemmas.Option.{IfSome_then}
 use Rattle.tree_walk.specs.Pages.{is_leaf}
 use Rattle.tree_walk.specs.Walks.{IsPast}
-use Rattle.tree_walk.proofs.Calls.{some-all}
+use Rattle.page_store.specs.StoreLaws.{some-all}
 use Rattle.tree_walk.specs.Courses.{behind_first}
 use Rattle.tree_walk.proofs.Courses.{past-stays, leaf-next, entry-goes}
 use Rattle.tree_walk.proofs.Paths.{path-moved, next-up, behind-up}

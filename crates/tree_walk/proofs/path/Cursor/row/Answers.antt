@@ -3,7 +3,7 @@ use Rattle.std.specs.Int.{w64}
 use Rattle.std.proofs.lemmas.Int.{to_z-of_z}
 use Rattle.std.proofs.lemmas.Option.{IfSome_then}
 use Rattle.tree_walk.specs.Walks.{IsPast}
-use Rattle.tree_walk.proofs.Calls.{some-all}
+use Rattle.page_store.specs.StoreLaws.{some-all}
 use Rattle.tree_walk.proofs.Courses.{row-none, row-first, row-refused}
 use Rattle.tree_walk.proofs.Rows.{no_row, no_view, row-read, row-fault}
 use Rattle.tree_walk.proofs.path.Cursor.row.Goals as goal

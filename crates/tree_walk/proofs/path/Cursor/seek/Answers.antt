@@ -10,7 +10,8 @@ use Rattle.tree_walk.specs.Courses.{stops}
 use Rattle.tree_walk.specs.Places.{IsBadRoot}
 use Rattle.tree_walk.specs.SoughtCourses.{SeeksWalk, SoughtAt}
 use Rattle.tree_walk.specs.Seeks.{SeeksFrom, StandsFrom, not_less}
-use Rattle.tree_walk.proofs.Calls.{at-sizes, root_first, root_not_bad}
+use Rattle.page_store.specs.StoreLaws.{at-sizes}
+use Rattle.tree_walk.proofs.Calls.{root_first, root_not_bad}
 use Rattle.tree_walk.proofs.Sought.{above-sought}
 use Rattle.tree_walk.proofs.path.Cursor.seek.Goals as goal
 

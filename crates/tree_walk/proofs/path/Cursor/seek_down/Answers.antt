@@ -7,7 +7,7 @@ use Rattle.tree_walk.specs.declared.place.Place.{Place}
 use Rattle.tree_walk.specs.Pages.{is_leaf}
 use Rattle.tree_walk.specs.Walks.{StepsDown}
 use Rattle.tree_walk.specs.Seeks.{SeeksDown}
-use Rattle.tree_walk.proofs.Calls.{at-sizes, some-all}
+use Rattle.page_store.specs.StoreLaws.{at-sizes, some-all}
 use Rattle.page_spec.specs.Pages.{IsInRange}
 use Rattle.tree_walk.specs.Places.{child_at}
 use Rattle.tree_walk.specs.SoughtCourses.{ComesOn, SeeksOn}

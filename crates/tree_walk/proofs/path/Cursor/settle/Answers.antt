@@ -2,7 +2,8 @@ use Rattle.std.proofs.Common.{◌≡◌, false, true, reverse, sym, refl, ◌∙
 use Rattle.std.proofs.lemmas.Option.{IfSome_then}
 use Rattle.tree_walk.specs.Pages.{has_dividers}
 use Rattle.tree_walk.specs.Walks.{IsPast}
-use Rattle.tree_walk.proofs.Calls.{some-all, dividers, no_dividers}
+use Rattle.page_store.specs.StoreLaws.{some-all}
+use Rattle.tree_walk.proofs.Calls.{dividers, no_dividers}
 use Rattle.tree_walk.proofs.Courses.{past-stands, cell-stands, divider-goes}
 use Rattle.tree_walk.proofs.Paths.{path-moved, landed-up}
 use Rattle.tree_walk.proofs.Steps.{settled-past, settled-cell, next_of_table}

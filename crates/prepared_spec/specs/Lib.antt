@@ -22,3 +22,6 @@ pub mod TargetRecordsLaws
 pub mod StepRecords
 pub mod NeededPages
 pub mod StepRecordsLaws
+pub mod ChangesLaws
+pub mod LittleGroups
+pub mod LittleSteps

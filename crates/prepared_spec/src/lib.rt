@@ -11,7 +11,7 @@
 //! - `Outcomes`: the database midway, and the outcome;
 //! - `StepRecords` and `NeededPages`: what each step puts into a tree, and whether the database has room for all of it.
 //!
-//! `LittleUpdate` is an update that was worked out by hand. The modules that end in `Laws` say what follows; the functions without parameters promise the main laws.
+//! `LittleUpdate`, `LittleGroups`, `LittleRows` and `LittleSteps` were worked out by hand. The modules that end in `Laws` say what follows; the functions without parameters promise the main laws.
 #![tactic(auto)]
 
 mod input_fault;
@@ -27,4 +27,7 @@ pub use laws::{
     transaction_has_one_list_of_steps, transaction_has_one_outcome,
 };
 pub use violation::{Change, Violation};
-pub use worked::{worked_batches, worked_clash, worked_faults, worked_rows, worked_update};
+pub use worked::{
+    worked_batches, worked_clash, worked_exchange, worked_faults, worked_freeing, worked_keyless,
+    worked_room, worked_rows, worked_too_long, worked_update,
+};

@@ -2,29 +2,28 @@
 use Rattle.std.proofs.Common.{◌≡◌, ℕ, suc, ◌+◌, ◌<◌, List, [], ◌∷◌, ◌++◌, length, map, refl, sym, ap, ◌∙◌, subst, inl, arith, length-append}
 use Rattle.std.proofs.Math.Path.{subst⁻¹}
 use Rattle.std.specs.List.{AllByRecursion}
-use Rattle.std.proofs.lemmas.List.{map-append, length-map, nil_from_length}
+use Rattle.std.proofs.lemmas.List.{map-append, length-map}
 use Rattle.format_spec.specs.declared.PageKind.TheVariants.{TableInterior}
 use Rattle.format_spec.specs.Cell.{IsCell}
-use Rattle.format_spec.specs.Page.{IsPage}
 use Rattle.page_spec.specs.Counts.{times}
 use Rattle.page_spec.specs.CountsLaws.{times-append, hit-itself}
 use Rattle.page_spec.specs.FreelistsLaws.{IsInRange-wider}
 use Rattle.page_spec.specs.Freelists.{Trunk, free_pages}
 use Rattle.tree_spec.specs.declared.TreeKind.TheVariants.{Table}
-use Rattle.tree_spec.specs.Trees.{TreeCell, TreeOf, Member, interior_kind, page_of, own_cells, cells_behind, pages_of, pages_beside}
+use Rattle.tree_spec.specs.Trees.{TreeCell, TreeOf, Member, interior_kind, page_of, cells_behind, pages_of, pages_beside}
 use Rattle.tree_spec.specs.Standing.{Sizes, Paged, IsNumber, IsBehind, Stands, StandsBefore, StandsLast}
 use Rattle.tree_spec.specs.StandingLaws.{divider-held, Stands-kept}
 use Rattle.tree_spec.specs.Worlds.{IsFree}
 use Rattle.tree_spec.specs.WorldsLaws.{all-front, all-back, all-join}
-use Rattle.tree_spec.specs.Changes.{Within, Turns, Writes}
+use Rattle.tree_spec.specs.Changes.{Within, Turns}
 use Rattle.tree_spec.specs.ChangesLaws.{Turns-keeps}
 use Rattle.put_spec.specs.Children.{child_at}
 use Rattle.put_spec.specs.ChildrenLaws.{beside-first, child-stands}
-use Rattle.put_spec.specs.Puts.{After, hand_after, IsInteriorCut, moved}
+use Rattle.put_spec.specs.Puts.{After, hand_after, IsInteriorCut}
 use Rattle.put_spec.specs.PutsLaws.{pages-parts}
-use Rattle.put_spec.specs.Steps.{Spelled, spelled, bytes_in, HasCells, child_page, with_dividers, IsSettled, Releases}
+use Rattle.put_spec.specs.Steps.{Spelled, spelled, HasCells, child_page, with_dividers, IsSettled, Releases}
 use Rattle.put_spec.specs.StepsLaws.{page-tells}
-use Rattle.delete_spec.specs.Deletes.{hand_of, alone, pair, became, parent_with, IsOpened, IsDeleted}
+use Rattle.delete_spec.specs.Deletes.{hand_of, alone, pair, became, parent_with, IsOpened}
 use Rattle.delete_spec.specs.NeighboursLaws.{alone-among, pair-among, group-count}
 use Rattle.delete_spec.specs.DeletesLaws.{last-same, left-loose, right-loose, pair-joined, group-above, divider-chain}
 use Rattle.delete_spec.specs.CutsLaws.{dividers-in, cut-settled}

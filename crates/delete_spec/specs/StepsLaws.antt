@@ -1,5 +1,5 @@
 -- What is done page by page makes a delete: crates above cite these facts in their proofs.
-use Rattle.std.proofs.Common.{◌≡◌, ◌≢◌, ℕ, zero, suc, ◌+◌, ◌-◌, ◌<◌, ◌≤◌, List, [], ◌∷◌, ◌++◌, length, map, refl, sym, ap, ◌∙◌, subst, inl, inr, arith, length-append}
+use Rattle.std.proofs.Common.{◌≡◌, ◌≢◌, ℕ, zero, suc, ◌+◌, ◌-◌, ◌<◌, ◌≤◌, List, [], ◌∷◌, ◌++◌, length, map, refl, sym, ap, ◌∙◌, subst, inl, inr, arith}
 use Rattle.std.proofs.Math.Path.{subst⁻¹}
 use Rattle.std.specs.List.{AllByRecursion}
 use Rattle.std.proofs.lemmas.List.{append-nil, map-append, length-map, nil_from_length}
@@ -7,7 +7,7 @@ use Rattle.format_spec.specs.declared.PageKind.TheVariants.{TableInterior, Table
 use Rattle.format_spec.specs.Page.{IsPage}
 use Rattle.byte_fields.specs.Bytes.{part_of}
 use Rattle.page_spec.specs.Chains.{chain_bytes}
-use Rattle.page_spec.specs.Counts.{hit, times}
+use Rattle.page_spec.specs.Counts.{times}
 use Rattle.page_spec.specs.CountsLaws.{times-append, hit-itself}
 use Rattle.page_spec.specs.FreePagesLaws.{due-most}
 use Rattle.page_spec.specs.FreelistsLaws.{IsInRange-wider}
@@ -20,7 +20,7 @@ use Rattle.tree_spec.specs.StandingLaws.{held-kept, keeps-first, Stands-kept}
 use Rattle.tree_spec.specs.Worlds.{IsFree, IsWorld, with_tree, greatest_count}
 use Rattle.tree_spec.specs.WorldsLaws.{all-front, all-back, all-join, world-root, world-within}
 use Rattle.tree_spec.specs.Changes.{Within, Turns, Writes}
-use Rattle.tree_spec.specs.ChangesLaws.{Turns-wide, Turns-within, Turns-write, Turns-keeps}
+use Rattle.tree_spec.specs.ChangesLaws.{Turns-within, Turns-write, Turns-keeps}
 use Rattle.put_spec.specs.Children.{child_at}
 use Rattle.put_spec.specs.ChildrenLaws.{beside-first, child-within, child-stands}
 use Rattle.put_spec.specs.Puts.{After, hand_after, moved}

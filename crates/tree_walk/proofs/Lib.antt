@@ -1,10 +1,13 @@
 pub mod PageFacts
+pub mod Lists
 pub mod TreeFacts
-pub mod Steps
-pub mod Sought
+pub mod TreePlaces
 pub mod Paths
 pub mod Courses
+pub mod TreeCourses
 pub mod SoughtCourses
-pub mod Rows
-pub mod Calls
 pub mod Loops
+pub mod Sought
+pub mod Rows
+pub mod Members
+pub mod Calls

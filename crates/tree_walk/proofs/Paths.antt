@@ -17,10 +17,10 @@ use Rattle.tree_walk.specs.declared.path.Cursor.{Cursor}
 use Rattle.tree_walk.specs.Pages.{has_dividers, is_leaf, tree_kind}
 use Rattle.tree_walk.specs.Places.{low_bound, rowids, Rises, rowid_or, low_in, low_at, high_at}
 use Rattle.tree_walk.specs.Paths.{IsKept, IsUnder, IsPath, IsFirstUnder}
-use Rattle.tree_walk.specs.Walks.{IsPast}
+use Rattle.tree_walk.specs.Courses.{IsPast}
 use Rattle.tree_walk.specs.Rising.{kind_of, rowid_at, KeepsLow, KeepsHigh, ComesUp, MovesUp}
 use Rattle.tree_walk.proofs.TreeFacts.{low-next}
-use Rattle.tree_walk.proofs.Steps.{reverse-more}
+use Rattle.tree_walk.proofs.Lists.{reverse-more}
 
 -- Views.
 

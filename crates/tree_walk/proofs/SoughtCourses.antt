@@ -15,7 +15,7 @@ use Rattle.tree_walk.specs.Seeks.{IsAimed, IsIndexOf}
 use Rattle.tree_walk.specs.Courses.{Course, ends, stops, cells_left, cells_then, OnLeaf, Enters, Behind, Below, FromCell, IsLater, IsOn}
 use Rattle.tree_walk.specs.SoughtCourses.{place_at, FromAimed, FromSought, Deeper}
 use Rattle.tree_walk.proofs.Courses.{on_leaf, on_inner, to_leaf}
-use Rattle.tree_walk.proofs.Steps.{reverse-more}
+use Rattle.tree_walk.proofs.Lists.{reverse-more}
 
 module _ (sizes : Sizes) (base : Paged) (x : ℤ) where
   -- the walk from the child or the cell at which a cursor was set

@@ -24,7 +24,23 @@ use Rattle.tree_spec.specs.PagesLaws.{page-same}
 use Rattle.tree_walk.specs.declared.page.TreePage.{TreePage}
 use Rattle.tree_walk.specs.Pages.{IsDecoded, is_leaf, tree_kind}
 use Rattle.tree_walk.specs.Places.{rowids, low_bound, Rises, child_or, rowid_or, bound_or, low_in}
-use Rattle.tree_walk.specs.Walks.{from_child, behind_child, from_place, IsWithin}
+
+-- the members from a child on
+abbrev pub from_child : TreeKind → (levels : ℕ) → List (TreeOf levels × TreeCell) → TreeOf levels → ℕ → List Member
+from_child kind levels [] last at = list_of kind levels last
+from_child kind levels (child ∷ children) last zero = list_beside kind levels (child ∷ children) last
+from_child kind levels (child ∷ children) last (suc at) = from_child kind levels children last at
+
+-- the members behind a child: the entry of the cell behind it, and those from the next child on
+abbrev pub behind_child : TreeKind → (levels : ℕ) → List (TreeOf levels × TreeCell) → TreeOf levels → ℕ → List Member
+behind_child kind levels [] last at = []
+behind_child kind levels (child ∷ children) last zero = between kind child.1 ++ from_child kind levels children last 0
+behind_child kind levels (child ∷ children) last (suc at) = behind_child kind levels children last at
+
+-- a table's tree is in order within the bounds of a place
+abbrev pub IsWithin : TreeKind → (levels : ℕ) → Option ℤ → ℤ → TreeOf levels → Type 0
+IsWithin Table levels low high tree = InOrder levels (low_bound low) high tree
+IsWithin Index levels low high tree = Unit {0}
 
 abbrev pub views_of : List TreeCell → List CellView
 views_of cells = map (λ cell. cell.view) cells
@@ -168,10 +184,6 @@ from_child-cut kind levels (child ∷ children) last zero =
     ∙ append_assoc here entry (rest ++ list_of kind levels last)
     ∙ ap (λ (r : List Member). here ++ (entry ++ r)) (sym (from_child-all kind levels children last))
 from_child-cut kind levels (child ∷ children) last (suc at) = from_child-cut kind levels children last at
-
-pub from_place-all : (kind : TreeKind) (levels : ℕ) (tree : TreeOf levels) → from_place kind levels tree 0 ≡ list_of kind levels tree
-from_place-all kind zero tree = refl
-from_place-all kind (suc levels) tree = from_child-all kind levels tree.children tree.last
 
 pub behind-past : (kind : TreeKind) (levels : ℕ) (children : List (TreeOf levels × TreeCell)) (last : TreeOf levels) (at : ℕ) → length children ≤ at → behind_child kind levels children last at ≡ []
 behind-past kind levels [] last at past = refl

@@ -6,7 +6,7 @@ ghost use Rattle.tree_walk.specs.Pages.{is_leaf as is_leaf_of};
 ghost use Rattle.tree_walk.specs.Paths.{IsKept};
 ghost use Rattle.tree_walk.specs.Places.{rowids};
 ghost use Rattle.tree_walk.specs.SoughtCourses.{ComesOn, SeeksOn, SeeksWalk, SoughtAt};
-ghost use Rattle.tree_walk.specs.Seeks.{ComesTo, IsAimed, IsIndexOf, SeeksDown, SeeksFrom, StandsFrom};
+ghost use Rattle.tree_walk.specs.Seeks.{IsAimed, IsIndexOf, StandsFrom};
 
 use crate::entering::enter_root;
 use crate::path::Cursor;
@@ -53,7 +53,6 @@ impl Cursor {
         rowid: i64,
     ) -> Result<(), TreeFault<S::Fault>>
         requires { HasSizes S.PageRead store.old }
-        ensures pages { Sees S.PageRead store.old store.new (λ m. SeeksDown (record { size = S.size store.old; usable = S.usable store.old }) (record { count = S.count store.old; pages = m }) rowid self.old self.new result) }
         ensures walk { Sees S.PageRead store.old store.new (λ m. SeeksOn (record { size = S.size store.old; usable = S.usable store.old }) (record { count = S.count store.old; pages = m }) rowid self.old self.new result) }
         ensures owes { OwesBy S.PageRead fault_in store.old store.new result }
     {
@@ -75,7 +74,6 @@ impl Cursor {
         rowid: i64,
     ) -> Result<(), TreeFault<S::Fault>>
         requires { HasSizes S.PageRead store.old }
-        ensures pages { Sees S.PageRead store.old store.new (λ m. ComesTo (record { size = S.size store.old; usable = S.usable store.old }) (record { count = S.count store.old; pages = m }) rowid self.old self.new result) }
         ensures walk { Sees S.PageRead store.old store.new (λ m. ComesOn (record { size = S.size store.old; usable = S.usable store.old }) (record { count = S.count store.old; pages = m }) rowid self.old self.new result) }
         ensures owes { OwesBy S.PageRead fault_in store.old store.new result }
     {
@@ -98,7 +96,6 @@ impl Cursor {
     ) -> Result<Cursor, TreeFault<S::Fault>>
         requires sizes { HasSizes S.PageRead store.old }
         requires kept { IsKept here }
-        ensures pages { Sees S.PageRead store.old store.new (λ m. SeeksFrom (record { size = S.size store.old; usable = S.usable store.old }) (record { count = S.count store.old; pages = m }) rowid here result) }
         ensures walk { Sees S.PageRead store.old store.new (λ m. SoughtAt (record { size = S.size store.old; usable = S.usable store.old }) (record { count = S.count store.old; pages = m }) rowid here result) }
         ensures owes { OwesBy S.PageRead fault_in store.old store.new result }
     {

@@ -14,4 +14,4 @@ pub use laws::{
     record_has_one_reading,
 };
 pub use read::{RecordFault, read_record};
-pub use write::{body_size, int_serial_type, write_record};
+pub use write::{body_size, int_serial_type, record_length, write_record};

@@ -11,8 +11,8 @@ use Rattle.record_codec.specs.Faults.{HasFault as RecordHasFault}
 use Rattle.record_codec.specs.FaultsLaws.{HasFault-same, record-no_fault}
 use Rattle.rbu_rows.specs.declared.control.ControlFault.{ControlFault}
 use Rattle.rbu_rows.specs.declared.prepared.Prepared.{Prepared}
-use Rattle.rbu_rows.specs.Controls.{HasFault as ControlHasFault}
-use Rattle.rbu_rows.specs.ControlsLaws.{one_fault}
+use Rattle.rbu_rows.specs.Controls.{IsControl, HasFault as ControlHasFault}
+use Rattle.rbu_rows.specs.ControlsLaws.{one_fault, no_fault}
 use Rattle.schema_spec.specs.declared.schema.Table.{Table}
 use Rattle.tree_spec.specs.Trees.{Member}
 use Rattle.tree_spec.specs.Standing.{Sizes, Paged}
@@ -24,7 +24,7 @@ use Rattle.prepared_spec.specs.declared.input_fault.RecordCause.TheVariants.{Siz
 use Rattle.prepared_spec.specs.declared.input_fault.InputFault.{InputFault}
 use Rattle.prepared_spec.specs.declared.input_fault.InputFault.TheVariants.{Control as ControlRefused, DuplicateKey, DataRecord}
 use Rattle.prepared_spec.specs.DataTables.{table_fault}
-use Rattle.prepared_spec.specs.PreparedRows.{control_value, HasCause, IsUnprepared, IsWrongRow}
+use Rattle.prepared_spec.specs.PreparedRows.{control_value, HasCause, IsPrepared, IsUnprepared, IsWrongRow}
 use Rattle.prepared_spec.specs.Inputs.{Input, Opens, Reads, Damages, Closes, key_twice, sum_fault, IsWrongInput, FirstWrongInput, ArePreparedRows, HasInputFault}
 use Rattle.prepared_spec.specs.InputsLaws.{wrong_row-one, inputs-one, prepared_rows-one, prepared_rows-no_fault}
 
@@ -60,21 +60,34 @@ cause-same payload columns a b (inr p) (inr q) = sym p.0 ∙ q.0
 pub cause-one : (payload : List ℕ) (columns : ℕ) → IsOne (HasCause payload columns)
 cause-one payload columns a b p q = cause-same payload columns a b (causes-are payload columns a p) (causes-are payload columns b q)
 
-row-no_cause : (payload : List ℕ) (columns : ℕ) (cause : RecordCause) (values : List Value) → Causes payload columns cause → IsRecord payload values → length values ≡ columns → ⊥
-row-no_cause payload columns cause values (inl (fault, p, e)) is many = record-no_fault payload values fault is p
-row-no_cause payload columns cause values (inr (e, (others, p, n))) is many = n (ap length (record-one payload others values p is) ∙ many)
+row-causes : (payload : List ℕ) (columns : ℕ) (cause : RecordCause) (values : List Value) → Causes payload columns cause → IsRecord payload values → length values ≡ columns → ⊥
+row-causes payload columns cause values (inl (fault, p, e)) is many = record-no_fault payload values fault is p
+row-causes payload columns cause values (inr (e, (others, p, n))) is many = n (ap length (record-one payload others values p is) ∙ many)
+
+-- a record of as many values as columns has no cause
+pub row-no_cause : (payload : List ℕ) (columns : ℕ) (cause : RecordCause) (values : List Value) → HasCause payload columns cause → IsRecord payload values → length values ≡ columns → ⊥
+row-no_cause payload columns cause values p = row-causes payload columns cause values (causes-are payload columns cause p)
 
 -- a member prepares nothing for one reason
 pub unprepared-one : (source : List ℕ) (target own : Table) (member : Member) → IsOne (IsUnprepared source target own member)
 unprepared-one source target own member a b (inl (cause, p, e)) (inl (other, q, f)) =
     e ∙ ap (DataRecord source member.rowid) (cause-one member.payload (length own.columns) cause other p q) ∙ sym f
 unprepared-one source target own member a b (inl (cause, p, e)) (inr (row, wrong, is, q, f)) =
-    absurd (row-no_cause member.payload (length own.columns) cause is.stored (causes-are member.payload (length own.columns) cause p) is.is_record is.many)
+    absurd (row-no_cause member.payload (length own.columns) cause is.stored p is.is_record is.many)
 unprepared-one source target own member a b (inr (row, wrong, is, p, e)) (inl (cause, q, f)) =
-    absurd (row-no_cause member.payload (length own.columns) cause is.stored (causes-are member.payload (length own.columns) cause q) is.is_record is.many)
+    absurd (row-no_cause member.payload (length own.columns) cause is.stored q is.is_record is.many)
 unprepared-one source target own member a b (inr (row, wrong, is, p, e)) (inr (other, fault, also, q, f)) =
     let there = subst⁻¹ (λ (r : TableRow). ControlHasFault (control_value own r) (length target.columns) fault) (row-one own member row other is also) q in
     e ∙ ap (ControlRefused source member.rowid) (one_fault (control_value own row) (length target.columns) wrong fault p there) ∙ sym f
+
+-- and a member that prepares a row does not
+pub unprepared-not_prepared : (source : List ℕ) (target own : Table) (member : Member) (fault : InputFault) (prepared : Prepared)
+    → IsUnprepared source target own member fault → ¬ IsPrepared target own member prepared
+unprepared-not_prepared source target own member fault prepared (inl (cause, p, e)) (row, is, prepares) =
+    row-no_cause member.payload (length own.columns) cause is.stored p is.is_record is.many
+unprepared-not_prepared source target own member fault prepared (inr (row, wrong, is, p, e)) (other, also, prepares) =
+    let there = subst⁻¹ (λ (r : TableRow). IsControl (control_value own r) (length target.columns) prepares.control) (row-one own member row other is also) prepares.is_control in
+    no_fault (control_value own row) (length target.columns) prepares.control wrong there p
 
 pub some-one : {A : Type 0} (o : Option A) (a b : A) → o ≡ Some a → o ≡ Some b → a ≡ b
 some-one o a b p q = let h : Some a ≡ Some b = sym p ∙ q in cc

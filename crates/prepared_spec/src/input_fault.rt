@@ -43,7 +43,7 @@ pub enum RecordCause {
 pub enum InputFault {
     /// 55: the tree of a `data_` table is damaged.
     TreeDamaged {
-        page: u32,
+        page: u64,
         rule: Rule,
     },
     /// 60: the text of the named target, of one of its indexes, or of the named `data_` table leaves the grammar, in bytes from 0.

@@ -1,7 +1,7 @@
 // The index of a log.
-ghost use Rattle.std.specs.Prelude.{◌≡◌, IfOk, length};
+ghost use Rattle.std.specs.Prelude.{◌≡◌, ◌≤◌, ℕ, IfNone, IfOk, length};
 ghost use Rattle.common_spec.specs.Reading.{OrNone, Reads};
-ghost use Rattle.wal_index.specs.FrameIndex.{IsLastFrame};
+ghost use Rattle.wal_index.specs.FrameIndex.{IsFrameOf, IsLastFrame};
 
 use std::alloc::{AllocError, Global};
 use std::marker::Model;
@@ -9,7 +9,8 @@ use wal_codec::Log;
 
 /// The last frame of the page at or below the mark, where the frames of a log have these pages. Frames count from 1.
 pub fn last_frame(frames: &[u32], page: u32, mark: u64) -> Option<u64>
-    ensures { Reads (OrNone (IsLastFrame frames.now page mark)) result }
+    ensures last { Reads (OrNone (IsLastFrame frames.now page mark)) result }
+    ensures none { IfNone result ((frame : ℕ) → frame ≤ mark → ¬ IsFrameOf frames.now page frame) }
 {
     let within = mark.min(frames.len() as u64) as usize;
     let mut left = &frames[..within];
@@ -53,7 +54,8 @@ impl WalIndex {
 
     /// The last frame of the page at or below the mark. Frames count from 1.
     pub fn find(&self, page: u32, mark: u64) -> Option<u64>
-        ensures { Reads (OrNone (IsLastFrame self.now.frames page mark)) result }
+        ensures last { Reads (OrNone (IsLastFrame self.now.frames page mark)) result }
+        ensures none { IfNone result ((frame : ℕ) → frame ≤ mark → ¬ IsFrameOf self.now.frames page frame) }
     {
         last_frame(self.frames.as_slice(), page, mark)
     }

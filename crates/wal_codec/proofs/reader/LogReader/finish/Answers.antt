@@ -1,4 +1,4 @@
-use Rattle.std.proofs.Common.{◌≡◌, ◌+◌, ◌*◌, ◌<◌, Ok, Err, List, ℕ, length, sym, ap, subst, arith}
+use Rattle.std.proofs.Common.{◌≡◌, ◌+◌, ◌*◌, ◌<◌, ◌≤◌, Ok, Err, List, ℕ, length, sym, ap, subst, arith}
 use Rattle.wal_codec.specs.declared.log.Log.{Log}
 use Rattle.wal_codec.specs.declared.log.LogFault.TheVariants.{LogFrame}
 use Rattle.wal_codec.specs.declared.reader.LogReader.{LogReader}
@@ -45,3 +45,11 @@ returns-clause-answer c bytes left needed reading end =
 
 pub returns-clause-place : goal.returns-clause-place
 returns-clause-place c = ap (λ (log : Log). 32 + length log.frames * (24 + log.page_size)) c.kept.ensures
+
+pub returns-clause-size : goal.returns-clause-size
+returns-clause-size c =
+    let reader = c.args.self in
+    let same : c.kept.result.page_size ≡ reader.head.page_size = ap (λ (log : Log). log.page_size) c.kept.ensures in
+    let least : 512 ≤ reader.head.page_size = reader.least in
+    let most : reader.head.page_size ≤ 65536 = reader.most in
+    (omega arith, omega arith)

@@ -1,10 +1,8 @@
 -- What follows for a cursor from what the calls that it makes say.
-use Rattle.std.proofs.Common.{◌≡◌, ◌≢◌, ℕ, ℤ, ◌<◌, ◌≤◌, true, false, List, [], ◌∷◌, length, Option, Some, None, IfSome, IfErr, OnOk, Result, Ok, Err, refl, sym, ap, ◌∙◌, subst, inl, inr, arith}
+use Rattle.std.proofs.Common.{◌≡◌, ◌≢◌, ℕ, ℤ, ◌<◌, List, [], Option, None, IfErr, OnOk, Result, Ok, Err, sym, ap, ◌∙◌, subst, inl, inr, arith}
 use Rattle.std.proofs.Math.Path.{subst⁻¹}
 use Rattle.std.proofs.lemmas.Option.{IfSome_then}
 use Rattle.common_spec.specs.Reading.{OrFault}
-use Rattle.format_spec.specs.declared.PageKind.{PageKind}
-use Rattle.format_spec.specs.declared.PageKind.TheVariants.{IndexInterior, TableInterior, IndexLeaf, TableLeaf}
 use Rattle.page_spec.specs.Pages.{Pages, IsInRange}
 use Rattle.page_store.specs.declared.store.PageRead.{Ghosts}
 use Rattle.page_store.specs.Store.{Stays, OwesBy, IsCause, Sees}
@@ -14,17 +12,16 @@ use Rattle.overflow_chain.specs.Chain.{fault_in as chain_fault_in}
 use Rattle.tree_walk.specs.Payloads.{tree_fault}
 use Rattle.refusal.specs.declared.Rule.{Rule}
 use Rattle.tree_spec.specs.declared.TreeKind.{TreeKind}
-use Rattle.tree_spec.specs.Trees.{Rooted, Member, list_in, root_of}
 use Rattle.tree_spec.specs.Bounds.{greatest_rowid}
-use Rattle.tree_spec.specs.Standing.{Sizes, Paged, IsRoot, IsTree}
+use Rattle.tree_spec.specs.Standing.{Sizes, Paged}
 use Rattle.tree_spec.specs.declared.fault.TreeFault.{TreeFault}
 use Rattle.tree_spec.specs.declared.fault.TreeFault.TheVariants.{TreeDamaged}
-use Rattle.tree_spec.specs.Faults.{IsOther, IsDamage, IsDamageOrOther, fault_in}
-use Rattle.tree_spec.specs.FaultsLaws.{damage-then, damage-none, damage-weaken}
+use Rattle.tree_spec.specs.Faults.{IsDamage, IsDamageOrOther, fault_in}
+use Rattle.tree_spec.specs.FaultsLaws.{damage-then, damage-weaken}
 use Rattle.tree_walk.specs.declared.page.TreePage.{TreePage}
 use Rattle.tree_walk.specs.declared.place.Place.{Place}
 use Rattle.tree_walk.specs.declared.path.Cursor.{Cursor}
-use Rattle.tree_walk.specs.Pages.{IsDecoded, IsBadRead, IsReadFault, has_dividers, is_leaf, tree_kind}
+use Rattle.tree_walk.specs.Pages.{IsDecoded, IsBadRead, IsReadFault, tree_kind}
 use Rattle.tree_walk.specs.Places.{most_above, Rises, child_at, low_at, high_at, IsBadNumber, IsBadPage, IsBounded, IsEntered, IsChild, IsBadRoot, IsBadStep, OutOfOrder, EntersPage, EntersRoot, IsOutOfPlace}
 use Rattle.tree_walk.specs.Courses.{Course, GoesFrom}
 

@@ -54,7 +54,7 @@ cells-next place later less =
     ∙ ap (λ (k : ℕ). let c : Course = record { spots = spots_from (view_of place.page) k (cells_left (next_of place)) ++ later.spots; damage = later.damage } in c) at
 
 -- the cell of an interior page
-cell-divider : (place : Place) (later : Course) → has_dividers place.page.kind ≡ true → cell_then place later ≡ later
+pub cell-divider : (place : Place) (later : Course) → has_dividers place.page.kind ≡ true → cell_then place later ≡ later
 cell-divider place later divider =
     ap (λ (b : Bool). cond b later (record { spots = record { page = view_of place.page; at = place.at } ∷ later.spots; damage = later.damage })) divider
 

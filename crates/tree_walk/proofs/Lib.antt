@@ -10,4 +10,9 @@ pub mod Loops
 pub mod Sought
 pub mod Rows
 pub mod Members
+pub mod Uniqueness
+pub mod Existing
+pub mod SoughtExisting
+pub mod Counting
+pub mod Lengths
 pub mod Calls

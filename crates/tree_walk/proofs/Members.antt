@@ -1,8 +1,7 @@
 -- What a walk says of the members of a standing tree.
-use Rattle.std.proofs.Common.{◌≡◌, ℕ, ℤ, ◌-◌, ◌<◌, List, [], ◌∷◌, drop, slice_index_or, Option, Some, None, Result, Ok, Err, sym, ap, ◌∙◌}
+use Rattle.std.proofs.Common.{◌≡◌, ℕ, ℤ, List, [], ◌∷◌, drop, slice_index_or, Option, Some, None, Result, Ok, Err, sym, ap, ◌∙◌}
 use Rattle.std.specs.List.{AllZip}
 use Rattle.common_spec.specs.Reading.{OrFault}
-use Rattle.format_spec.specs.declared.CellView.{CellView}
 use Rattle.refusal.specs.declared.Rule.{Rule}
 use Rattle.tree_spec.specs.declared.TreeKind.{TreeKind}
 use Rattle.tree_spec.specs.declared.TreeKind.TheVariants.{Table}
@@ -13,8 +12,7 @@ use Rattle.tree_spec.specs.Standing.{Sizes, Paged}
 use Rattle.tree_spec.specs.Trees.{Member}
 use Rattle.tree_walk.specs.declared.path.Cursor.{Cursor}
 use Rattle.tree_walk.specs.declared.cursor.Row.{Row}
-use Rattle.tree_walk.specs.Courses.{Spot, Course, Damage, behind_first, stops, StandsOn, Reaches, MovesOver, StartsWalk, IsFirstOf, IsBadFirst, ReadsFirst}
-use Rattle.tree_walk.specs.Payloads.{IsBadChain}
+use Rattle.tree_walk.specs.Courses.{Spot, Course, behind_first, stops, StandsOn, Reaches, MovesOver, StartsWalk, IsFirstOf, IsBadFirst, ReadsFirst}
 use Rattle.tree_walk.specs.Seeks.{not_less, StandsFrom}
 use Rattle.tree_walk.specs.SoughtCourses.{SeeksWalk}
 use Rattle.tree_walk.specs.Walks.{IsMember, HasMembers, StandsAt, Leaves, StandsFirst, MovesOn, IsFirstRow, ReadsRow}

@@ -1,5 +1,5 @@
 -- Where a rowid belongs in a standing table, and the walk from there on.
-use Rattle.std.proofs.Common.{◌≡◌, ℕ, ℤ, zero, suc, ◌+◌, ◌-◌, ◌<◌, ◌≤◌, ◌<ℤ◌, ◌≤ℤ◌, int_le, Bool, T, true, false, cond, List, [], ◌∷◌, ◌++◌, length, map, drop, slice_get, Option, None, refl, sym, ap, ap₂, ◌∙◌, subst, arith, append_assoc}
+use Rattle.std.proofs.Common.{◌≡◌, ℕ, ℤ, zero, suc, ◌-◌, ◌≤◌, ◌<ℤ◌, ◌≤ℤ◌, int_le, Bool, T, true, false, cond, List, [], ◌∷◌, ◌++◌, length, map, drop, slice_get, Option, None, refl, sym, ap, ap₂, ◌∙◌, subst, arith, append_assoc}
 use Rattle.std.proofs.Math.Path.{subst⁻¹}
 use Rattle.std.specs.Int.Signed.{le_z_yes}
 use Rattle.std.specs.List.{flat_map, AllZip}
@@ -81,7 +81,7 @@ leaf-not_less x low high (c ∷ cells) (suc at) rises index =
     skipped x (member c) (map member cells) index.0 ∙ leaf-not_less x c.view.rowid high cells at rises.1 index.1
 
 -- An index is the number of rowids that are less.
-index-within : (x : ℤ) (xs : List ℤ) (at : ℕ) → IsIndexOf x xs at → at ≤ length xs
+pub index-within : (x : ℤ) (xs : List ℤ) (at : ℕ) → IsIndexOf x xs at → at ≤ length xs
 index-within x [] at index = omega (arith, index)
 index-within x (y ∷ ys) zero index = omega arith
 index-within x (y ∷ ys) (suc at) index = omega (arith, index-within x ys at index.1)
@@ -112,11 +112,11 @@ beside-not_less levels x low high (child ∷ children) last (suc at) beside inde
     ∙ beside-not_less levels x child.1.view.rowid high children last at beside.1 index.1
 
 -- The index at which a rowid belongs.
-abbrev index_in : ℤ → List ℤ → ℕ
+abbrev pub index_in : ℤ → List ℤ → ℕ
 index_in x [] = 0
 index_in x (y ∷ ys) = cond (int_le x y) 0 (suc (index_in x ys))
 
-index-is : (x : ℤ) (xs : List ℤ) → IsIndexOf x xs (index_in x xs)
+pub index-is : (x : ℤ) (xs : List ℤ) → IsIndexOf x xs (index_in x xs)
 index-is x [] = refl
 index-is x (y ∷ ys) = by (int_le x y) refl (index-is x ys)
   where
@@ -124,7 +124,7 @@ index-is x (y ∷ ys) = by (int_le x y) refl (index-is x ys)
     by true is later = le_z_yes (subst⁻¹ T is tt)
     by false is later = (not_le x y (λ le. let e : false ≡ true = sym is ∙ le-true x y le in cc), later)
 
-index-one : (x : ℤ) (xs : List ℤ) (a b : ℕ) → IsIndexOf x xs a → IsIndexOf x xs b → a ≡ b
+pub index-one : (x : ℤ) (xs : List ℤ) (a b : ℕ) → IsIndexOf x xs a → IsIndexOf x xs b → a ≡ b
 index-one x [] a b one two = one ∙ sym two
 index-one x (y ∷ ys) zero zero one two = refl
 index-one x (y ∷ ys) zero (suc b) one two = absurd (omega (arith, ints, one, two.0))

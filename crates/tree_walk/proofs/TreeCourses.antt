@@ -1,11 +1,10 @@
 -- The walk over a standing tree comes to the cells of its members, and to its end.
-use Rattle.std.proofs.Common.{◌≡◌, ◌≢◌, ℕ, ℤ, zero, suc, ◌+◌, ◌-◌, ◌<◌, ◌≤◌, Bool, true, false, cond, List, [], ◌∷◌, ◌++◌, length, map, drop, slice_index_or, Option, None, refl, sym, ap, ap₂, ◌∙◌, subst, inr, arith, append_assoc}
+use Rattle.std.proofs.Common.{◌≡◌, ℕ, zero, suc, ◌+◌, ◌-◌, ◌<◌, ◌≤◌, Bool, true, false, cond, List, [], ◌∷◌, ◌++◌, length, map, drop, slice_index_or, None, refl, sym, ap, ap₂, ◌∙◌, subst, inr, arith, append_assoc}
 use Rattle.std.proofs.Math.Path.{subst⁻¹}
 use Rattle.std.specs.List.{AllZip}
 use Rattle.std.proofs.lemmas.List.{length-map, append-nil, drop_all}
 use Rattle.byte_fields.specs.Bytes.{part_of}
 use Rattle.byte_fields.specs.BytesLaws.{part_of-part_of}
-use Rattle.format_spec.specs.declared.PageKind.{PageKind}
 use Rattle.format_spec.specs.declared.CellView.{CellView}
 use Rattle.format_spec.specs.Page.{cell_place}
 use Rattle.page_spec.specs.Chains.{chain_bytes}
@@ -19,12 +18,12 @@ use Rattle.tree_spec.specs.Standing.{Sizes, Paged, IsHeld, Stands, IsRoot, IsTre
 use Rattle.tree_walk.specs.declared.place.Place.{Place}
 use Rattle.tree_walk.specs.Pages.{PageView, view_of, is_leaf, has_dividers}
 use Rattle.tree_walk.specs.Payloads.{IsPayload, part_at}
-use Rattle.tree_walk.specs.Places.{child_at, most_above, IsBadRoot, IsBadStep, IsEntered}
-use Rattle.tree_walk.specs.Courses.{Spot, Course, ends, stops, spots_from, cells_left, cells_then, cell_then, next_of, Enters, Behind, From, Below, FromRoot}
+use Rattle.tree_walk.specs.Places.{most_above, IsBadRoot, IsEntered}
+use Rattle.tree_walk.specs.Courses.{Spot, Course, ends, stops, spots_from, cells_left, cells_then, cell_then, next_of, Enters, Behind, From, FromRoot}
 use Rattle.tree_walk.specs.Walks.{IsMember, HasMembers}
 use Rattle.tree_walk.proofs.Lists.{zip-join}
 use Rattle.tree_walk.proofs.PageFacts.{local_part}
-use Rattle.tree_walk.proofs.TreeFacts.{CellAt, cell-at, all-at, views_of, child_tree, from_child, behind_child, from_child-all, from_child-cut, behind-past, behind-cell, tree_kind-at, leaf-at, interior-at, held-own, child-stands, child-full}
+use Rattle.tree_walk.proofs.TreeFacts.{CellAt, cell-at, all-at, views_of, child_tree, behind_child, from_child-all, from_child-cut, behind-past, behind-cell, tree_kind-at, leaf-at, interior-at, held-own, child-stands, child-full}
 use Rattle.tree_walk.proofs.TreePlaces.{IsPlace, place-views, interior-views, child-place, step-not_refused, moved-place, root-place, root-not_refused}
 use Rattle.tree_walk.proofs.Courses.{to_leaf, to_inner, to_place, FromChild}
 

@@ -1,7 +1,6 @@
 -- What a standing tree says of the pages that are read of it.
-use Rattle.std.proofs.Common.{◌≡◌, ℕ, ℤ, zero, suc, ◌<◌, ◌≤◌, ◌<ℤ◌, true, false, List, [], ◌∷◌, ◌++◌, length, map, drop, slice_get, slice_index_or, Option, Some, refl, sym, ap, ap₂, ◌∙◌, subst, arith, length-append, append_assoc}
+use Rattle.std.proofs.Common.{◌≡◌, ℕ, ℤ, zero, suc, ◌<◌, ◌≤◌, true, false, List, [], ◌∷◌, ◌++◌, length, map, drop, slice_get, slice_index_or, Option, Some, refl, sym, ap, ap₂, ◌∙◌, subst, arith, append_assoc}
 use Rattle.std.specs.List.{flat_map, AllByRecursion}
-use Rattle.std.proofs.lemmas.Int.{ints}
 use Rattle.std.proofs.lemmas.List.{length-map, append-nil}
 use Rattle.std.proofs.lemmas.Option.{slice_get_past}
 use Rattle.format_spec.specs.declared.PageKind.{PageKind}
@@ -16,7 +15,7 @@ use Rattle.refusal.specs.declared.Rule.{Rule}
 use Rattle.refusal.specs.declared.Rule.TheVariants as broken
 use Rattle.tree_spec.specs.declared.TreeKind.{TreeKind}
 use Rattle.tree_spec.specs.declared.TreeKind.TheVariants.{Table, Index}
-use Rattle.tree_spec.specs.Trees.{TreeCell, TreeOf, Member, member, between, interior_kind, kind_at, page_of, cells_behind, own_cells, own_right, list_of, list_beside, IsFull, IsFullBelow}
+use Rattle.tree_spec.specs.Trees.{TreeCell, TreeOf, Member, between, interior_kind, kind_at, page_of, cells_behind, own_cells, own_right, list_of, list_beside, IsFull, IsFullBelow}
 use Rattle.tree_spec.specs.Bounds.{RisesIn, BesideIn, InOrder}
 use Rattle.tree_spec.specs.BoundsLaws.{own_cells-rise}
 use Rattle.tree_spec.specs.Standing.{Sizes, Paged, IsHeld, HasBelow, Stands, StandsBefore, StandsLast}
@@ -97,7 +96,7 @@ each_view sizes base kind [] held k d low = absurd (omega arith)
 each_view sizes base kind (c ∷ cells) held zero d low = held.0.is_cell
 each_view sizes base kind (c ∷ cells) held (suc k) d low = each_view sizes base kind cells held.1 k d (omega arith)
 
-right-one : (kind : PageKind) (page : List ℕ) (header right other : ℕ) → RightChild kind page header right → RightChild kind page header other → right ≡ other
+pub right-one : (kind : PageKind) (page : List ℕ) (header right other : ℕ) → RightChild kind page header right → RightChild kind page header other → right ≡ other
 right-one TableLeaf page header right other one two = one ∙ sym two
 right-one TableInterior page header right other one two = one ∙ sym two
 right-one IndexLeaf page header right other one two = one ∙ sym two

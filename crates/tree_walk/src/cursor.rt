@@ -4,7 +4,8 @@ ghost use Rattle.arrayvec.specs.ArrayVec.{array_vec_len};
 ghost use Rattle.page_store.specs.Store.{HasSizes, OwesBy, Sees};
 ghost use Rattle.tree_spec.specs.Standing.{Paged, Sizes};
 ghost use Rattle.tree_spec.specs.Faults.{fault_in};
-ghost use Rattle.tree_walk.specs.Pages.{is_leaf as is_leaf_of};
+ghost use Rattle.tree_walk.specs.Lengths.{OneFewer, StartsShort};
+ghost use Rattle.tree_walk.specs.Pages.{is_leaf as is_leaf_of, tree_kind};
 ghost use Rattle.page_spec.specs.Pages.{IsInRange};
 ghost use Rattle.tree_walk.specs.Courses.{IsPast, Course, FromCell, GoesOn, IsOn, LandsOn, MovesOver, ReadsFirst, SettlesOn, StartsAt, StartsWalk};
 ghost use Rattle.tree_walk.specs.Paths.{IsKept};
@@ -151,6 +152,7 @@ impl Cursor {
         requires sizes { HasSizes S.PageRead store.old }
         requires kept { IsKept here }
         ensures walk { Sees S.PageRead store.old store.new (λ m. StartsAt (record { size = S.size store.old; usable = S.usable store.old }) (record { count = S.count store.old; pages = m }) here result) }
+        ensures kind { IfOk result (λ cursor. kind_of cursor ≡ tree_kind here.page.kind) }
         ensures owes { OwesBy S.PageRead fault_in store.old store.new result }
     {
         let mut cursor = Cursor {
@@ -174,6 +176,7 @@ impl Cursor {
         requires within { root ≤ S.count store.old }
         ensures pages { Sees S.PageRead store.old store.new (λ m. StandsFirst (record { size = S.size store.old; usable = S.usable store.old }) (record { count = S.count store.old; pages = m }) root result) }
         ensures walk { Sees S.PageRead store.old store.new (λ m. StartsWalk (record { size = S.size store.old; usable = S.usable store.old }) (record { count = S.count store.old; pages = m }) root result) }
+        ensures few { Sees S.PageRead store.old store.new (λ m. StartsShort (record { size = S.size store.old; usable = S.usable store.old }) (record { count = S.count store.old; pages = m }) result) }
         ensures owes { OwesBy S.PageRead fault_in store.old store.new result }
     {
         match enter_root(alloc, store, root) {
@@ -191,6 +194,7 @@ impl Cursor {
         requires { HasSizes S.PageRead store.old }
         ensures pages { Sees S.PageRead store.old store.new (λ m. MovesOn (record { size = S.size store.old; usable = S.usable store.old }) (record { count = S.count store.old; pages = m }) self.old self.new result) }
         ensures walk { Sees S.PageRead store.old store.new (λ m. MovesOver (record { size = S.size store.old; usable = S.usable store.old }) (record { count = S.count store.old; pages = m }) self.old self.new result) }
+        ensures few { Sees S.PageRead store.old store.new (λ m. OnOk result (OneFewer (record { size = S.size store.old; usable = S.usable store.old }) (record { count = S.count store.old; pages = m }) self.old self.new)) }
         ensures kind { OnOk result (kind_of self.new ≡ kind_of self.old) }
         ensures rises { IfOk result (MovesUp self.old self.new) }
         ensures moved { IfOk result (λ moved. IsTrue moved ↔ ¬ IsPast self.new) }

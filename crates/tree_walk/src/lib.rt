@@ -21,6 +21,6 @@ mod reading;
 mod seeking;
 
 pub use cursor::Row;
-pub use laws::standing_trees_have_courses;
+pub use laws::{no_cell_is_left_past_the_last, standing_trees_have_courses, stores_have_courses};
 pub use path::Cursor;
 pub use tree_spec::TreeFault;

@@ -50,3 +50,6 @@ returns-in-Err-settle-clause-walk g c =
           at-sizes g.S.PageRead down.owes.stays down.walk.count (λ s u n. SettlesOn {T = Bool} {F = g.row.S-Fault.Denot} (record { size = s; usable = u }) (record { count = n; pages = m }) c.seek_down.new.self c.settle.new.self
           (Err c.in-Err-settle.fault)) settles course (down_to course on)));
     }
+
+pub returns-in-Ok-settle-clause-kind : goal.returns-in-Ok-settle-clause-kind
+returns-in-Ok-settle-clause-kind g c = c.in-Ok-settle.ensures.kind ∙ c.in-Ok.ensures.kind

@@ -1,4 +1,4 @@
-use Rattle.std.proofs.Common.{◌≡◌, Err, ◌∙◌}
+use Rattle.std.proofs.Common.{◌≡◌, Err, refl, ◌∙◌}
 use Rattle.std.proofs.lemmas.Option.{IfSome_then}
 use Rattle.common_spec.specs.ToldLaws.{told-both}
 use Rattle.tree_spec.specs.FaultsLaws.{damage-then}
@@ -6,6 +6,7 @@ use Rattle.tree_walk.specs.Courses.{StartsAt, stops}
 use Rattle.tree_walk.specs.Places.{IsBadRoot}
 use Rattle.page_store.specs.StoreLaws.{at-sizes}
 use Rattle.tree_walk.proofs.Calls.{sizes_in, base_in, sees-then}
+use Rattle.tree_walk.proofs.Lengths.{first-few}
 use Rattle.tree_walk.proofs.Members.{first-member}
 use Rattle.tree_walk.proofs.path.Cursor.first.Goals as goal
 
@@ -39,3 +40,13 @@ returns-in-Ok-clause-pages g c = sees-then g.S.PageRead (λ m. first-member (siz
 
 pub returns-in-Err-clause-pages : goal.returns-in-Err-clause-pages
 returns-in-Err-clause-pages g c = sees-then g.S.PageRead (λ m. first-member (sizes_in g.S.PageRead c.args.store.now) (base_in g.S.PageRead c.args.store.now m) {F = g.row.S-Fault.Denot} c.args.root (Err c.in-Err.fault)) (returns-in-Err-clause-walk g c)
+
+pub returns-in-Ok-clause-few : goal.returns-in-Ok-clause-few
+returns-in-Ok-clause-few g c =
+    let walk = returns-in-Ok-clause-walk g c in
+    record {
+      same = walk.same;
+      count = walk.count;
+      answer = told-both (g.S.PageRead.pages c.args.store.now) refl c.in-Ok.ensures.pages.answer walk.answer (λ m entered starts.
+          first-few (sizes_in g.S.PageRead c.args.store.now) (base_in g.S.PageRead c.args.store.now m) {F = g.row.S-Fault.Denot} c.requires.sizes.usable c.args.root c.requires.first c.requires.within c.in-Ok.here entered c.from_root.result starts c.from_root.ensures.kind);
+    }

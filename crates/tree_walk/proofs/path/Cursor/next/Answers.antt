@@ -6,6 +6,7 @@ use Rattle.tree_walk.specs.Courses.{IsPast, behind_first}
 use Rattle.tree_walk.proofs.Courses.{past-stays, leaf-next, entry-goes}
 use Rattle.tree_walk.proofs.Paths.{path-moved, next-up, behind-up}
 use Rattle.tree_walk.proofs.Calls.{sizes_in, base_in, sees-then}
+use Rattle.tree_walk.proofs.Lengths.{next-fewer}
 use Rattle.tree_walk.proofs.Members.{next-member}
 use Rattle.tree_walk.proofs.path.Cursor.next.Goals as goal
 
@@ -59,3 +60,12 @@ returns-then-is_leaf-clause-pages g c = sees-then g.S.PageRead (λ m. next-membe
 
 pub returns-clause-pages : goal.returns-clause-pages
 returns-clause-pages g c = sees-then g.S.PageRead (λ m. next-member (sizes_in g.S.PageRead c.args.store.now) (base_in g.S.PageRead c.args.store.now m) {T = Bool} {F = g.row.S-Fault.Denot} c.args.self.now c.land.new.self c.land.result) (returns-clause-walk g c)
+
+pub returns-then-is_past-clause-few : goal.returns-then-is_past-clause-few
+returns-then-is_past-clause-few g c = sees-then g.S.PageRead (λ m. next-fewer (sizes_in g.S.PageRead c.args.store.now) (base_in g.S.PageRead c.args.store.now m) {T = Bool} {F = g.row.S-Fault.Denot} c.args.self.now c.args.self.now (Ok false)) (returns-then-is_past-clause-walk g c)
+
+pub returns-then-is_leaf-clause-few : goal.returns-then-is_leaf-clause-few
+returns-then-is_leaf-clause-few g c = sees-then g.S.PageRead (λ m. next-fewer (sizes_in g.S.PageRead c.args.store.now) (base_in g.S.PageRead c.args.store.now m) {T = Bool} {F = g.row.S-Fault.Denot} c.args.self.now c.settle.new.self c.settle.result) (returns-then-is_leaf-clause-walk g c)
+
+pub returns-clause-few : goal.returns-clause-few
+returns-clause-few g c = sees-then g.S.PageRead (λ m. next-fewer (sizes_in g.S.PageRead c.args.store.now) (base_in g.S.PageRead c.args.store.now m) {T = Bool} {F = g.row.S-Fault.Denot} c.args.self.now c.land.new.self c.land.result) (returns-clause-walk g c)

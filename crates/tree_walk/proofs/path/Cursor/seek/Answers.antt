@@ -1,4 +1,4 @@
-use Rattle.std.proofs.Common.{rules, ◌≡◌, ℤ, FitsSigned, to_z, of_z, Err, subst, ◌∙◌}
+use Rattle.std.proofs.Common.{rules, ◌≡◌, ℤ, FitsSigned, to_z, of_z, Err, refl, subst, ◌∙◌}
 use Rattle.std.specs.Int.{w64}
 use Rattle.std.proofs.lemmas.Int.{to_z-of_z}
 use Rattle.std.proofs.lemmas.Option.{IfSome_then}
@@ -9,6 +9,7 @@ use Rattle.tree_walk.specs.Places.{IsBadRoot}
 use Rattle.tree_walk.specs.SoughtCourses.{SeeksWalk, SoughtAt}
 use Rattle.page_store.specs.StoreLaws.{at-sizes}
 use Rattle.tree_walk.proofs.Calls.{sizes_in, base_in, sees-then}
+use Rattle.tree_walk.proofs.Lengths.{sought-few}
 use Rattle.tree_walk.proofs.Members.{sought-member}
 use Rattle.tree_walk.proofs.path.Cursor.seek.Goals as goal
 
@@ -46,3 +47,13 @@ returns-in-Ok-clause-pages g c = sees-then g.S.PageRead (λ m. sought-member (si
 
 pub returns-in-Err-clause-pages : goal.returns-in-Err-clause-pages
 returns-in-Err-clause-pages g c = sees-then g.S.PageRead (λ m. sought-member (sizes_in g.S.PageRead c.args.store.now) (base_in g.S.PageRead c.args.store.now m) {F = g.row.S-Fault.Denot} c.args.root c.args.rowid (Err c.in-Err.fault)) (returns-in-Err-clause-walk g c)
+
+pub returns-in-Ok-clause-few : goal.returns-in-Ok-clause-few
+returns-in-Ok-clause-few g c =
+    let walk = returns-in-Ok-clause-walk g c in
+    record {
+      same = walk.same;
+      count = walk.count;
+      answer = told-both (g.S.PageRead.pages c.args.store.now) refl c.in-Ok.ensures.pages.answer walk.answer (λ m entered seeks.
+          sought-few (sizes_in g.S.PageRead c.args.store.now) (base_in g.S.PageRead c.args.store.now m) {F = g.row.S-Fault.Denot} c.requires.sizes.usable c.args.root c.requires.first c.requires.within c.args.rowid c.in-Ok.here entered c.seek_from.result seeks c.seek_from.ensures.kind);
+    }

@@ -4,12 +4,13 @@ use Rattle.std.proofs.lemmas.Int.{to_z-of_z}
 use Rattle.std.proofs.lemmas.Option.{IfSome_then}
 use Rattle.common_spec.specs.ToldLaws.{told-both}
 use Rattle.tree_walk.specs.declared.place.Place.{Place}
-use Rattle.tree_walk.specs.Pages.{is_leaf}
+use Rattle.tree_walk.specs.declared.page.TreePage.{TreePage}
+use Rattle.tree_walk.specs.Pages.{is_leaf, tree_kind}
 use Rattle.tree_walk.specs.Walks.{StepsDown}
 use Rattle.page_store.specs.StoreLaws.{at-sizes, some-all}
 use Rattle.page_spec.specs.Pages.{IsInRange}
 use Rattle.tree_walk.specs.Places.{child_at}
-use Rattle.tree_walk.specs.SoughtCourses.{ComesOn, SeeksOn}
+use Rattle.tree_walk.specs.SoughtCourses.{SeeksOn}
 use Rattle.tree_walk.proofs.SoughtCourses.{aimed-set, set-entered, set-refused, set-found}
 use Rattle.tree_walk.proofs.Calls.{sizes_in, base_in}
 use Rattle.tree_walk.proofs.path.Cursor.seek_down.Goals as goal
@@ -22,6 +23,7 @@ loop-alloc-init g c =
       faults = refl;
       count = refl;
       same = refl;
+      kind = ap (λ (page : TreePage). tree_kind page.kind) c.aim.ensures.page_is;
       walk = some-all (g.S.PageRead.pages store) (λ m. λ course on. aimed-set (sizes_in g.S.PageRead store) (base_in g.S.PageRead store m) (to_z w64 (of_z w64 c.args.rowid)) course c.args.self.now c.aim.new.self c.aim.ensures on);
     }
 
@@ -43,6 +45,7 @@ loop-alloc-preserved g c =
       faults = step.owes.faults.still ∙ inv.faults;
       count = step.pages.count ∙ inv.count;
       same = step.pages.same ∙ inv.same;
+      kind = ap (λ (page : TreePage). tree_kind page.kind) c.aim-in-Ok.ensures.page_is ∙ step.bound.kind_is ∙ inv.kind;
       walk = told-both (g.S.PageRead.pages first) inv.same inv.walk step.pages.answer (λ m walk down. λ course on.
           let steps = at-sizes g.S.PageRead inv.stays inv.count (λ s u n. StepsDown {F = g.row.S-Fault.Denot} (record { size = s; usable = u }) (record { count = n; pages = m }) old c.step_down.new.self (Ok tt)) down in
           aimed-set (sizes_in g.S.PageRead first) (base_in g.S.PageRead first m) x course c.step_down.new.self c.aim-in-Ok.new.self c.aim-in-Ok.ensures

@@ -9,7 +9,7 @@ use Rattle.refusal.specs.declared.Rule.TheVariants as rule
 use Rattle.refusal.specs.declared.Measure.{Measure}
 use Rattle.refusal.specs.declared.Measure.TheVariants as measure
 use Rattle.refusal.specs.declared.Refusal.{Refusal}
-use Rattle.refusal.specs.declared.Refusal.TheVariants.{NotYet, NotADatabase, PageSize, WalMode, Encoding, AutoVacuum, SizeMismatch, ReservedSpace, SchemaFormat, BadPage, ChainBroken, TrunkDamaged, TargetFull, TreeDamaged, SqlSyntax, OutsideProfile, SchemaRow, DuplicateName, PageTwice, PageLost, KeyOrder, IndexDisagrees, Damaged, ControlValue, ControlLength, ControlLetter, DeltaColumn, NoTarget, ColumnMissing, ColumnUnknown, RowidMissing, KeyNull, KeyMismatch, KeyChanged, DuplicateKey, ClassChange, TooMuch, TwoBatches, DataRecord, TargetRecord, LogHeader, LogFrame, OalShort, OalFrame, NotState, StateKey, WalPresent, JournalPresent, WalMissing}
+use Rattle.refusal.specs.declared.Refusal.TheVariants.{NotYet, NotADatabase, PageSize, WalMode, Encoding, AutoVacuum, SizeMismatch, ReservedSpace, SchemaFormat, BadPage, ChainBroken, TrunkDamaged, TargetFull, TreeDamaged, SqlSyntax, OutsideProfile, SchemaRow, DuplicateName, PageTwice, PageLost, KeyOrder, IndexDisagrees, Damaged, ControlValue, ControlLength, ControlLetter, DeltaColumn, NoTarget, ColumnMissing, ColumnUnknown, RowidMissing, KeyNull, KeyMismatch, KeyChanged, DuplicateKey, ClassChange, TooMuch, DataRecord, TargetRecord, LogHeader, LogFrame, OalShort, OalFrame, NotState, StateKey, WalPresent, JournalPresent, WalMissing}
 
 -- the word of a part that is not built
 abbrev pub part_word : Part → List ℕ
@@ -82,7 +82,6 @@ refusal_title (KeyChanged table rowid column) = codes "90 KeyChanged"
 refusal_title (DuplicateKey table first second) = codes "91 DuplicateKey"
 refusal_title (ClassChange table rowid column) = codes "92 ClassChange"
 refusal_title (TooMuch what has limit) = codes "93 TooMuch"
-refusal_title (TwoBatches first second) = codes "94 TwoBatches"
 refusal_title (DataRecord table rowid cause) = codes "95 DataRecord"
 refusal_title (TargetRecord table rowid cause) = codes "96 TargetRecord"
 refusal_title LogHeader = codes "100 LogHeader"
@@ -134,7 +133,6 @@ refusal_fields (KeyChanged table rowid column) = table ∷ signed_decimal rowid 
 refusal_fields (DuplicateKey table first second) = table ∷ signed_decimal first ∷ signed_decimal second ∷ []
 refusal_fields (ClassChange table rowid column) = table ∷ signed_decimal rowid ∷ column ∷ []
 refusal_fields (TooMuch what has limit) = measure_word what ∷ decimal has ∷ decimal limit ∷ []
-refusal_fields (TwoBatches first second) = first ∷ second ∷ []
 refusal_fields (DataRecord table rowid cause) = table ∷ signed_decimal rowid ∷ decimal cause ∷ []
 refusal_fields (TargetRecord table rowid cause) = table ∷ signed_decimal rowid ∷ decimal cause ∷ []
 refusal_fields LogHeader = []

@@ -305,11 +305,6 @@ pub enum Refusal {
         has: u64,
         limit: u64,
     },
-    /// 94: two `data_` tables are for one target.
-    TwoBatches {
-        first: Bytes,
-        second: Bytes,
-    },
     /// 95: a record of the `data_` table is not read as a row, for the cause with this number.
     DataRecord {
         table: Bytes,

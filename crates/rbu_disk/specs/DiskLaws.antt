@@ -43,19 +43,13 @@ led-then Done Failed (Err e) led w = tt
 pub Adds-now : (file : FileName) (which : DiskCall) (R : Record → Record → Type 0) (a b : Trail) → Adds file which R a b → R a.now.at b.now.at
 Adds-now file which R a b adds = subst (R a.now.at) (sym (ap (λ (t : Trail). t.now.at) adds.is)) adds.step
 
--- A fact that a call keeps, as it ends well and as it fails, is one of each moment that it adds.
-pub led-keeps : {T E : Type 0} {x y : Option Trail} (file : FileName) (which : DiskCall) (Done Failed : Record → Record → Type 0) (Q : Record → Type 0) (result : Result T E)
-    → LeadsBy result (Adds file which Done) (Fails file which Failed) x y → ((r q : Record) → Q r → Done r q → Q q) → ((r q : Record) → Q r → Failed r q → Q q)
-    → Leads (λ a b. Q a.now.at → Passes Q a b) x y
-led-keeps {x = x} {y = y} file which Done Failed Q result led done failed =
-    led-by x y result (Adds file which Done) (Fails file which Failed) (λ a b. Q a.now.at → Passes Q a b) led
-    (λ a b adds here. Adds-passes file which Done Q a b (λ r step. done a.now.at r here step) adds)
-    (λ a b fails here. Fails-passes file which Failed Q a b here (λ r step. failed a.now.at r here step) fails)
+-- A fact that a call keeps is one of each moment that it adds: where it ended well, where it failed and may have changed a part, and where it then changes nothing.
+module _ (file : FileName) (call : DiskCall) (R : Record → Record → Type 0) (Q : Record → Type 0) where
+  pub adds-keep : ((r q : Record) → Q r → R r q → Q q) → (a b : Trail) → Adds file call R a b → Q a.now.at → Passes Q a b
+  adds-keep keeps a b adds here = Adds-passes file call R Q a b (λ r step. keeps a.now.at r here step) adds
 
--- and so of a call that changes nothing where it fails
-pub led-keeps_still : {T E : Type 0} {x y : Option Trail} (file : FileName) (which : DiskCall) (Done : Record → Record → Type 0) (Q : Record → Type 0) (result : Result T E)
-    → LeadsBy result (Adds file which Done) (FailsStill file which) x y → ((r q : Record) → Q r → Done r q → Q q) → Leads (λ a b. Q a.now.at → Passes Q a b) x y
-led-keeps_still {x = x} {y = y} file which Done Q result led done =
-    led-by x y result (Adds file which Done) (FailsStill file which) (λ a b. Q a.now.at → Passes Q a b) led
-    (λ a b adds here. Adds-passes file which Done Q a b (λ r step. done a.now.at r here step) adds)
-    (λ a b fails here. FailsStill-passes file which Q a b here fails)
+  pub fails-keep : ((r q : Record) → Q r → R r q → Q q) → (a b : Trail) → Fails file call R a b → Q a.now.at → Passes Q a b
+  fails-keep keeps a b fails here = Fails-passes file call R Q a b here (λ r step. keeps a.now.at r here step) fails
+
+pub still-keep : (file : FileName) (call : DiskCall) (Q : Record → Type 0) (a b : Trail) → FailsStill file call a b → Q a.now.at → Passes Q a b
+still-keep file call Q a b fails here = FailsStill-passes file call Q a b here fails

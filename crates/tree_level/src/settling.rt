@@ -32,6 +32,7 @@ pub fn settle<S: PageWrite>(
     requires cells { All (IsOneCell node.kind (S.usable store.old)) cells.now }
     requires place { place < length cells.now }
     ensures settled { IfOk result (λ dividers. Becomes S.PageRead store.old store.new (Settles (sizes_of S.PageRead store.old) node cells.now dividers.items)) }
+    ensures dividers { IfOk result (λ dividers. All (IsOneCell (above_kind node.kind) (S.usable store.old)) dividers.items) }
     ensures few { IfOk result (λ dividers. bytes_needed cells.now ≤ 2 * page_room node.kind (S.usable store.old) → length dividers.items ≤ 2) }
     ensures count { OnOk result (S.count store.old ≤ S.count store.new) }
     ensures owes { OwesBy S.PageRead fault_in store.old store.new result }

@@ -25,8 +25,8 @@ fn is_not_less(view: &CellView, rowid: i64) -> bool
     rowid <= view.rowid
 }
 
-// The index of the first cell whose rowid is not less than another, or the number of cells.
-fn index_of(views: &[CellView], rowid: i64) -> usize
+/// The index of the first cell whose rowid is not less than another, or the number of cells.
+pub fn index_of(views: &[CellView], rowid: i64) -> usize
     ensures { IsIndexOf rowid (rowids views.now) result }
 {
     for at in 0..views.len() {

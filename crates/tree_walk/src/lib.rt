@@ -16,6 +16,7 @@ mod seeking;
 pub use cursor::Row;
 pub use page::TreePage;
 pub use path::Cursor;
+pub use payload::read_payload;
 pub use reading::read_page;
 pub use seeking::index_of;
 pub use tree_spec::TreeFault;

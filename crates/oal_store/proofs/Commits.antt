@@ -19,7 +19,10 @@ use Rattle.file_spec.specs.Files.{Files, content, OnlyChanges}
 use Rattle.file_spec.specs.Trails.{Trail}
 use Rattle.format_spec.specs.Sizes.{IsPageSize}
 use Rattle.format_spec.specs.Log.{AreWords, pair_of, log_header, log_sums, Frame, frames_bytes, sums_behind, AreFrames, committed, last_commit, last_frame_of, count_after, overlay}
+use Rattle.format_spec.specs.Log.{IsOverlay}
+use Rattle.format_spec.specs.PageMap.{SamePages}
 use Rattle.format_spec.specs.PageMapLaws.{SamePages-trans}
+use Rattle.oal_store.proofs.StoreSteps.{none-found}
 use Rattle.page_spec.specs.Pages.{lock_byte_page}
 use Rattle.format_spec.specs.LogLaws.{length-log_header}
 use Rattle.wal_codec.specs.LogReadingLaws.{committed-ended}
@@ -130,34 +133,48 @@ within_of : (size count : ℕ) (es : List Entry) (k : ℕ) → AllByRecursion (I
 within_of size count [] k all = tt
 within_of size count (e ∷ es) k all = (all.0.within, within_of size count es k all.1)
 
+-- where no page was written since the last commit, the pages are those of the overlay
+pub unchanged-overlay : (store : OalStore) (frames : List Frame) (files : Files) → store.changed.entries ≡ [] → store.count ≡ count_after store.log.target_pages frames → committed frames ≡ frames
+    → BeginsWithLog store.log frames (content files Oal) → SamePages (stored_map store files) (overlay (target_map store.log files) frames)
+unchanged-overlay store frames files empty count closed kept = record {
+  size = refl;
+  count = count ∙ ap (count_after store.log.target_pages) (sym closed);
+  each = λ n low high.
+      ap (λ (o : Option (List ℕ)). unwrap_or o (logged_page store.log files n)) (none-found n store.changed.entries empty) ∙ logged-overlay store.log frames files n kept
+      ∙ ap (λ (fs : List Frame). unwrap_or (last_frame_of n fs) (page_at store.log.page_size n (content files Target))) (sym closed);
+}
+
 -- what a commit leaves of the shown files
 pub committed-files : (store new : OalStore) (frames : List Frame) (f g : Files) → Grows store.log new.log store.count store.changed.entries → content g Target ≡ content f Target
     → Appends store.log.size (frames_bytes store.log.big (pair_of store.log.salt) (pair_of store.log.sums) (frames_of store.count store.changed.entries)) f g
     → AllByRecursion (IsChanged store.log.page_size store.count) store.changed.entries → IsDistinct (eq_by_cmp nat_cmp) (keys_of store.changed.entries)
-    → store.count < 2 ^ 32 → 0 < store.count → (store.changed.entries ≡ [] → store.count ≡ store.log.pages) → KeepsLog store frames f → IsCommitted store new frames f g
-committed-files store new frames f g grows target appends changed distinct fits positive spare kept =
+    → store.count < 2 ^ 32 → 0 < store.count → (store.changed.entries ≡ [] → store.count ≡ store.log.pages) → new.changed.entries ≡ [] → new.count ≡ store.count → KeepsLog store frames f → IsCommitted store new frames f g
+committed-files store new frames f g grows target appends changed distinct fits positive spare empty count kept =
     let log = store.log in
     let es = store.changed.entries in
     let more : List Frame = frames_of store.count es in
     let bytes : List ℕ = frames_bytes log.big (pair_of log.salt) (pair_of log.sums) more in
     let behind = appends kept.front kept.rest kept.whole (sym kept.has.size) in
     let now : HasFrames new.log (frames ++ more) (kept.front ++ bytes) = grown log new.log store.count es frames kept.front kept.has grows changed fits positive spare in
+    let keeps : BeginsWithLog new.log (frames ++ more) (content g Oal) = record { front = kept.front ++ bytes; rest = behind.0; has = now; whole = behind.1 } in
+    let pages : IsOverlay (target_map new.log g) (frames ++ more) (stored_map store f) = record {
+      size = grows.page_size;
+      count = ap (count_after new.log.target_pages) now.closed ∙ sym now.pages ∙ grows.pages;
+      each = λ n low high.
+          let under : List ℕ = page_at new.log.page_size n (content g Target) in
+          let was : under ≡ page_at log.page_size n (content f Target) = λ i. page_at (grows.page_size i) n (target i) in
+          ap (λ (fs : List Frame). unwrap_or (last_frame_of n fs) under) now.closed
+          ∙ ap (λ (o : Option (List ℕ)). unwrap_or o under) (last_frame-append n frames more)
+          ∙ or_unwrap (last_frame_of n more) (last_frame_of n frames) under
+          ∙ ap (λ (o : Option (List ℕ)). unwrap_or o (unwrap_or (last_frame_of n frames) under)) (last_frame-frames_of n store.count es distinct)
+          ∙ ap (λ (b : List ℕ). unwrap_or (changed_page store n) (unwrap_or (last_frame_of n frames) b)) was
+          ∙ ap (unwrap_or (changed_page store n)) (sym (logged-overlay log frames f n kept));
+    } in
     record {
       more = more;
-      keeps = record { front = kept.front ++ bytes; rest = behind.0; has = now; whole = behind.1 };
-      pages = record {
-        size = grows.page_size;
-        count = ap (count_after new.log.target_pages) now.closed ∙ sym now.pages ∙ grows.pages;
-        each = λ n low high.
-            let under : List ℕ = page_at new.log.page_size n (content g Target) in
-            let was : under ≡ page_at log.page_size n (content f Target) = λ i. page_at (grows.page_size i) n (target i) in
-            ap (λ (fs : List Frame). unwrap_or (last_frame_of n fs) under) now.closed
-            ∙ ap (λ (o : Option (List ℕ)). unwrap_or o under) (last_frame-append n frames more)
-            ∙ or_unwrap (last_frame_of n more) (last_frame_of n frames) under
-            ∙ ap (λ (o : Option (List ℕ)). unwrap_or o (unwrap_or (last_frame_of n frames) under)) (last_frame-frames_of n store.count es distinct)
-            ∙ ap (λ (b : List ℕ). unwrap_or (changed_page store n) (unwrap_or (last_frame_of n frames) b)) was
-            ∙ ap (unwrap_or (changed_page store n)) (sym (logged-overlay log frames f n kept));
-      };
+      keeps = keeps;
+      pages = pages;
+      stay = SamePages-trans (stored_map new g) (overlay (target_map new.log g) (frames ++ more)) (stored_map store f) (unchanged-overlay new (frames ++ more) g empty (count ∙ sym grows.pages ∙ now.pages) now.closed keeps) pages;
       within = within_of log.page_size store.count es store.count changed;
     }
 
@@ -171,27 +188,31 @@ length-written big salt sums size count es fits all =
 pub kept-log : (old filled : OalStore) (frames : List Frame) (f : Files) → SameStore old filled → KeepsLog old frames f → KeepsLog filled frames f
 kept-log old filled frames f same kept = subst (λ (l : OalLog). BeginsWithLog l frames (content f Oal)) (sym same.log) kept
 
+same_map : (old filled : OalStore) (f : Files) → SameStore old filled → HasPagesOf old filled f → SamePages (stored_map filled f) (stored_map old f)
+same_map old filled f same pages = record { size = ap (λ (l : OalLog). l.page_size) same.log; count = same.count; each = λ n low high. pages n }
+
 committed_old : (old filled new : OalStore) (frames : List Frame) (f g : Files) → SameStore old filled → HasPagesOf old filled f → IsCommitted filled new frames f g → IsCommitted old new frames f g
 committed_old old filled new frames f g same pages is = record {
   more = is.more;
   keeps = is.keeps;
   pages = SamePages-trans (overlay (target_map new.log g) (frames ++ is.more)) (stored_map filled f) (stored_map old f) is.pages
-      (record { size = ap (λ (l : OalLog). l.page_size) same.log; count = same.count; each = λ n low high. pages n });
+      (same_map old filled f same pages);
+  stay = SamePages-trans (stored_map new g) (stored_map filled f) (stored_map old f) is.stay (same_map old filled f same pages);
   within = subst (λ (k : ℕ). AllByRecursion (λ (frame : Frame). frame.number ≤ k) is.more) same.count is.within;
 }
 
 -- what a commit leaves of the files
 pub committed-goes : (old filled new : OalStore) {x y z : Option Files} → SameStore old filled → y ≡ x → IfSome x (HasPagesOf old filled) → Grows filled.log new.log filled.count filled.changed.entries
-    → IsStrictlySortedBy nat_cmp (keys_of filled.changed.entries) → (filled.changed.entries ≡ [] → filled.count ≡ filled.log.pages) → 0 < filled.count
+    → IsStrictlySortedBy nat_cmp (keys_of filled.changed.entries) → (filled.changed.entries ≡ [] → filled.count ≡ filled.log.pages) → 0 < filled.count → new.changed.entries ≡ [] → new.count ≡ filled.count
     → Leads (OnlyChanges Oal) y z → Leads (Appends filled.log.size (frames_bytes filled.log.big (pair_of filled.log.salt) (pair_of filled.log.sums) (frames_of filled.count filled.changed.entries))) y z
     → Leads (λ f g. (frames : List Frame) → KeepsLog old frames f → IsCommitted old new frames f g) x z
-committed-goes old filled new {x = x} {z = z} same stays pages grows ordered spare positive only appends =
+committed-goes old filled new {x = x} {z = z} same stays pages grows ordered spare positive empty count only appends =
     Leads-known pages (subst (λ s. Leads (λ f g. HasPagesOf old filled f → (frames : List Frame) → KeepsLog old frames f → IsCommitted old new frames f g) s z) stays
     (Leads-weaken (Leads-both only appends) (λ f g both same_pages frames kept.
     committed_old old filled new frames f g same same_pages
     (committed-files filled new frames f g grows (ap (λ (h : Files). content h Target) both.0.1) both.1
     (recursion_from_All (IsChanged filled.log.page_size filled.count) filled.changed.entries filled.whole) (IsDistinct-from_sorted nat_cmp (keys_of filled.changed.entries) ordered)
-    filled.few positive spare (kept-log old filled frames f same kept)))))
+    filled.few positive spare empty count (kept-log old filled frames f same kept)))))
 
 -- the moments of a log that is the same
 pub growing-from : (old filled : OalStore) {x y z : Option Trail} → SameStore old filled → y ≡ x → Leads (KeepsGrowing filled.log.size) y z → Leads (KeepsGrowing old.log.size) x z

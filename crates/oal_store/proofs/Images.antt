@@ -1,5 +1,5 @@
 -- What a crash leaves while the hidden log grows, and after a commit.
-use Rattle.std.proofs.Common.{◌≡◌, ℕ, ◌≤◌, true, false, List, [], ◌∷◌, ◌++◌, length, Option, Some, None, unwrap_or, option_map, IfSome, refl, sym, ap, ap₂, ◌∙◌, subst, inl, inr, arith}
+use Rattle.std.proofs.Common.{◌≡◌, ℕ, ◌≤◌, true, false, List, [], ◌∷◌, ◌++◌, length, drop, Option, Some, None, unwrap_or, option_map, IfSome, refl, sym, ap, ap₂, ◌∙◌, subst, inl, inr, arith}
 use Rattle.common_spec.specs.Told.{Leads}
 use Rattle.common_spec.specs.ToldLaws.{Leads-weaken, Leads-known, Leads-both}
 use Rattle.file_spec.specs.declared.FileName.{FileName}
@@ -15,9 +15,15 @@ use Rattle.file_spec.specs.Steps.{AfterSync, synced_at}
 use Rattle.format_spec.specs.Log.{Frame, IsOverlay}
 use Rattle.format_spec.specs.PageMap.{pages_of}
 use Rattle.rbu_disk.specs.DiskLaws.{Adds-now}
+use Rattle.std.specs.BTreeMap.{get}
+use Rattle.std.specs.Ordering.{nat_cmp}
+use Rattle.byte_fields.specs.Bytes.{resized}
+use Rattle.byte_fields.specs.Numbers.{page_at}
+use Rattle.oal_store.specs.declared.log.OalLog.{OalLog}
 use Rattle.oal_store.specs.declared.store.OalStore.{OalStore}
 use Rattle.oal_store.specs.Growing.{BeginsWith, IsGrowing, KeepsGrowing, HasStableLog}
-use Rattle.oal_store.specs.Stored.{KeepsLog, stored_map, IsCommitted, LeavesLog, CrashesCommitting, CommitsInImages}
+use Rattle.oal_store.specs.OalLog.{page_by_place}
+use Rattle.oal_store.specs.Stored.{KeepsLog, changed_page, stored_map, IsCommitted, LeavesLog, CrashesCommitting, CommitsInImages}
 use Rattle.oal_store.proofs.GrowingSteps.{growing-start}
 
 -- names that a crash may leave now it could leave at the start
@@ -98,12 +104,22 @@ stable-log b c synced = subst HasStableLog (sym (Adds-now Oal call.Sync (λ (r a
         let here : (synced_at r (Some i)).stored i ≡ stable (r.stored i).shown = stored-here r i (stable (r.stored i).shown) in
         subst (λ (k : ℕ). (synced_at r (Some i)).stored k ≡ stable ((synced_at r (Some i)).stored k).shown) one (here ∙ ap (λ (s : Stored). stable s.shown) (sym here))
 
--- what was committed is seen by the hidden log and the target alone
+-- a page by its place is one of the hidden log and the target alone
+same_place : (log : OalLog) (g left : Files) (n : ℕ) → content left Oal ≡ content g Oal → content left Target ≡ content g Target → (place : Option ℕ) → page_by_place log left n place ≡ page_by_place log g n place
+same_place log g left n oal target None = ap (page_at log.page_size n) target
+same_place log g left n oal target (Some place) = ap (λ (b : List ℕ). resized (drop place b) log.page_size) oal
+
+-- and so is what was committed
 committed_same : (old new : OalStore) (frames : List Frame) (f g left : Files) → content left Oal ≡ content g Oal → content left Target ≡ content g Target → IsCommitted old new frames f g → IsCommitted old new frames f left
 committed_same old new frames f g left log target is = record {
   more = is.more;
   keeps = record { front = is.keeps.front; rest = is.keeps.rest; has = is.keeps.has; whole = log ∙ is.keeps.whole };
   pages = subst (λ (t : List ℕ). IsOverlay (pages_of new.log.page_size new.log.target_pages t) (frames ++ is.more) (stored_map old f)) (sym target) is.pages;
+  stay = record {
+    size = is.stay.size;
+    count = is.stay.count;
+    each = λ n low high. ap (unwrap_or (changed_page new n)) (same_place new.log g left n log target (get nat_cmp new.log.places n)) ∙ is.stay.each n low high;
+  };
   within = is.within;
 }
 

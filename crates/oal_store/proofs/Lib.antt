@@ -7,3 +7,4 @@ mod Commits
 mod Images
 mod Entries
 mod StoreSteps
+mod Placings

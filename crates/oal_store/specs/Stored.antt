@@ -8,7 +8,7 @@ use Rattle.file_spec.specs.Files.{Files, content, OnlyChanges}
 use Rattle.file_spec.specs.Records.{Record, IsImage, Every, IsStill, shown_files}
 use Rattle.file_spec.specs.Trails.{Trail, Passes}
 use Rattle.format_spec.specs.Log.{Frame, IsOverlay}
-use Rattle.format_spec.specs.PageMap.{PageMap}
+use Rattle.format_spec.specs.PageMap.{PageMap, SamePages}
 use Rattle.page_spec.specs.Pages.{Pages, lock_byte_page}
 use Rattle.rbu_disk.specs.declared.disk.Disk.{Ghosts}
 use Rattle.rbu_disk.specs.Uses.{Writes, Syncs, Reads}
@@ -44,11 +44,12 @@ HasPagesOf old new files = (number : ℕ) → stored_pages new files number ≡ 
 abbrev pub IsKnown : OalStore → ℕ → Type 0
 IsKnown store number = (number ≤ store.log.target_pages) ⊎ ((number ≡ lock_byte_page store.log.page_size) ⊎ (IsSome (get nat_cmp store.changed number) ⊎ IsSome (get nat_cmp store.log.places number)))
 
--- After a commit the hidden log has further frames, and its overlay over the target are the pages of the store before it. The frames that came are of pages up to the count.
+-- After a commit the hidden log has further frames, its overlay over the target are the pages of the store before it, and these are the store's still. The frames that came are of pages up to the count.
 pub record IsCommitted (old new : OalStore) (frames : List Frame) (before after : Files) : Type 0 where
   pub more : List Frame
   pub keeps : KeepsLog new (frames ++ more) after
   pub pages : IsOverlay (target_map new.log after) (frames ++ more) (stored_map old before)
+  pub stay : SamePages (stored_map new after) (stored_map old before)
   pub within : AllByRecursion (λ frame. frame.number ≤ old.count) more
 
 -- what a crash leaves of the hidden log begins with these bytes, and the other files are those of an image at the record

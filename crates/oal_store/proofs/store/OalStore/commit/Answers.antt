@@ -53,7 +53,7 @@ returns-clause-done g c =
     told-both (g.D.Disk.shown c.args.disk.now) c.fill_grown.ensures.pages.same c.in_ok-fill_grown.ensures.pages.answer c.in_ok-fill_first.ensures.pages.answer (λ f p q n. q n ∙ p n) in
     committed-goes c.args.self.now c.fill_first.new.self c.settle.new.self same (c.fill_first.ensures.pages.same ∙ c.fill_grown.ensures.pages.same) pages
     c.in_ok-settle.ensures.grows c.write_log.ensures.ordered c.in_ok-fill_first.ensures.spare
-    (subst (λ (n : ℕ). 0 < n) (sym same.count) (omega (arith, c.requires.some))) c.write_log.ensures.only c.in_ok-end.ensures.done
+    (subst (λ (n : ℕ). 0 < n) (sym same.count) (omega (arith, c.requires.some))) c.in_ok-settle.ensures.empty c.settle.ensures.count c.write_log.ensures.only c.in_ok-end.ensures.done
 
 pub returns-clause-crashes : goal.returns-clause-crashes
 returns-clause-crashes g c =

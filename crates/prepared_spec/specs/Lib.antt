@@ -15,3 +15,13 @@ pub mod MembersLaws
 pub mod EndLaws
 pub mod LittleRows
 pub mod FinishLaws
+pub mod InputFaultsLaws
+pub mod ReorderingLaws
+pub mod TargetRecords
+pub mod TargetRecordsLaws
+pub mod StepRecords
+pub mod NeededPages
+pub mod StepRecordsLaws
+pub mod ChangesLaws
+pub mod LittleGroups
+pub mod LittleSteps

@@ -20,7 +20,7 @@ use Rattle.database_spec.specs.Rows.{TableRow, IsRow}
 use Rattle.database_spec.specs.Keys.{is_null}
 use Rattle.prepared_spec.specs.declared.input_fault.Measure.TheVariants as measure
 use Rattle.prepared_spec.specs.declared.input_fault.RecordCause.{RecordCause}
-use Rattle.prepared_spec.specs.declared.input_fault.RecordCause.TheVariants.{ShortHeader, ReservedType, RealValue, BodyLength, ShortRecord}
+use Rattle.prepared_spec.specs.declared.input_fault.RecordCause.TheVariants.{SizeOverLimit, ShortHeader, ReservedType, RealValue, BodyLength, ShortRecord}
 use Rattle.prepared_spec.specs.declared.input_fault.InputFault.{InputFault}
 use Rattle.prepared_spec.specs.declared.input_fault.InputFault.TheVariants.{Control as ControlRefused, KeyNull, KeyMismatch, KeyChanged, ClassChange, TooMuch, DataRecord}
 use Rattle.prepared_spec.specs.RowKeys.{key_at, has_rowid_key}
@@ -62,8 +62,9 @@ pub record Prepares (target own : Table) (row : TableRow) (prepared : Prepared) 
 abbrev pub IsPrepared : Table → Table → Member → Prepared → Type 0
 IsPrepared target own member prepared = (row : TableRow) × IsRow own member row × Prepares target own row prepared
 
--- why a record is not read as a row of so many columns
+-- why a record is not read as a row of so many columns; one that is read is never over the limit of what is written
 abbrev pub HasCause : List ℕ → ℕ → RecordCause → Type 0
+HasCause payload columns SizeOverLimit = ⊥
 HasCause payload columns ShortHeader = RecordHasFault payload bad.ShortHeader
 HasCause payload columns ReservedType = RecordHasFault payload bad.ReservedType
 HasCause payload columns RealValue = RecordHasFault payload bad.RealValue

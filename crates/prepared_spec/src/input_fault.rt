@@ -21,9 +21,11 @@ pub enum Measure {
     Bytes,
 }
 
-/// Why a record is not read as a row.
+/// Why a record is not read as a row, or not written.
 #[derive(Clone, Copy, Debug, PartialEq, Eq)]
 pub enum RecordCause {
+    /// 11: a step would put a record of more than 2147483647 bytes. No record that is read has this cause.
+    SizeOverLimit,
     /// 20: the header's length is wrong or passes the bytes.
     ShortHeader,
     /// 21: a serial type that no value has.
@@ -41,7 +43,7 @@ pub enum RecordCause {
 pub enum InputFault {
     /// 55: the tree of a `data_` table is damaged.
     TreeDamaged {
-        page: u32,
+        page: u64,
         rule: Rule,
     },
     /// 60: the text of the named target, of one of its indexes, or of the named `data_` table leaves the grammar, in bytes from 0.
@@ -114,6 +116,12 @@ pub enum InputFault {
     },
     /// 95: a record is not read as a row of the `data_` table.
     DataRecord {
+        table: Bytes,
+        rowid: i64,
+        cause: RecordCause,
+    },
+    /// 96: a record of a targeted table is not read as a row of it, or a step would put one that is too long. The table and the rowid are the target's.
+    TargetRecord {
         table: Bytes,
         rowid: i64,
         cause: RecordCause,

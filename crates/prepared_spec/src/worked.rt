@@ -1,15 +1,21 @@
 // The definitions, computed on rows that were worked out by hand.
-ghost use Rattle.std.specs.Prelude.{◌≡◌, pos, [], ◌∷◌, true, false, map, filter_map, codes};
+ghost use Rattle.std.specs.Prelude.{◌≡◌, ◌<◌, ◌≤◌, ℕ, pos, ◌+◌, List, [], ◌∷◌, ◌++◌, true, false, length, map, filter_map, codes};
 ghost use Rattle.rbu_value.specs.declared.value.Value.TheVariants.{Null, Int, Text};
 ghost use Rattle.rbu_rows.specs.declared.control.Control.TheVariants.{Insert, Delete, Update};
 ghost use Rattle.database_spec.specs.LittleTarget.{target_catalog, target_database, target_table, target_rows, target_index};
 ghost use Rattle.prepared_spec.specs.declared.violation.Violation.{Violation};
 ghost use Rattle.prepared_spec.specs.declared.violation.Change.{Change};
 ghost use Rattle.prepared_spec.specs.Tables.{greatest_of, new_rows, row_after, IsAfter};
-ghost use Rattle.prepared_spec.specs.StepFaults.{row_fault, IsChangeFault};
+ghost use Rattle.prepared_spec.specs.declared.input_fault.RecordCause.TheVariants.{SizeOverLimit};
+ghost use Rattle.prepared_spec.specs.declared.input_fault.InputFault.{InputFault};
+ghost use Rattle.prepared_spec.specs.StepFaults.{row_fault, AreChanges, IsChangeFault};
 ghost use Rattle.prepared_spec.specs.DataTables.{target_in};
 ghost use Rattle.prepared_spec.specs.PreparedRows.{in_target_order};
 ghost use Rattle.prepared_spec.specs.Outcomes.{IsOutcome, Makes};
+ghost use Rattle.prepared_spec.specs.StepRecords.{AreSteps, first_too_long, greatest_payload};
+ghost use Rattle.prepared_spec.specs.NeededPages.{needed_pages, filled_pages, put_pages, next_put};
+ghost use Rattle.prepared_spec.specs.LittleGroups.{exchange, exchanged_rows, exchange_changes, freeing, fourth_row, later_rows, keyless_row, keyless_batch};
+ghost use Rattle.prepared_spec.specs.LittleSteps.{little_steps, step_with};
 ghost use Rattle.prepared_spec.specs.LittleUpdate.{little_batch, little_new, little_row, little_entry, clash_rows, two_batches, rows_between, rows_behind};
 ghost use Rattle.prepared_spec.specs.LittleRows.{text_key_table, no_key_table, not_null_table, crossed_table, text_row, text_prepared, rowid_prepared, last_rowid};
 
@@ -49,4 +55,36 @@ pub fn worked_clash()
 pub fn worked_batches()
     ensures rows { IsAfter 4 target_table target_rows two_batches rows_behind }
     ensures present { row_fault (codes "t1") target_table (greatest_of target_rows) 1 rows_between (little_row 1 4 (Text (codes "w")) (Int (pos 50)) Insert) ≡ Some (Violation.KeyPresent (codes "t1") (pos 1)) }
+{}
+
+/// Two unique values are exchanged by two updates: each entry is removed before its columns are added again, and no addition has a fault.
+pub fn worked_exchange()
+    ensures rows { IsAfter 4 target_table target_rows (exchange ∷ []) exchanged_rows }
+    ensures changes { AreChanges target_index target_rows exchanged_rows exchange_changes }
+    ensures first { IsChangeFault target_index target_rows exchanged_rows (Change.Add (little_entry 10 2)) None }
+    ensures second { IsChangeFault target_index target_rows exchanged_rows (Change.Add (little_entry 20 1)) None }
+{}
+
+/// Of two batches of one target the second deletes the row with which the first would clash: there is no fault, since uniqueness is judged behind both.
+pub fn worked_freeing()
+    ensures rows { IsAfter 4 target_table target_rows freeing (later_rows ++ fourth_row ∷ []) }
+    ensures fault { IsChangeFault target_index target_rows (later_rows ++ fourth_row ∷ []) (Change.Add (little_entry 10 4)) None }
+{}
+
+/// In a table without a PRIMARY KEY the rowids of prepared rows say which row is deleted, and which rowid a new one has.
+pub fn worked_keyless()
+    ensures { IsAfter 4 no_key_table (keyless_row 1 (codes "x") (2 ∷ 15 ∷ codes "x") ∷ []) (keyless_batch ∷ []) (keyless_row 10 (codes "y") (2 ∷ 15 ∷ codes "y") ∷ []) }
+{}
+
+/// The ten steps of the update that was worked out by hand may take 549 pages, of a database that has 3; before the first of them it fills no more than 83.
+pub fn worked_room()
+    ensures steps { AreSteps target_catalog target_database ((little_batch ∷ []) ∷ []) little_steps }
+    ensures needed { needed_pages 4096 3 little_steps ≡ 549 }
+    ensures filled { filled_pages 4096 target_database.lists + put_pages 4096 (next_put little_steps) ≡ 83 }
+{}
+
+/// A step that puts a record of more than 2147483647 bytes is refused, and one that puts a shorter one is not.
+pub fn worked_too_long()
+    ensures long { (payload : List ℕ) → greatest_payload < length payload → first_too_long (step_with payload ∷ []) ≡ Some (InputFault.TargetRecord (codes "t1") (pos 4) SizeOverLimit) }
+    ensures short { (payload : List ℕ) → length payload ≤ greatest_payload → first_too_long (step_with payload ∷ []) ≡ None }
 {}

@@ -1,7 +1,10 @@
 // What holds of all records.
 ghost use Rattle.std.specs.Prelude.{◌≡◌, ℕ, ◌++◌, List};
 ghost use Rattle.rbu_value.specs.declared.value.Value.{Value};
+ghost use Rattle.common_spec.specs.Reading.{OrFault};
+ghost use Rattle.common_spec.specs.ReadingLaws.{IsOne};
 ghost use Rattle.format_spec.specs.Record.{IsRecord, canonical_record};
+ghost use Rattle.record_codec.specs.Faults.{HasFault};
 ghost use Rattle.record_codec.specs.Records.{HaveRecord};
 
 /// The canonical record of values is a record of them, where integers, lengths and the size of the header fit 64 bits.
@@ -18,4 +21,9 @@ pub fn canonical_records_are_apart()
 /// No record begins a record of other values, and so bytes are a record of one list of values at most.
 pub fn record_has_one_reading()
     ensures { (a b : List Value) (bytes others x y : List ℕ) → IsRecord bytes a → IsRecord others b → bytes ++ x ≡ others ++ y → (a ≡ b) × (bytes ≡ others) }
+{}
+
+/// Bytes are a record of one list of values, or have one fault, and never both.
+pub fn bytes_are_a_record_or_have_one_fault()
+    ensures { (bytes : List ℕ) → IsOne (OrFault (IsRecord bytes) (HasFault bytes)) }
 {}

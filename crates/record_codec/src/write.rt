@@ -96,6 +96,51 @@ fn header_size_bytes(types: usize) -> usize
     }
 }
 
+// How many bytes follow the header for an integer.
+#[tactic(auto, using(crate::proofs::Lengths::int_body_is))]
+fn int_length(z: i64, format: u32) -> usize
+    ensures { result ≡ length (int_body (type_of_int format z) z) }
+{
+    body_size(int_serial_type(z, format))
+}
+
+// How many bytes follow the header for a value.
+fn body_length(value: &Value, format: u32) -> usize
+    ensures { result ≡ length (body format value.now) }
+{
+    match value {
+        Value::Null => 0,
+        Value::Int(z) => int_length(*z, format),
+        Value::Text(bytes) | Value::Blob(bytes) => bytes.as_slice().len(),
+    }
+}
+
+// How many bytes follow the header.
+fn bodies_length(values: &[Value], format: u32) -> Result<usize, AllocError>
+    ensures { IfOk result (λ n. n ≡ length (flat_map (body format) values.now)) }
+{
+    let mut total = 0usize;
+    for value in values {
+        let size = body_length(value, format);
+        total = total.checked_add(size).ok_or(AllocError)?;
+    }
+    Ok(total)
+}
+
+/// The length of the canonical record of values under a schema format.
+#[tactic(auto, using(crate::proofs::Lengths::record_length_is))]
+pub fn record_length(values: &[Value], format: u32) -> Result<usize, AllocError>
+    ensures { IfOk result (λ n. n ≡ length (canonical_record format values.now)) }
+{
+    let types = types_length(values, format)?;
+    let bodies = bodies_length(values, format)?;
+    let header = types
+        .checked_add(header_size_bytes(types))
+        .ok_or(AllocError)?;
+    let length = header.checked_add(bodies).ok_or(AllocError)?;
+    Ok(length)
+}
+
 // Appends the header of the canonical record.
 fn push_header(values: &[Value], format: u32, into: &mut Vec<u8>) -> Result<(), AllocError>
     ensures { OnOk result (into.new.items ≡ into.old.items ++ record_header format values.now) }

@@ -8,3 +8,4 @@ pub mod Rising
 pub mod Courses
 pub mod Seeks
 pub mod SoughtCourses
+pub mod Lengths

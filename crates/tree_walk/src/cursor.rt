@@ -1,18 +1,17 @@
 // Cursors over a tree.
-ghost use Rattle.std.specs.Prelude.{◌≡◌, ◌+◌, ◌<◌, ◌≤◌, ◌↔◌, List, [], false, true, IfOk, IfSome, IsNone, IsTrue, OnOk};
+ghost use Rattle.std.specs.Prelude.{◌≡◌, ◌+◌, ◌<◌, ◌≤◌, ◌↔◌, [], false, true, IfOk, IfSome, IsNone, IsTrue, OnOk};
 ghost use Rattle.arrayvec.specs.ArrayVec.{array_vec_len};
 ghost use Rattle.page_store.specs.Store.{HasSizes, OwesBy, Sees};
-ghost use Rattle.tree_spec.specs.declared.TreeKind.{TreeKind};
-ghost use Rattle.tree_spec.specs.Trees.{Member};
 ghost use Rattle.tree_spec.specs.Standing.{Paged, Sizes};
 ghost use Rattle.tree_spec.specs.Faults.{fault_in};
-ghost use Rattle.tree_walk.specs.Pages.{is_leaf as is_leaf_of};
+ghost use Rattle.tree_walk.specs.Lengths.{OneFewer, StartsShort};
+ghost use Rattle.tree_walk.specs.Pages.{is_leaf as is_leaf_of, tree_kind};
 ghost use Rattle.page_spec.specs.Pages.{IsInRange};
-ghost use Rattle.tree_walk.specs.Courses.{Course, FromCell, GoesOn, IsOn, LandsOn, MovesOver, ReadsFirst, SettlesOn, StartsAt, StartsWalk};
+ghost use Rattle.tree_walk.specs.Courses.{IsPast, Course, FromCell, GoesOn, IsOn, LandsOn, MovesOver, ReadsFirst, SettlesOn, StartsAt, StartsWalk};
 ghost use Rattle.tree_walk.specs.Paths.{IsKept};
 ghost use Rattle.tree_walk.specs.Places.{child_at};
 ghost use Rattle.tree_walk.specs.Rising.{ComesUp, KeepsHigh, KeepsLow, MovesUp, kind_of, rowid_at};
-ghost use Rattle.tree_walk.specs.Walks.{GoesDown, IsAtCell, IsPast, Lands, MovesOn, ReadsRow, Settles, StandsBelow, StandsFirst, StepsDown};
+ghost use Rattle.tree_walk.specs.Walks.{MovesOn, ReadsRow, StandsFirst, StepsDown};
 
 use crate::entering::{enter_child, enter_root};
 use crate::path::Cursor;
@@ -73,7 +72,6 @@ impl Cursor {
         store: &mut S,
     ) -> Result<(), TreeFault<S::Fault>>
         requires { HasSizes S.PageRead store.old }
-        ensures pages { Sees S.PageRead store.old store.new (λ m. GoesDown (record { size = S.size store.old; usable = S.usable store.old }) (record { count = S.count store.old; pages = m }) self.old self.new result) }
         ensures walk { Sees S.PageRead store.old store.new (λ m. GoesOn (record { size = S.size store.old; usable = S.usable store.old }) (record { count = S.count store.old; pages = m }) self.old self.new result) }
         ensures leaf { OnOk result (is_leaf_of self.new.here.page.kind ≡ true) }
         ensures bound { OnOk result (KeepsLow self.old self.new) }
@@ -95,7 +93,6 @@ impl Cursor {
         store: &mut S,
     ) -> Result<bool, TreeFault<S::Fault>>
         requires { HasSizes S.PageRead store.old }
-        ensures pages { Sees S.PageRead store.old store.new (λ m. Lands (record { size = S.size store.old; usable = S.usable store.old }) (record { count = S.count store.old; pages = m }) self.old self.new result) }
         ensures walk { Sees S.PageRead store.old store.new (λ m. LandsOn (record { size = S.size store.old; usable = S.usable store.old }) (record { count = S.count store.old; pages = m }) self.old self.new result) }
         ensures bound { OnOk result (KeepsLow self.old self.new) }
         ensures moved { IfOk result (λ moved. IsTrue moved ↔ ¬ IsPast self.new) }
@@ -109,7 +106,6 @@ impl Cursor {
 
     // Leaves the pages of which nothing is left.
     fn climb(&mut self)
-        ensures left { (sizes : Sizes) (base : Paged) (kind : TreeKind) (rest : List Member) → IsAtCell sizes base kind rest self.old → IsAtCell sizes base kind rest self.new }
         ensures walk { (sizes : Sizes) (base : Paged) (course : Course) → IsOn sizes base (FromCell sizes base) course self.old → IsOn sizes base (FromCell sizes base) course self.new }
         ensures bound { KeepsHigh self.old self.new }
         ensures inner { IsPast self.old → ¬ IsPast self.new → is_leaf_of self.new.here.page.kind ≡ false }
@@ -130,7 +126,6 @@ impl Cursor {
         store: &mut S,
     ) -> Result<bool, TreeFault<S::Fault>>
         requires { HasSizes S.PageRead store.old }
-        ensures pages { Sees S.PageRead store.old store.new (λ m. Settles (record { size = S.size store.old; usable = S.usable store.old }) (record { count = S.count store.old; pages = m }) self.old self.new result) }
         ensures walk { Sees S.PageRead store.old store.new (λ m. SettlesOn (record { size = S.size store.old; usable = S.usable store.old }) (record { count = S.count store.old; pages = m }) self.old self.new result) }
         ensures kind { OnOk result (kind_of self.new ≡ kind_of self.old) }
         ensures rises { IfOk result (ComesUp self.old self.new) }
@@ -156,8 +151,8 @@ impl Cursor {
     ) -> Result<Cursor, TreeFault<S::Fault>>
         requires sizes { HasSizes S.PageRead store.old }
         requires kept { IsKept here }
-        ensures pages { Sees S.PageRead store.old store.new (λ m. StandsBelow (record { size = S.size store.old; usable = S.usable store.old }) (record { count = S.count store.old; pages = m }) here result) }
         ensures walk { Sees S.PageRead store.old store.new (λ m. StartsAt (record { size = S.size store.old; usable = S.usable store.old }) (record { count = S.count store.old; pages = m }) here result) }
+        ensures kind { IfOk result (λ cursor. kind_of cursor ≡ tree_kind here.page.kind) }
         ensures owes { OwesBy S.PageRead fault_in store.old store.new result }
     {
         let mut cursor = Cursor {
@@ -181,6 +176,7 @@ impl Cursor {
         requires within { root ≤ S.count store.old }
         ensures pages { Sees S.PageRead store.old store.new (λ m. StandsFirst (record { size = S.size store.old; usable = S.usable store.old }) (record { count = S.count store.old; pages = m }) root result) }
         ensures walk { Sees S.PageRead store.old store.new (λ m. StartsWalk (record { size = S.size store.old; usable = S.usable store.old }) (record { count = S.count store.old; pages = m }) root result) }
+        ensures few { Sees S.PageRead store.old store.new (λ m. StartsShort (record { size = S.size store.old; usable = S.usable store.old }) (record { count = S.count store.old; pages = m }) result) }
         ensures owes { OwesBy S.PageRead fault_in store.old store.new result }
     {
         match enter_root(alloc, store, root) {
@@ -198,6 +194,7 @@ impl Cursor {
         requires { HasSizes S.PageRead store.old }
         ensures pages { Sees S.PageRead store.old store.new (λ m. MovesOn (record { size = S.size store.old; usable = S.usable store.old }) (record { count = S.count store.old; pages = m }) self.old self.new result) }
         ensures walk { Sees S.PageRead store.old store.new (λ m. MovesOver (record { size = S.size store.old; usable = S.usable store.old }) (record { count = S.count store.old; pages = m }) self.old self.new result) }
+        ensures few { Sees S.PageRead store.old store.new (λ m. OnOk result (OneFewer (record { size = S.size store.old; usable = S.usable store.old }) (record { count = S.count store.old; pages = m }) self.old self.new)) }
         ensures kind { OnOk result (kind_of self.new ≡ kind_of self.old) }
         ensures rises { IfOk result (MovesUp self.old self.new) }
         ensures moved { IfOk result (λ moved. IsTrue moved ↔ ¬ IsPast self.new) }

@@ -3,7 +3,7 @@ use Rattle.common_spec.specs.Reading.{OrFault}
 use Rattle.common_spec.specs.ReadingLaws.{ReadsOrWants-one}
 use Rattle.format_spec.specs.Record.{IsRecord}
 use Rattle.record_codec.specs.Faults.{IsMemory, HasFault}
-use Rattle.record_codec.proofs.Apart.{answer-one}
+use Rattle.record_codec.specs.FaultsLaws.{answer-one}
 use Rattle.record_codec.proofs.read.read_record.Goals as goal
 
 pub returns-in_err-types : goal.returns-in_err-types

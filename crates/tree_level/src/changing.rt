@@ -93,8 +93,8 @@ fn write_anew<S: PageWrite>(
     write_node(alloc, store, node, cells.as_slice(), buffer.as_mut_slice())
 }
 
-// Changes a page that has room for what its cells become, and writes it.
-fn write_changed<S: PageWrite>(
+/// Changes a page that has room for what its cells become, and writes it.
+pub fn write_changed<S: PageWrite>(
     alloc: Global,
     store: &mut S,
     page: TreePage,

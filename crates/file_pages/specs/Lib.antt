@@ -3,4 +3,4 @@ pub mod FileMapLaws
 pub mod LogFile
 pub mod Overlay
 pub mod OverlayLaws
-pub mod OverlayProps
+pub mod SuitsLaws

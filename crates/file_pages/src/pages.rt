@@ -4,7 +4,7 @@ ghost use Rattle.std.specs.Option.{option_copied};
 ghost use Rattle.file_spec.specs.declared.FileName.TheVariants.{Wal};
 ghost use Rattle.rbu_disk.specs.Uses.{Reads};
 ghost use Rattle.file_pages.specs.Overlay.{Allows, Suits};
-ghost use Rattle.file_pages.specs.OverlayProps.{allows-prop, suits-prop};
+ghost use Rattle.file_pages.specs.SuitsLaws.{allows-prop, suits-prop};
 
 use crate::overlay::page_place;
 use crate::reads::read_part;

@@ -12,7 +12,7 @@ use crate::reads::read_part;
 use rbu_disk::{Disk, DiskFault, FileName};
 use wal_codec::Log;
 
-// The same of the file itself.
+// The first bytes of the file itself, and its length.
 fn plain_start<D: Disk>(
     disk: &mut D,
     file: FileName,

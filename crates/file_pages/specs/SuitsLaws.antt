@@ -1,4 +1,4 @@
--- That a log suits pages is a fact: the fields of a store that say so may be ghosts.
+-- That a log suits pages, and may be read, are facts: the fields of a store that say so may be ghosts.
 use Rattle.std.specs.Prelude.{ℕ, Bool, Option, Some, None}
 use Rattle.std.proofs.Props.{props}
 use Rattle.std.specs.Coded.{Unit-prop}

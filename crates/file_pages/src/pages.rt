@@ -18,10 +18,10 @@ use wal_codec::Log;
 /// file, and the header is then that of the overlay. Bytes that the file does not have, though its header promises them, are zero.
 /// A page is read where it stands, and nothing is kept of it.
 #[derive(Drop)]
-pub struct FilePages<'a, D: Disk> {
+pub struct FilePages<'a, 'b, D: Disk> {
     pub disk: &'a mut D,
     pub file: FileName,
-    pub log: Option<&'a Log>,
+    pub log: Option<&'b Log>,
     pub header: Header,
     ghost allowed: { D.test disk.now (Reads file) ≡ true },
     ghost log_allowed: { Allows (option_copied log) (D.test disk.now (Reads Wal)) } by { allows-prop (option_copied log) (D.test disk.now (Reads Wal)) },
@@ -29,7 +29,7 @@ pub struct FilePages<'a, D: Disk> {
     ghost sized: { header.reserved ≤ header.page_size },
 }
 
-impl<'a, D: Disk> PageRead for FilePages<'a, D> {
+impl<'a, 'b, D: Disk> PageRead for FilePages<'a, 'b, D> {
     type Fault = DiskFault;
 
     ghost use Rattle.std.specs.Prelude.{◌-◌, option_map};

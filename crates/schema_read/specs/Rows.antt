@@ -2,8 +2,6 @@
 use Rattle.std.specs.Prelude.{◌≡◌, ℤ, List, [], ◌∷◌}
 use Rattle.rbu_value.specs.declared.value.Value.{Value}
 use Rattle.rbu_value.specs.declared.value.Value.TheVariants.{Text}
-use Rattle.record_codec.specs.Faults.{IsMemory}
-use Rattle.record_codec.specs.declared.read.RecordFault.{RecordFault}
 use Rattle.tree_spec.specs.Trees.{Member}
 use Rattle.tree_walk.specs.declared.cursor.Row.{Row}
 use Rattle.database_spec.specs.declared.catalog.SchemaRow.{SchemaRow}
@@ -13,9 +11,6 @@ use Rattle.schema_read.specs.declared.rows.RowValues.{RowValues}
 -- the member of which a row was read
 abbrev pub member_of : Row → Member
 member_of row = record { rowid = row.rowid; payload = row.payload }
-
-abbrev pub IsWant : RecordFault → Type 0
-IsWant = IsMemory
 
 -- the row that five values say
 pub record IsRowOf (rowid : ℤ) (values : RowValues) (row : SchemaRow) : Type 0 where

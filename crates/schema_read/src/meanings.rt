@@ -129,7 +129,14 @@ fn index_text_meaning(
     }
 }
 
-// The columns of an automatic index, which rise.
+// A column of an automatic index, which rises.
+fn automatic_column(column: &(u32, Collation)) -> (u32, Collation, bool)
+    ensures { result ≡ (column.now.0, column.now.1, false) }
+{
+    (column.0, column.1, false)
+}
+
+// The columns of an automatic index.
 fn automatic_index_columns(
     alloc: Global,
     columns: &[(u32, Collation)],
@@ -138,8 +145,8 @@ fn automatic_index_columns(
 {
     let mut made = Vec::new(alloc);
     let mut left = columns;
-    while let [(place, collation), rest @ ..] = left {
-        made.push((*place, *collation, false))?;
+    while let [column, rest @ ..] = left {
+        made.push(automatic_column(column))?;
         left = rest;
     }
     Ok(OwnedList::from_vec(made))

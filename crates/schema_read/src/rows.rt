@@ -3,7 +3,8 @@ ghost use Rattle.std.specs.Prelude.{◌≡◌, [], ◌∷◌, None, IfOk};
 ghost use Rattle.common_spec.specs.Reading.{OrNone};
 ghost use Rattle.database_spec.specs.SchemaRows.{IsRootValue, IsSchemaRow, IsSqlValue, kind_word};
 ghost use Rattle.rbu_value.specs.declared.value.Value.{Value};
-ghost use Rattle.schema_read.specs.Rows.{IsRowIn, IsRowOf, IsWant, member_of};
+ghost use Rattle.record_codec.specs.Faults.{IsMemory as IsWant};
+ghost use Rattle.schema_read.specs.Rows.{IsRowIn, IsRowOf, member_of};
 
 use database_spec::{SchemaKind, SchemaRow};
 use rbu_value::{Bytes, Value};

@@ -2,7 +2,7 @@
 use Rattle.std.specs.Prelude.{ℕ, ◌≤◌, Bool, true, false, List, [], ◌++◌, codes, length}
 use Rattle.std.specs.Fmt.{decimal, signed_decimal}
 use Rattle.refusal.specs.declared.Refusal.{Refusal}
-use Rattle.refusal.specs.declared.Refusal.TheVariants.{SqlSyntax, OutsideProfile, DuplicateName, IndexDisagrees, ControlValue, ControlLength, ControlLetter, DeltaColumn, NoTarget, ColumnMissing, ColumnUnknown, RowidMissing, KeyNull, KeyMismatch, KeyChanged, DuplicateKey, ClassChange, TwoBatches, DataRecord, TargetRecord}
+use Rattle.refusal.specs.declared.Refusal.TheVariants.{SqlSyntax, OutsideProfile, DuplicateName, IndexDisagrees, ControlValue, ControlLength, ControlLetter, DeltaColumn, NoTarget, ColumnMissing, ColumnUnknown, RowidMissing, KeyNull, KeyMismatch, KeyChanged, DuplicateKey, ClassChange, DataRecord, TargetRecord}
 use Rattle.update_spec.specs.declared.Outcome.TheVariants.{KeyPresent, Refused}
 use Rattle.update_spec.specs.declared.Answer.{Answer}
 use Rattle.update_spec.specs.declared.Answer.TheVariants.{Ended}
@@ -46,7 +46,6 @@ has_name (KeyMismatch table rowid) = true
 has_name (KeyChanged table rowid column) = true
 has_name (DuplicateKey table first second) = true
 has_name (ClassChange table rowid column) = true
-has_name (TwoBatches first second) = true
 has_name (DataRecord table rowid cause) = true
 has_name (TargetRecord table rowid cause) = true
 has_name other = false

@@ -259,11 +259,6 @@ pub fn fields_of(refusal: &Refusal) -> [Field<'_>; 5]
             Field::Number(*has),
             Field::Number(*limit),
         ),
-        Refusal::TwoBatches { first, second } => two(
-            "94 TwoBatches",
-            Field::Name(first.as_slice()),
-            Field::Name(second.as_slice()),
-        ),
         Refusal::DataRecord {
             table,
             rowid,

@@ -1,6 +1,7 @@
 -- The cells of a page that is changed, and what they leave once they are written.
-use Rattle.std.proofs.Common.{◌≡◌, ℕ, zero, suc, ◌+◌, ◌*◌, ◌-◌, ◌^◌, ◌<◌, ◌≤◌, true, List, [], ◌∷◌, length, leb, min, take, drop, slice_index_or, sum_by, inl, inr, refl, sym, ap, ◌∙◌, subst, arith}
+use Rattle.std.proofs.Common.{◌≡◌, ℕ, zero, suc, ◌+◌, ◌*◌, ◌-◌, ◌^◌, ◌<◌, ◌≤◌, true, List, [], ◌∷◌, ◌++◌, length, leb, min, take, drop, slice_index_or, sum_by, inl, inr, refl, sym, ap, ◌∙◌, subst, arith, length-append}
 use Rattle.std.proofs.Math.Path.{subst⁻¹}
+use Rattle.std.proofs.lemmas.Bool.{cases_eq}
 use Rattle.std.specs.List.{All, AllByRecursion}
 use Rattle.std.proofs.lemmas.Bool.{leb-true, le-leb}
 use Rattle.std.proofs.lemmas.List.{drop_more}
@@ -23,11 +24,11 @@ use Rattle.put_spec.specs.Steps.{Spelled, bytes_in, views_in}
 use Rattle.tree_walk.specs.declared.page.TreePage.{TreePage}
 use Rattle.tree_walk.specs.Pages.{IsDecoded}
 use Rattle.tree_level.specs.declared.cells.Change.{Change}
-use Rattle.tree_level.specs.Changes.{behind, changed, HasSpelled, IsReadable, node_of, bytes_changed, WritesChange, Changes, ChangesRoot}
+use Rattle.tree_level.specs.Changes.{behind, changed, HasSpelled, IsReadable, node_of, bytes_changed, WritesChange, Changes, ChangesAt, ChangesRoot}
 use Rattle.tree_level.specs.ChangesLaws.{spelled-read, changed-map, all-changed, needs-changed, needs-changed_most, right-kept_of}
 use Rattle.tree_level.specs.Levels.{AreSpelled, WritesPage, Settles, MovesOut}
 use Rattle.tree_level.specs.Views.{view_room}
-use Rattle.tree_level.proofs.Fronts.{spelled-of, spreads-none, spreads-settled}
+use Rattle.tree_level.proofs.Fronts.{room-other, spelled-of, spreads-none, spreads-settled}
 
 -- what views say that cells need
 abbrev pub views_needs : List CellView → ℕ
@@ -178,6 +179,30 @@ module _ (sizes : Sizes) (page : TreePage) (change : Change) (comes : List (List
         → free_bytes page.number sizes.usable page.kind [] < needs made
     made-over over = let read = spelled-read sizes.usable page decoded in omega (arith, ap needs (is sizes.usable read.0 read.1), over read.0 read.1)
 
+    -- where none come, a page other than page 1 has room
+    pub made-moves : (number : ℕ) → IsUsable sizes.usable → needs comes ≡ 0 → 1 ≤ number → free_bytes number sizes.usable page.kind [] < needs made → number ≡ 1
+    made-moves number fits none first over =
+        let read = spelled-read sizes.usable page decoded in
+        elim (cases_eq number 1) [
+          | inl one ↦ one
+          | inr other ↦
+              absurd (omega (
+                arith,
+                over,
+                none,
+                ap needs (is sizes.usable read.0 read.1),
+                needs-changed_most (bytes_in read.0) change.at change.goes comes,
+                page-needs page.bytes page.number sizes.usable page.kind (bytes_in read.0) page.right fits read.1.is_page,
+                room-other number sizes.usable page.kind (let two : 2 ≤ number = omega arith in two),
+              ))
+        ]
+
+    pub made-some : 0 < length comes → 0 < length made
+    made-some some =
+        let read = spelled-read sizes.usable page decoded in
+        let rest = drop (behind change.at change.goes) (bytes_in read.0) in
+        omega (arith, ap length (is sizes.usable read.0 read.1), length-append (take change.at (bytes_in read.0)) (comes ++ rest), length-append comes rest, some)
+
     pub made-twice : IsUsable sizes.usable → needs comes ≤ page_room page.kind sizes.usable → needs made ≤ 2 * page_room page.kind sizes.usable
     made-twice fits few =
         let read = spelled-read sizes.usable page decoded in
@@ -208,11 +233,17 @@ module _ (sizes : Sizes) (page : TreePage) (change : Change) (comes : List (List
         (sym (right-kept_of bytes page.number sizes.usable page.kind (bytes_changed cells change comes) page.right (is cells has)) ∙ ap (right_kept page.kind) right) (is cells has));
   }
 
-  -- cells that were settled
+  -- cells that were settled in a page
+  pub settles-at : (number : ℕ) (dividers : List (List ℕ)) (a b : Paged)
+      → ((cells : List Spelled) → HasSpelled sizes.usable page cells → Settles sizes (record { number = number; kind = page.kind; right = change.right }) (bytes_changed cells change comes) dividers a b)
+      → ChangesAt sizes number page change comes dividers a b
+  settles-at number dividers a b settles levels kind cells coming same has are =
+      settles cells has levels kind (changed cells change.at change.goes coming) same (spelled-changed cells coming has are)
+
+  -- in the page that was read
   pub settles-changed : (dividers : List (List ℕ)) (a b : Paged)
       → ((cells : List Spelled) → HasSpelled sizes.usable page cells → Settles sizes (node_of page change) (bytes_changed cells change comes) dividers a b) → Changes sizes page change comes dividers a b
-  settles-changed dividers a b settles levels kind cells coming same has are =
-      settles cells has levels kind (changed cells change.at change.goes coming) same (spelled-changed cells coming has are)
+  settles-changed dividers a b settles = settles-at page.number dividers a b settles
 
   pub writes-changed : (a b : Paged) → WritesChange sizes page change comes a b → Changes sizes page change comes [] a b
   writes-changed a b writes =

@@ -48,11 +48,21 @@ abbrev pub WritesChange : Sizes → TreePage → Change → List (List ℕ) → 
 WritesChange sizes page change comes old new =
     (cells : List Spelled) → HasSpelled sizes.usable page cells → WritesNode sizes (node_of page change) (bytes_changed cells change comes) old new
 
--- Of the cells of a page that was read one goes, or none does, and others come. They stand in that page, and before it in a new page for each divider: so it is whatever tree has a page of this kind, and however the cells are read.
-abbrev pub Changes : Sizes → TreePage → Change → List (List ℕ) → List (List ℕ) → Paged → Paged → Type 0
-Changes sizes page change bytes dividers old new =
+-- Of the cells of a page that was read one goes, or none does, and others come. They stand in a page of this number, and before it in a new page for each divider: so it is whatever tree has a page of this kind, and however the cells are read.
+abbrev pub ChangesAt : Sizes → ℕ → TreePage → Change → List (List ℕ) → List (List ℕ) → Paged → Paged → Type 0
+ChangesAt sizes number page change bytes dividers old new =
     (levels : ℕ) (kind : TreeKind) (cells comes : List Spelled) → kind_at kind levels ≡ page.kind → HasSpelled sizes.usable page cells → AreSpelled page.kind sizes.usable comes bytes
-    → SettlesTo sizes levels kind page.number (right_kept page.kind change.right) (changed cells change.at change.goes comes) dividers old new
+    → SettlesTo sizes levels kind number (right_kept page.kind change.right) (changed cells change.at change.goes comes) dividers old new
+
+-- in that page itself
+abbrev pub Changes : Sizes → TreePage → Change → List (List ℕ) → List (List ℕ) → Paged → Paged → Type 0
+Changes sizes page change bytes dividers old new = ChangesAt sizes page.number page change bytes dividers old new
+
+-- The cells of a page that was read stand in another page too; or that has no room for them, which is so of page 1 alone, and nothing changed.
+abbrev pub MovesTo : Sizes → TreePage → ℕ → Bool → Paged → Paged → Type 0
+MovesTo sizes page number true old new =
+    (cells : List Spelled) → HasSpelled sizes.usable page cells → WritesNode sizes (record { number = number; kind = page.kind; right = page.right }) (bytes_in cells) old new
+MovesTo sizes page number false old new = (new ≡ old) × (number ≡ 1)
 
 -- the same of the page of a root: they stand in it, or are moved out
 abbrev pub ChangesRoot : Sizes → TreePage → Change → List (List ℕ) → Paged → Paged → Type 0

@@ -44,8 +44,8 @@ fn views_need(views: &[CellView]) -> u64
     total
 }
 
-// The bytes that a page has for cells and their places.
-fn room_in(number: u32, kind: PageKind, usable: u32) -> u64
+/// The bytes that a page has for cells and their places.
+pub fn room_in(number: u32, kind: PageKind, usable: u32) -> u64
     requires { IsUsable usable }
     ensures { result ≡ free_bytes number usable kind [] }
 {

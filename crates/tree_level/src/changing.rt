@@ -1,5 +1,5 @@
 // Changes a page that was read, and writes it.
-ghost use Rattle.std.specs.Prelude.{◌≡◌, ◌≤◌, ◌<◌, List, [], IfOk, OnOk, length};
+ghost use Rattle.std.specs.Prelude.{◌≡◌, ◌≤◌, ◌<◌, List, [], IfOk, OnOk, length, max};
 ghost use Rattle.std.specs.List.{All};
 ghost use Rattle.page_spec.specs.Rooms.{IsOneCell, free_bytes, needs as bytes_needed, right_kept};
 ghost use Rattle.page_store.specs.Store.{HasSizes, IsNumber, OwesBy};
@@ -93,8 +93,8 @@ fn write_anew<S: PageWrite>(
     write_node(alloc, store, node, cells.as_slice(), buffer.as_mut_slice())
 }
 
-// Changes a page that has room for what its cells become, and writes it.
-fn write_changed<S: PageWrite>(
+/// Changes a page that has room for what its cells become, and writes it.
+pub fn write_changed<S: PageWrite>(
     alloc: Global,
     store: &mut S,
     page: TreePage,
@@ -140,6 +140,7 @@ fn settle_changed<S: PageWrite>(
     ensures dividers { IfOk result (λ dividers. All (IsOneCell (above_kind page.kind) (S.usable store.old)) dividers.items) }
     ensures few { IfOk result (λ dividers. bytes_needed comes.items ≤ page_room page.kind (S.usable store.old) → length dividers.items ≤ 2) }
     ensures count { OnOk result (S.count store.old ≤ S.count store.new) }
+    ensures most { OnOk result (S.count store.new ≤ max limit (S.count store.old)) }
     ensures owes { OwesBy S.PageRead fault_in store.old store.new result }
 {
     let node = node_of(&page, change);
@@ -176,6 +177,7 @@ pub fn change_page<S: PageWrite>(
     ensures dividers { IfOk result (λ dividers. All (IsOneCell (above_kind page.kind) (S.usable store.old)) dividers.items) }
     ensures few { IfOk result (λ dividers. bytes_needed comes.items ≤ page_room page.kind (S.usable store.old) → length dividers.items ≤ 2) }
     ensures count { OnOk result (S.count store.old ≤ S.count store.new) }
+    ensures most { OnOk result (S.count store.new ≤ max limit (S.count store.old)) }
     ensures owes { OwesBy S.PageRead fault_in store.old store.new result }
 {
     if !has_room(&page, store.usable(), change, comes.as_slice()) {
@@ -205,6 +207,7 @@ fn move_out_changed<S: PageWrite>(
     requires over { (cells : List Spelled) → HasSpelled (S.usable store.old) page cells → free_bytes page.number (S.usable store.old) page.kind [] < bytes_needed (bytes_changed cells change comes.items) }
     ensures changed { OnOk result (Becomes S.PageRead store.old store.new (ChangesRoot (sizes_of S.PageRead store.old) page change comes.items)) }
     ensures count { OnOk result (S.count store.old ≤ S.count store.new) }
+    ensures most { OnOk result (S.count store.new ≤ max limit (S.count store.old)) }
     ensures owes { OwesBy S.PageRead fault_in store.old store.new result }
 {
     let node = node_of(&page, change);
@@ -241,6 +244,7 @@ pub fn change_root<S: PageWrite>(
     requires few { bytes_needed comes.items ≤ page_room page.kind (S.usable store.old) }
     ensures changed { OnOk result (Becomes S.PageRead store.old store.new (ChangesRoot (sizes_of S.PageRead store.old) page change comes.items)) }
     ensures count { OnOk result (S.count store.old ≤ S.count store.new) }
+    ensures most { OnOk result (S.count store.new ≤ max limit (S.count store.old)) }
     ensures owes { OwesBy S.PageRead fault_in store.old store.new result }
 {
     if !has_room(&page, store.usable(), change, comes.as_slice()) {

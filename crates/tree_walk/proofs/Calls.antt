@@ -30,13 +30,6 @@ pub ok-so : {T E P : Type 0} (result : Result T E) → P → OnOk result P
 ok-so (Ok done) p = p
 ok-so (Err error) p = tt
 
--- what trees see of a store, and of its pages where it tells them
-abbrev pub sizes_in : {P F : Type 0} → Ghosts P F → P → Sizes
-sizes_in g store = record { size = g.size store; usable = g.usable store }
-
-abbrev pub base_in : {P F : Type 0} → Ghosts P F → P → Pages → Paged
-base_in g store pages = record { count = g.count store; pages = pages }
-
 -- what follows from what a whole answer is
 pub sees-then : {P F : Type 0} (g : Ghosts P F) {before after : P} {A B : Pages → Type 0} → ((m : Pages) → A m → B m) → Sees g before after A → Sees g before after B
 sees-then g {before} follows sees = record { same = sees.same; count = sees.count; answer = IfSome_then (g.pages before) sees.answer follows }

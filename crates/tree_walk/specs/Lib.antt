@@ -1,3 +1,4 @@
+pub mod Stores
 pub mod Pages
 pub mod Places
 pub mod Paths

@@ -1,12 +1,13 @@
 // Seeks a rowid in a table's tree.
 ghost use Rattle.std.specs.Prelude.{◌≡◌, ◌≤◌, ◌≤ℤ◌, ◌↔◌, true, IfOk, IsTrue, OnOk};
-ghost use Rattle.page_store.specs.Store.{HasSizes, OwesBy, Sees};
+ghost use Rattle.page_store.specs.Store.{HasSizes, OwesBy};
 ghost use Rattle.tree_spec.specs.Faults.{fault_in};
 ghost use Rattle.tree_walk.specs.Lengths.{StartsShort};
 ghost use Rattle.tree_walk.specs.Pages.{is_leaf as is_leaf_of, tree_kind};
 ghost use Rattle.tree_walk.specs.Rising.{kind_of};
 ghost use Rattle.tree_walk.specs.Paths.{IsKept};
 ghost use Rattle.tree_walk.specs.Places.{rowids};
+ghost use Rattle.tree_walk.specs.Stores.{SeesTree};
 ghost use Rattle.tree_walk.specs.SoughtCourses.{ComesOn, SeeksOn, SeeksWalk, SoughtAt};
 ghost use Rattle.tree_walk.specs.Seeks.{IsAimed, IsIndexOf, StandsFrom};
 
@@ -55,7 +56,7 @@ impl Cursor {
         rowid: i64,
     ) -> Result<(), TreeFault<S::Fault>>
         requires { HasSizes S.PageRead store.old }
-        ensures walk { Sees S.PageRead store.old store.new (λ m. SeeksOn (record { size = S.size store.old; usable = S.usable store.old }) (record { count = S.count store.old; pages = m }) rowid self.old self.new result) }
+        ensures walk { SeesTree S.PageRead store.old store.new (λ sizes base. SeeksOn sizes base rowid self.old self.new result) }
         ensures kind { OnOk result (kind_of self.new ≡ kind_of self.old) }
         ensures owes { OwesBy S.PageRead fault_in store.old store.new result }
     {
@@ -77,7 +78,7 @@ impl Cursor {
         rowid: i64,
     ) -> Result<(), TreeFault<S::Fault>>
         requires { HasSizes S.PageRead store.old }
-        ensures walk { Sees S.PageRead store.old store.new (λ m. ComesOn (record { size = S.size store.old; usable = S.usable store.old }) (record { count = S.count store.old; pages = m }) rowid self.old self.new result) }
+        ensures walk { SeesTree S.PageRead store.old store.new (λ sizes base. ComesOn sizes base rowid self.old self.new result) }
         ensures kind { OnOk result (kind_of self.new ≡ kind_of self.old) }
         ensures owes { OwesBy S.PageRead fault_in store.old store.new result }
     {
@@ -100,7 +101,7 @@ impl Cursor {
     ) -> Result<Cursor, TreeFault<S::Fault>>
         requires sizes { HasSizes S.PageRead store.old }
         requires kept { IsKept here }
-        ensures walk { Sees S.PageRead store.old store.new (λ m. SoughtAt (record { size = S.size store.old; usable = S.usable store.old }) (record { count = S.count store.old; pages = m }) rowid here result) }
+        ensures walk { SeesTree S.PageRead store.old store.new (λ sizes base. SoughtAt sizes base rowid here result) }
         ensures kind { IfOk result (λ cursor. kind_of cursor ≡ tree_kind here.page.kind) }
         ensures owes { OwesBy S.PageRead fault_in store.old store.new result }
     {
@@ -124,9 +125,9 @@ impl Cursor {
         requires sizes { HasSizes S.PageRead store.old }
         requires first { 1 ≤ root }
         requires within { root ≤ S.count store.old }
-        ensures pages { Sees S.PageRead store.old store.new (λ m. StandsFrom (record { size = S.size store.old; usable = S.usable store.old }) (record { count = S.count store.old; pages = m }) root rowid result) }
-        ensures walk { Sees S.PageRead store.old store.new (λ m. SeeksWalk (record { size = S.size store.old; usable = S.usable store.old }) (record { count = S.count store.old; pages = m }) root rowid result) }
-        ensures few { Sees S.PageRead store.old store.new (λ m. StartsShort (record { size = S.size store.old; usable = S.usable store.old }) (record { count = S.count store.old; pages = m }) result) }
+        ensures pages { SeesTree S.PageRead store.old store.new (λ sizes base. StandsFrom sizes base root rowid result) }
+        ensures walk { SeesTree S.PageRead store.old store.new (λ sizes base. SeeksWalk sizes base root rowid result) }
+        ensures few { SeesTree S.PageRead store.old store.new (λ sizes base. StartsShort sizes base result) }
         ensures owes { OwesBy S.PageRead fault_in store.old store.new result }
     {
         match enter_root(alloc, store, root) {

@@ -1,13 +1,13 @@
 use Rattle.std.proofs.Common.{◌≡◌, false, Ok, Err, sym, refl, ◌∙◌}
 use Rattle.std.proofs.lemmas.Option.{IfSome_then}
 use Rattle.common_spec.specs.ToldLaws.{told-both}
+use Rattle.tree_walk.specs.Stores.{paged, sizes_of}
 use Rattle.tree_walk.specs.Pages.{is_leaf}
 use Rattle.page_spec.specs.Pages.{IsInRange}
 use Rattle.tree_walk.specs.Places.{child_at}
 use Rattle.tree_walk.specs.Walks.{StepsDown}
 use Rattle.tree_walk.proofs.Courses.{step-entered, step-refused}
 use Rattle.page_store.specs.StoreLaws.{at-sizes, some-all}
-use Rattle.tree_walk.proofs.Calls.{sizes_in, base_in}
 use Rattle.tree_walk.proofs.path.Cursor.descend.Goals as goal
 
 pub loop-alloc-init : goal.loop-alloc-init
@@ -34,7 +34,7 @@ loop-alloc-preserved g c =
       same = step.pages.same ∙ inv.same;
       walk = told-both (g.S.PageRead.pages first) inv.same inv.walk step.pages.answer (λ m walk down. λ course goes.
           let steps = at-sizes g.S.PageRead inv.stays inv.count (λ s u n. StepsDown {F = g.row.S-Fault.Denot} (record { size = s; usable = u }) (record { count = n; pages = m }) old c.step_down.new.self (Ok tt)) down in
-          step-entered (sizes_in g.S.PageRead first) (base_in g.S.PageRead first m) course old c.step_down.new.self inner steps.0 step.room
+          step-entered (sizes_of g.S.PageRead first) (paged g.S.PageRead first m) course old c.step_down.new.self inner steps.0 step.room
           (at-sizes g.S.PageRead inv.stays inv.count (λ s u n. IsInRange s n (child_at old.here)) step.named) steps.1 (walk course goes));
       bound = record { kind_is = step.bound.kind_is ∙ inv.bound.kind_is; low_is = step.bound.low_is ∙ inv.bound.low_is };
     }
@@ -55,7 +55,7 @@ returns-in-Err-clause-walk g c =
       same = step.pages.same ∙ inv.same;
       count = step.pages.count ∙ inv.count;
       answer = told-both (g.S.PageRead.pages first) inv.same inv.walk step.pages.answer (λ m walk down. λ course goes.
-          step-refused (sizes_in g.S.PageRead first) (base_in g.S.PageRead first m) course old c.in-Err.fault inner
+          step-refused (sizes_of g.S.PageRead first) (paged g.S.PageRead first m) course old c.in-Err.fault inner
           (at-sizes g.S.PageRead inv.stays inv.count (λ s u n. StepsDown {F = g.row.S-Fault.Denot} (record { size = s; usable = u }) (record { count = n; pages = m }) old c.step_down.new.self (Err c.in-Err.fault)) down)
           (walk course goes));
     }

@@ -1,6 +1,6 @@
 use Rattle.std.proofs.lemmas.Option.{IfSome_then}
+use Rattle.tree_walk.specs.Stores.{paged, sizes_of}
 use Rattle.tree_walk.proofs.Courses.{leaf-stands}
-use Rattle.tree_walk.proofs.Calls.{sizes_in, base_in}
 use Rattle.tree_walk.proofs.path.Cursor.land.Goals as goal
 
 pub returns-in-Ok-clause-walk : goal.returns-in-Ok-clause-walk
@@ -10,7 +10,7 @@ returns-in-Ok-clause-walk g c =
     record {
       same = down.walk.same;
       count = down.walk.count;
-      answer = IfSome_then (g.S.PageRead.pages store) down.walk.answer (λ m went. λ course goes. leaf-stands (sizes_in g.S.PageRead store) (base_in g.S.PageRead store m) course c.descend.new.self down.leaf (went course goes));
+      answer = IfSome_then (g.S.PageRead.pages store) down.walk.answer (λ m went. λ course goes. leaf-stands (sizes_of g.S.PageRead store) (paged g.S.PageRead store m) course c.descend.new.self down.leaf (went course goes));
     }
 
 pub returns-in-Err-clause-walk : goal.returns-in-Err-clause-walk

@@ -3,6 +3,7 @@ use Rattle.std.specs.Int.{w64}
 use Rattle.std.proofs.lemmas.Int.{to_z-of_z}
 use Rattle.std.proofs.lemmas.Option.{IfSome_then}
 use Rattle.common_spec.specs.ToldLaws.{told-both}
+use Rattle.tree_walk.specs.Stores.{paged, sizes_of}
 use Rattle.tree_walk.specs.declared.place.Place.{Place}
 use Rattle.tree_walk.specs.declared.page.TreePage.{TreePage}
 use Rattle.tree_walk.specs.Pages.{is_leaf, tree_kind}
@@ -12,7 +13,6 @@ use Rattle.page_spec.specs.Pages.{IsInRange}
 use Rattle.tree_walk.specs.Places.{child_at}
 use Rattle.tree_walk.specs.SoughtCourses.{SeeksOn}
 use Rattle.tree_walk.proofs.SoughtCourses.{aimed-set, set-entered, set-refused, set-found}
-use Rattle.tree_walk.proofs.Calls.{sizes_in, base_in}
 use Rattle.tree_walk.proofs.path.Cursor.seek_down.Goals as goal
 
 pub loop-alloc-init : goal.loop-alloc-init
@@ -24,7 +24,7 @@ loop-alloc-init g c =
       count = refl;
       same = refl;
       kind = ap (λ (page : TreePage). tree_kind page.kind) c.aim.ensures.page_is;
-      walk = some-all (g.S.PageRead.pages store) (λ m. λ course on. aimed-set (sizes_in g.S.PageRead store) (base_in g.S.PageRead store m) (to_z w64 (of_z w64 c.args.rowid)) course c.args.self.now c.aim.new.self c.aim.ensures on);
+      walk = some-all (g.S.PageRead.pages store) (λ m. λ course on. aimed-set (sizes_of g.S.PageRead store) (paged g.S.PageRead store m) (to_z w64 (of_z w64 c.args.rowid)) course c.args.self.now c.aim.new.self c.aim.ensures on);
     }
 
 pub loop-alloc-smaller : goal.loop-alloc-smaller
@@ -48,8 +48,8 @@ loop-alloc-preserved g c =
       kind = ap (λ (page : TreePage). tree_kind page.kind) c.aim-in-Ok.ensures.page_is ∙ step.bound.kind_is ∙ inv.kind;
       walk = told-both (g.S.PageRead.pages first) inv.same inv.walk step.pages.answer (λ m walk down. λ course on.
           let steps = at-sizes g.S.PageRead inv.stays inv.count (λ s u n. StepsDown {F = g.row.S-Fault.Denot} (record { size = s; usable = u }) (record { count = n; pages = m }) old c.step_down.new.self (Ok tt)) down in
-          aimed-set (sizes_in g.S.PageRead first) (base_in g.S.PageRead first m) x course c.step_down.new.self c.aim-in-Ok.new.self c.aim-in-Ok.ensures
-          (set-entered (sizes_in g.S.PageRead first) (base_in g.S.PageRead first m) x course old c.step_down.new.self inner steps.0 step.room
+          aimed-set (sizes_of g.S.PageRead first) (paged g.S.PageRead first m) x course c.step_down.new.self c.aim-in-Ok.new.self c.aim-in-Ok.ensures
+          (set-entered (sizes_of g.S.PageRead first) (paged g.S.PageRead first m) x course old c.step_down.new.self inner steps.0 step.room
           (at-sizes g.S.PageRead inv.stays inv.count (λ s u n. IsInRange s n (child_at old.here)) step.named) steps.1 (walk course on)));
     }
 
@@ -66,8 +66,8 @@ returns-in-Err-clause-walk g c =
       same = step.pages.same ∙ inv.same;
       count = step.pages.count ∙ inv.count;
       answer = told-both (g.S.PageRead.pages first) inv.same inv.walk step.pages.answer (λ m walk down.
-          subst (λ (z : ℤ). SeeksOn {T = Unit {0}} {F = g.row.S-Fault.Denot} (sizes_in g.S.PageRead first) (base_in g.S.PageRead first m) z c.args.self.now c.step_down.new.self (Err c.in-Err.fault)) (to_z-of_z w64 c.args.rowid fits) (λ course on.
-          set-refused (sizes_in g.S.PageRead first) (base_in g.S.PageRead first m) x course old c.in-Err.fault inner
+          subst (λ (z : ℤ). SeeksOn {T = Unit {0}} {F = g.row.S-Fault.Denot} (sizes_of g.S.PageRead first) (paged g.S.PageRead first m) z c.args.self.now c.step_down.new.self (Err c.in-Err.fault)) (to_z-of_z w64 c.args.rowid fits) (λ course on.
+          set-refused (sizes_of g.S.PageRead first) (paged g.S.PageRead first m) x course old c.in-Err.fault inner
           (at-sizes g.S.PageRead inv.stays inv.count (λ s u n. StepsDown {F = g.row.S-Fault.Denot} (record { size = s; usable = u }) (record { count = n; pages = m }) old c.step_down.new.self (Err c.in-Err.fault)) down)
           (walk course on)));
     }
@@ -83,6 +83,6 @@ returns-clause-walk g c =
       same = inv.same;
       count = inv.count;
       answer = IfSome_then (g.S.PageRead.pages store) inv.walk (λ m walk.
-          subst (λ (z : ℤ). SeeksOn {T = Unit {0}} {F = g.row.S-Fault.Denot} (sizes_in g.S.PageRead store) (base_in g.S.PageRead store m) z c.args.self.now c.loop-alloc.self (Ok tt)) (to_z-of_z w64 c.args.rowid fits) (λ course on.
-          set-found (sizes_in g.S.PageRead store) (base_in g.S.PageRead store m) x course c.loop-alloc.self leaf (walk course on)));
+          subst (λ (z : ℤ). SeeksOn {T = Unit {0}} {F = g.row.S-Fault.Denot} (sizes_of g.S.PageRead store) (paged g.S.PageRead store m) z c.args.self.now c.loop-alloc.self (Ok tt)) (to_z-of_z w64 c.args.rowid fits) (λ course on.
+          set-found (sizes_of g.S.PageRead store) (paged g.S.PageRead store m) x course c.loop-alloc.self leaf (walk course on)));
     }

@@ -1,11 +1,11 @@
 use Rattle.std.proofs.Common.{◌≡◌, false, true, reverse, sym, refl, ◌∙◌}
 use Rattle.std.proofs.lemmas.Option.{IfSome_then}
+use Rattle.tree_walk.specs.Stores.{paged, sizes_of}
 use Rattle.tree_walk.specs.Pages.{has_dividers}
 use Rattle.tree_walk.specs.Courses.{IsPast}
 use Rattle.page_store.specs.StoreLaws.{some-all}
 use Rattle.tree_walk.proofs.Courses.{past-stands, cell-stands, divider-goes}
 use Rattle.tree_walk.proofs.Paths.{path-moved, landed-up}
-use Rattle.tree_walk.proofs.Calls.{sizes_in, base_in}
 use Rattle.tree_walk.proofs.path.Cursor.settle.Goals as goal
 
 pub invariant_of-self : goal.invariant_of-self
@@ -23,7 +23,7 @@ returns-then-is_past-clause-walk g c =
     record {
       same = refl;
       count = refl;
-      answer = some-all (g.S.PageRead.pages store) (λ m. λ course on. past-stands (sizes_in g.S.PageRead store) (base_in g.S.PageRead store m) course c.climb.new.self past (c.climb.ensures.ends past) (c.climb.ensures.walk _ _ course on));
+      answer = some-all (g.S.PageRead.pages store) (λ m. λ course on. past-stands (sizes_of g.S.PageRead store) (paged g.S.PageRead store m) course c.climb.new.self past (c.climb.ensures.ends past) (c.climb.ensures.walk _ _ course on));
     }
 
 pub returns-then-not-has_dividers-clause-walk : goal.returns-then-not-has_dividers-clause-walk
@@ -34,7 +34,7 @@ returns-then-not-has_dividers-clause-walk g c =
     record {
       same = refl;
       count = refl;
-      answer = some-all (g.S.PageRead.pages store) (λ m. λ course on. cell-stands (sizes_in g.S.PageRead store) (base_in g.S.PageRead store m) course c.climb.new.self not_past none (c.climb.ensures.walk _ _ course on));
+      answer = some-all (g.S.PageRead.pages store) (λ m. λ course on. cell-stands (sizes_of g.S.PageRead store) (paged g.S.PageRead store m) course c.climb.new.self not_past none (c.climb.ensures.walk _ _ course on));
     }
 
 pub returns-clause-walk : goal.returns-clause-walk
@@ -46,5 +46,5 @@ returns-clause-walk g c =
     record {
       same = lands.same;
       count = lands.count;
-      answer = IfSome_then (g.S.PageRead.pages store) lands.answer (λ m lands. λ course on. lands course (divider-goes (sizes_in g.S.PageRead store) (base_in g.S.PageRead store m) c.climb.new.self _ refl refl not_past course some (c.climb.ensures.walk _ _ course on)));
+      answer = IfSome_then (g.S.PageRead.pages store) lands.answer (λ m lands. λ course on. lands course (divider-goes (sizes_of g.S.PageRead store) (paged g.S.PageRead store m) c.climb.new.self _ refl refl not_past course some (c.climb.ensures.walk _ _ course on)));
     }

@@ -1,0 +1,5 @@
+pub mod SortsLaws
+pub mod PaddedKeysLaws
+pub mod TablesMadeLaws
+pub mod ChangesMadeLaws
+pub mod TransactionsLaws

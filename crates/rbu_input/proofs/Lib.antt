@@ -1,0 +1,4 @@
+pub mod Classes
+pub mod Telling
+pub mod Rows
+pub mod Lists

@@ -1,0 +1,10 @@
+use Rattle.std.proofs.Common.{◌≡◌, ◌++◌, length, map}
+use Rattle.prepared_spec.specs.DataTables.{column_names}
+use Rattle.rbu_input.specs.Layouts.{places_of}
+use Rattle.rbu_input.proofs.layout.column_places.Given as goal
+
+abbrev pub invariant-loop-left : goal.invariant-loop-left
+invariant-loop-left l = places_of (column_names l.target) (column_names l.own) ≡ l.places.items ++ places_of (map (λ column. column.name) l.left) (column_names l.own)
+
+abbrev pub decreases-loop-left : goal.decreases-loop-left
+decreases-loop-left l = length l.left

@@ -1,0 +1,4 @@
+pub mod RowAnswers
+pub mod Layouts
+pub mod RowAnswersLaws
+pub mod Tables

@@ -17,7 +17,8 @@ use Rattle.database_spec.specs.declared.catalog.SchemaKind.{SchemaKind}
 use Rattle.database_spec.specs.declared.catalog.SchemaKind.TheVariants as kind
 use Rattle.database_spec.specs.declared.catalog.NamedEntry.{NamedEntry}
 use Rattle.database_spec.specs.declared.catalog.Catalog.{Catalog}
-use Rattle.database_spec.specs.SchemaRows.{SchemaRow, IsSchemaRow}
+use Rattle.database_spec.specs.declared.catalog.SchemaRow.{SchemaRow}
+use Rattle.database_spec.specs.SchemaRows.{IsSchemaRow}
 
 -- a table, a virtual table or a view: what has a name among tables
 abbrev pub is_table : SchemaRow → Bool

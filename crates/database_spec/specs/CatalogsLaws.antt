@@ -26,7 +26,8 @@ use Rattle.database_spec.specs.declared.fault.FileFault.TheVariants.{TreeDamaged
 use Rattle.database_spec.specs.Walks.{IsList, StopsAt, stops, members_found}
 use Rattle.database_spec.specs.WalksLaws.{truth-apart, walk-one}
 use Rattle.database_spec.specs.ListsLaws.{beside-one, order-one}
-use Rattle.database_spec.specs.SchemaRows.{SchemaRow, IsSchemaRow, kind_word, IsRootValue, IsSqlValue, row_values}
+use Rattle.database_spec.specs.declared.catalog.SchemaRow.{SchemaRow}
+use Rattle.database_spec.specs.SchemaRows.{IsSchemaRow, kind_word, IsRootValue, IsSqlValue, row_values}
 use Rattle.database_spec.specs.Catalogs.{is_table, IsTableMeaning, index_under, automatic_columns, IsAutomatic, MeansUnder, IsReadMeaning, IsIndexMeaning, IsIndexEntry, index_rows, roots_named, IsEntry, IsCatalog, AreRows, format_of}
 use Rattle.database_spec.specs.RightRows.{repeats_name, rows_of, RowHasFault, IsFaultless, AreFaultless, FirstRowFault, HasCatalog, CatalogHasFault}
 

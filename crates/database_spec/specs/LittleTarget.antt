@@ -13,7 +13,7 @@ use Rattle.tree_spec.specs.Worlds.{World}
 use Rattle.database_spec.specs.declared.catalog.SchemaKind.TheVariants as kind
 use Rattle.database_spec.specs.declared.catalog.Entry.{Entry}
 use Rattle.database_spec.specs.declared.catalog.Catalog.{Catalog}
-use Rattle.database_spec.specs.SchemaRows.{SchemaRow}
+use Rattle.database_spec.specs.declared.catalog.SchemaRow.{SchemaRow}
 use Rattle.database_spec.specs.Rows.{TableRow}
 use Rattle.database_spec.specs.Databases.{Database}
 

@@ -1,5 +1,5 @@
 -- Which rows of a schema are right, and the first fault of one that is not (The Schema Table, section 2; that a fault is answered by its row is this project's rule).
-use Rattle.std.specs.Prelude.{◌≡◌, ℕ, suc, ◌<◌, ◌==◌, ◌&&◌, ◌||◌, Bool, true, false, IsTrue, IsFalse, IfOk, ◌⊎◌, List, [], ◌∷◌, ◌++◌, length, filter_map, Option, Some, None, is_none, Result, Err}
+use Rattle.std.specs.Prelude.{◌≡◌, ℕ, suc, ◌<◌, ◌==◌, ◌&&◌, ◌||◌, Bool, true, false, IsTrue, IsFalse, IfOk, if◌then◌else◌, ◌⊎◌, List, [], ◌∷◌, ◌++◌, length, filter_map, Option, Some, None, is_none, Result, Err}
 use Rattle.std.specs.List.{list_any}
 use Rattle.refusal.specs.declared.Rule.{Rule}
 use Rattle.schema_spec.specs.declared.schema.Clause.TheVariants.{Virtual}
@@ -15,7 +15,7 @@ use Rattle.database_spec.specs.declared.catalog.SchemaKind.TheVariants as kind
 use Rattle.database_spec.specs.declared.catalog.Catalog.{Catalog}
 use Rattle.database_spec.specs.declared.fault.FileFault.{FileFault}
 use Rattle.database_spec.specs.declared.fault.FileFault.TheVariants.{TreeDamaged, SchemaRow as SchemaRowFault, DuplicateName}
-use Rattle.database_spec.specs.SchemaRows.{SchemaRow}
+use Rattle.database_spec.specs.declared.catalog.SchemaRow.{SchemaRow}
 use Rattle.database_spec.specs.Walks.{IsList, StopsAt}
 use Rattle.database_spec.specs.Catalogs.{is_table, is_index, is_real, IsTableMeaning, IsIndexMeaning, automatic_name, IsCatalog, AreRows, format_of}
 
@@ -31,6 +31,11 @@ is_automatic table number row = is_index row && (is_none row.sql && (same_name r
 -- the text of an index names it and its table as its row does
 abbrev pub IsNamedAlike : SchemaRow → Index → Type 0
 IsNamedAlike row index = IsTrue (same_name index.name row.name) × IsTrue (same_name index.table row.table)
+
+-- the first row of a table or view with this name
+abbrev pub table_named : List ℕ → List SchemaRow → Option SchemaRow
+table_named name [] = None
+table_named name (row ∷ rows) = if is_table row && same_name row.name name then Some row else table_named name rows
 
 -- a table, a view or an index has the name of an earlier one
 abbrev pub has_name : List ℕ → SchemaRow → Bool
@@ -63,12 +68,11 @@ module _ (sizes : Sizes) (base : Paged) (rows : List SchemaRow) where
     pub root : is_virtual meaning ≡ false → IsOwnRoot before row.root
     pub automatic : IfOk meaning (λ table. (at : ℕ) → at < length table.unique → IsTrue (list_any (is_automatic row.name (suc at)) rows))
 
-  -- the row of an index: a row of a table has the name that it gives, it has a root of its own, and it means some index, which its text names as the row does
+  -- the row of an index: the first row of a table or view with the name that it gives is that of a table, it has a root of its own, and it means some index, which its text names as the row does
   pub record IsRightIndex (before : List SchemaRow) (row : SchemaRow) : Type 0 where
     pub table : SchemaRow
-    pub stands : (front : List SchemaRow) × (back : List SchemaRow) × (rows ≡ front ++ table ∷ back)
+    pub stands : table_named row.table rows ≡ Some table
     pub is_real : IsTrue (is_real table)
-    pub its_table : IsTrue (same_name table.name row.table)
     pub root : IsOwnRoot before row.root
     pub meaning : Result Table SqlFault
     pub means : IsTableMeaning kind.Table table.sql meaning

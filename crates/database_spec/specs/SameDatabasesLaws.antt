@@ -29,7 +29,7 @@ use Rattle.database_spec.specs.declared.catalog.SchemaKind.TheVariants as kind
 use Rattle.database_spec.specs.declared.catalog.Catalog.{Catalog}
 use Rattle.database_spec.specs.SameDatabases.{SameDatabase}
 use Rattle.database_spec.specs.Walks.{Finding, Seen, bytes_seen, IsAccepted, IsCellVisit, AreCellVisits, IsChildVisit, AreChildVisits, IsInside, IsVisit, IsWalk, IsList}
-use Rattle.database_spec.specs.SchemaRows.{SchemaRow}
+use Rattle.database_spec.specs.declared.catalog.SchemaRow.{SchemaRow}
 use Rattle.database_spec.specs.Catalogs.{IsCatalog, IsIndexMeaning, format_of}
 use Rattle.database_spec.specs.RightRows.{IsOwnRoot, IsRightTable, IsRightIndex, IsRight, AreFaultless, rows_of, HasCatalog}
 use Rattle.database_spec.specs.Databases.{Database, header_of, IsWhole, IsSound}
@@ -191,7 +191,6 @@ module _ (sizes : Sizes) (old new : Paged) (same : SameDatabase sizes old new) w
         table = is.table;
         stands = is.stands;
         is_real = is.is_real;
-        its_table = is.its_table;
         root = own_root row.root is.root;
         meaning = is.meaning;
         means = is.means;

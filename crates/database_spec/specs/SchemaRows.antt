@@ -4,17 +4,9 @@ use Rattle.rbu_value.specs.declared.value.Value.{Value}
 use Rattle.rbu_value.specs.declared.value.Value.TheVariants.{Null, Int, Text, Blob}
 use Rattle.format_spec.specs.Record.{IsRecord}
 use Rattle.tree_spec.specs.Trees.{Member}
+use Rattle.database_spec.specs.declared.catalog.SchemaRow.{SchemaRow}
 use Rattle.database_spec.specs.declared.catalog.SchemaKind.{SchemaKind}
 use Rattle.database_spec.specs.declared.catalog.SchemaKind.TheVariants.{Table, Index, View, Trigger}
-
--- what a row of the schema says; a root that is NULL counts as 0
-pub record SchemaRow : Type 0 where
-  pub rowid : ℤ
-  pub kind : SchemaKind
-  pub name : List ℕ
-  pub table : List ℕ
-  pub root : ℕ
-  pub sql : Option (List ℕ)
 
 -- the word in the column `type`
 abbrev pub kind_word : SchemaKind → List ℕ

@@ -12,7 +12,7 @@ use Rattle.tree_spec.specs.declared.TreeKind.{TreeKind}
 use Rattle.tree_spec.specs.declared.TreeKind.TheVariants.{Table, Index}
 use Rattle.tree_spec.specs.Trees.{TreeCell, TreeOf, Rooted, Member, member, between, leaf_kind, interior_kind, page_of, own_cells, cells_behind, list_of, list_beside, IsFull, IsFullBelow, root_of, list_in, greatest_depth}
 use Rattle.tree_spec.specs.Bounds.{RisesIn, BesideIn, InOrder, IsOrdered, below_rowids, greatest_rowid}
-use Rattle.tree_spec.specs.BoundsLaws.{rises-bounds, InOrder-rises, rowids}
+use Rattle.tree_spec.specs.BoundsLaws.{own_cells-rise}
 use Rattle.tree_spec.specs.Standing.{Sizes, Paged, IsHeld, Stands, StandsBefore, StandsLast, IsRoot, IsTree}
 use Rattle.database_spec.specs.Walks.{Finding, Finds, Ends, Holds, Bares, Seen, bytes_seen, is_empty, bare, IsRising, IsAccepted, IsCellVisit, AreCellVisits, IsChildVisit, AreChildVisits, IsVisit, IsWalk, stop_of, stops, member_of, members_found, IsList}
 
@@ -97,34 +97,12 @@ bounded-last : (kind : TreeKind) (levels : ℕ) (low high : ℤ) (last : TreeOf 
 bounded-last Table levels low high last h = h
 bounded-last Index levels low high last h = tt
 
--- a tree whose pages have cells has members
-some-members : (levels : ℕ) (tree : TreeOf levels) → IsFull levels tree → 0 < length (list_of Table levels tree)
-some-members zero tree full = omega (arith, length-map tree.cells member, full.0)
-some-members (suc levels) tree full =
-    let front = flat_map (λ (child : TreeOf levels × TreeCell). list_of Table levels child.0 ++ between Table child.1) tree.children in
-    omega (arith, length-append front (list_of Table levels tree.last), some-members levels tree.last full.1.1)
-
-rises-strict : (low high : ℤ) (xs : List ℤ) → 0 < length xs → RisesIn low high xs → low <ℤ high
-rises-strict low high [] some rises = absurd (omega arith)
-rises-strict low high (x ∷ xs) some rises = omega (arith, ints, rises.0, rises-bounds x high xs rises.1)
-
-leaf-rises : (low high : ℤ) (cells : List TreeCell) → RisesIn low high (map (λ (c : TreeCell). c.view.rowid) cells) → RisesIn low high (map (λ (c : Seen). c.1.rowid) (seen cells))
-leaf-rises low high [] rises = rises
-leaf-rises low high (c ∷ cells) rises = (rises.0, leaf-rises c.view.rowid high cells rises.1)
-
-dividers-rise : (levels : ℕ) (low high : ℤ) (children : List (TreeOf levels × TreeCell)) (last : TreeOf levels) → AllByRecursion (λ child. IsFull levels child.0) children
-    → BesideIn (InOrder levels) low high children last → RisesIn low high (map (λ (c : Seen). c.1.rowid) (seen (cells_behind children)))
-dividers-rise levels low high [] last full beside = rises-bounds low high (rowids (list_of Table levels last)) (InOrder-rises levels low high last beside)
-dividers-rise levels low high (child ∷ children) last full beside =
-    let members = list_of Table levels child.0 in
-    let rowid = child.1.view.rowid in (
-      rises-strict low rowid (rowids members) (omega (arith, length-map members (λ (m : Member). m.rowid), some-members levels child.0 full.0)) (InOrder-rises levels low rowid child.0 beside.0),
-      dividers-rise levels rowid high children last full.1 beside.1,
-    )
+seen-rise : (low high : ℤ) (cells : List TreeCell) → RisesIn low high (map (λ (c : TreeCell). c.view.rowid) cells) → RisesIn low high (map (λ (c : Seen). c.1.rowid) (seen cells))
+seen-rise low high [] rises = rises
+seen-rise low high (c ∷ cells) rises = (rises.0, seen-rise c.view.rowid high cells rises.1)
 
 own-rises : (kind : TreeKind) (levels : ℕ) (low high : ℤ) (tree : TreeOf levels) → IsFullBelow levels tree → IsBounded kind levels low high tree → IsRising kind low high (seen (own_cells levels tree))
-own-rises Table zero low high tree full within = leaf-rises low high tree.cells within
-own-rises Table (suc levels) low high tree full within = dividers-rise levels low high tree.children tree.last full.0 within
+own-rises Table levels low high tree full within = seen-rise low high (own_cells levels tree) (own_cells-rise levels low high tree full within)
 own-rises Index levels low high tree full within = tt
 
 full-not_empty : (cells : List TreeCell) → 0 < length cells → is_empty false (seen cells) ≡ false

@@ -13,6 +13,19 @@ pub enum SchemaKind {
     Trigger,
 }
 
+/// A row of the schema (The Schema Table, section 2).
+#[derive(Drop)]
+pub struct SchemaRow {
+    pub rowid: i64,
+    pub kind: SchemaKind,
+    pub name: Bytes,
+    /// The name of the table that an index or a trigger belongs to.
+    pub table: Bytes,
+    /// The root of its tree. A root that is NULL counts as 0.
+    pub root: u64,
+    pub sql: Option<Bytes>,
+}
+
 /// A table of the schema, or a view or a virtual table, which has no tree.
 #[derive(Drop)]
 pub struct Entry {

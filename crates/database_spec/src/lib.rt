@@ -17,7 +17,7 @@ mod fault;
 mod laws;
 mod worked;
 
-pub use catalog::{Catalog, Entry, NamedEntry, SchemaKind};
+pub use catalog::{Catalog, Entry, NamedEntry, SchemaKind, SchemaRow};
 pub use fault::FileFault;
 pub use laws::{
     database_has_one_catalog, file_has_one_fault, same_pages_are_the_same_database,

@@ -1,10 +1,10 @@
 -- What a delete makes of a table's tree, level by level. What became of a page is told by trees beside one another, as after a put.
-use Rattle.std.specs.Prelude.{◌≡◌, ℕ, ℤ, suc, List, [], ◌∷◌, ◌++◌}
+use Rattle.std.specs.Prelude.{◌≡◌, ◌≢◌, ℕ, ℤ, suc, ◌<◌, List, [], ◌∷◌, ◌++◌, length}
 use Rattle.std.specs.List.{AllByRecursion}
 use Rattle.page_spec.specs.Chains.{IsChain}
 use Rattle.page_spec.specs.Freelists.{Trunk}
 use Rattle.tree_spec.specs.declared.TreeKind.TheVariants.{Table}
-use Rattle.tree_spec.specs.Trees.{TreeCell, TreeOf, Rooted, Member, page_of, pages_of, pages_in, pages_beside, list_of, list_in, list_beside, root_of, IsFull, IsFullBelow, IsFullRoot}
+use Rattle.tree_spec.specs.Trees.{TreeCell, TreeOf, Rooted, Member, page_of, own_cells, pages_of, pages_in, pages_beside, list_of, list_in, list_beside, root_of, IsFull, IsFullBelow, IsFullRoot}
 use Rattle.tree_spec.specs.Bounds.{BesideIn, InOrder}
 use Rattle.tree_spec.specs.Standing.{Sizes, Paged, HasOwnPage, HasBelow, Stands, StandsBefore}
 use Rattle.tree_spec.specs.Worlds.{IsWorld, with_tree}
@@ -78,6 +78,17 @@ module _ (sizes : Sizes) (levels : ℕ) where
   pub record IsDeleted (gone : Member) (before : Before levels) (after : After levels) : Type 0 where
     pub opened : IsOpened gone before after
     pub own : HasOwnPage sizes after.base Table levels after.home
+
+  -- What a delete left of the tree of a root that has no cell and one child, beside which nothing stands.
+  pub record IsSunk (gone : Member) (page : ℕ) (before : Before levels) (after : After levels) : Type 0 where
+    pub none : after.siblings ≡ []
+    pub turns : Turns sizes before.base (page ∷ hand_of before) before.trunks after.base (page ∷ hand_after after) after.trunks
+    pub below : HasBelow sizes after.base Table levels after.home
+    pub freed : IsChain after.base.pages sizes.size sizes.usable after.base.count after.first after.bytes after.chain
+    pub bounds : (low high : ℤ) → BesideIn (InOrder levels) low high before.siblings before.home → InOrder levels low high after.home
+    pub list : TakenOut gone (list_beside Table levels before.siblings before.home) (list_of Table levels after.home)
+    pub full : AllByRecursion (λ sibling. IsFull levels sibling.0) before.siblings → IsFull levels before.home
+        → IsFullBelow levels after.home × (0 < levels → page ≢ 1 → 0 < length (own_cells levels after.home))
 
   -- What a delete has made of the tree of a root, and the overflow chain of the cell that was taken out.
   pub record IsRootDeleted (gone : Member) (old : Paged) (tree : TreeOf levels) (trunks : List Trunk) (base : Paged) (new : Rooted) (first bytes : ℕ) (chain : List ℕ) (rest : List Trunk) : Type 0 where

@@ -24,7 +24,7 @@ use Rattle.put_spec.specs.Children.{children_with, last_with}
 use Rattle.put_spec.specs.ChildrenLaws.{beside-first, beside-join, keeps-fewer, list-join, list-with}
 use Rattle.put_spec.specs.Puts.{After, hand_after, moved, deeper, IsInteriorCut, cut_after}
 use Rattle.put_spec.specs.PutsLaws.{pages-parts, hand-parts, cut-count, moved-page}
-use Rattle.delete_spec.specs.Deletes.{TakenOut, Before, hand_of, alone, pair, became, parent_with, IsOpened, IsLoose, IsDeleted, IsRootDeleted}
+use Rattle.delete_spec.specs.Deletes.{TakenOut, Before, hand_of, alone, pair, became, parent_with, IsOpened, IsLoose, IsDeleted, IsSunk, IsRootDeleted}
 use Rattle.delete_spec.specs.NeighboursLaws.{rises-without, order-wider, order-split, order-join, taken-within, taken-behind, group-count, group-all, group-last, group-of, group-order, group-stands}
 
 -- Lists of cells.
@@ -525,22 +525,50 @@ module _ (sizes : Sizes) where
         full = λ full. record { below = (o.full tt full.below).1; root = some };
       }
 
+  -- one child has had the delete, but for its own page
+  pub sunk-child : (levels : ℕ) (gone : Member) (page : ℕ) (before : Before levels) (after : After levels) → IsOpened sizes levels gone before after → after.siblings ≡ []
+      → (0 < levels → page ≢ 1 → 0 < length (own_cells levels after.home)) → IsSunk sizes levels gone page before after
+  sunk-child levels gone page before after o none some = record {
+    none = none;
+    turns = Turns-wide sizes before.base after.base (hand_of before) (hand_after after) (page ∷ hand_of before) (page ∷ hand_after after) before.trunks after.trunks (hit page) (λ n. omega arith) (λ n. omega arith) o.turns;
+    below = o.below;
+    freed = o.freed;
+    bounds = λ low high order. subst (λ (s : List (TreeOf levels × TreeCell)). BesideIn (InOrder levels) low high s after.home) none (o.bounds low high order);
+    list = subst (λ (s : List (TreeOf levels × TreeCell)). TakenOut gone (list_beside Table levels before.siblings before.home) (list_beside Table levels s after.home)) none o.list;
+    full = λ siblings home. ((o.full siblings home.1).1, some);
+  }
+
+  -- the root is to have no cell, and one child, which stands
+  pub sunk-root : (levels : ℕ) (gone : Member) (base : Paged) (tree : TreeOf (suc levels)) (trunks : List Trunk) (last : TreeOf levels) (new : Paged) (rest : List Trunk) (first bytes : ℕ) (chain : List ℕ)
+      → IsOpened sizes (suc levels) gone (alone (suc levels) base tree trunks)
+      (record { base = new; siblings = []; home = record { page = tree.page; children = []; last = last }; trunks = rest; first = first; bytes = bytes; chain = chain })
+      → IsSunk sizes levels gone tree.page (record { base = base; siblings = tree.children; home = tree.last; trunks = trunks })
+      (record { base = new; siblings = []; home = last; trunks = rest; first = first; bytes = bytes; chain = chain })
+  sunk-root levels gone base tree trunks last new rest first bytes chain o = record {
+    none = refl;
+    turns = o.turns;
+    below = o.below.1.1.1;
+    freed = o.freed;
+    bounds = o.bounds;
+    list = o.list;
+    full = λ children home. let made = o.full tt (children, home) in (made.1.1.1, λ deep other. made.1.1.0);
+  }
+
   -- A root without a cell takes the content of its only child, whose page is given back: so the tree has a level less.
-  pub root-sinks : (levels : ℕ) (gone : Member) (page : ℕ) (before : Before levels) (after : After levels) (mid new : Paged) (trunks : List Trunk) → IsOpened sizes levels gone before after → after.siblings ≡ []
+  pub root-sinks : (levels : ℕ) (gone : Member) (page : ℕ) (before : Before levels) (after : After levels) (mid new : Paged) (trunks : List Trunk) → IsSunk sizes levels gone page before after
       → Within sizes before.base (page ∷ hand_of before) before.trunks → Writes page after.base mid → HasOwnPage sizes mid Table levels (moved levels page after.home)
-      → Turns sizes mid (page_of levels after.home ∷ []) after.trunks new [] trunks → (0 < levels → page ≢ 1 → 0 < length (own_cells levels after.home))
+      → Turns sizes mid (page_of levels after.home ∷ []) after.trunks new [] trunks
       → IsRootDeleted sizes (suc levels) gone before.base (record { page = page; children = before.siblings; last = before.home }) before.trunks new
       (record { kind = Table; levels = levels; tree = moved levels page after.home }) after.first after.bytes after.chain trunks
-  root-sinks levels gone page before after mid new trunks o none within writes own given some =
+  root-sinks levels gone page before after mid new trunks s within writes own given =
       let home = moved levels page after.home in
       let hand = page ∷ hand_of before in
       let later = page ∷ hand_after after in
       let final = pages_of levels home ++ after.chain in
-      let wide = Turns-wide sizes before.base after.base (hand_of before) (hand_after after) hand later before.trunks after.trunks (hit page) (λ n. omega arith) (λ n. omega arith) o.turns in
-      let within_later = Turns-within sizes before.base after.base hand later before.trunks after.trunks within wide in
+      let within_later = Turns-within sizes before.base after.base hand later before.trunks after.trunks within s.turns in
       let written = Turns-write sizes after.base mid page later after.trunks within_later (omega (arith, hit-itself page)) writes in
       let within_mid = Turns-within sizes after.base mid later later after.trunks after.trunks within_later written in
-      let whole = λ (n : ℕ). alone-count n levels after none in
+      let whole = λ (n : ℕ). alone-count n levels after s.none in
       let parts = λ (n : ℕ). pages-parts n levels after.home in
       let new_parts = λ (n : ℕ).
       let one = pages-parts n levels home in
@@ -555,23 +583,22 @@ module _ (sizes : Sizes) where
       let beside = kept-beside after.base mid page later in
       let kept = λ (others : List ℕ) (fewer : (n : ℕ) → times n others ≤ times n final). keeps-given mid new later others after.trunks trunks (page_of levels after.home) within_mid (λ n. omega (arith, count n, fewer n)) given in
       let below = moved-below mid levels page after.home
-      (HasBelow-kept sizes after.base mid Table levels after.home (beside (pages_below levels after.home) after.trunks within_later writes (λ n. omega (arith, whole n, parts n))) o.below) in
+      (HasBelow-kept sizes after.base mid Table levels after.home (beside (pages_below levels after.home) after.trunks within_later writes (λ n. omega (arith, whole n, parts n))) s.below) in
       record {
         turns = turns-given before.base mid new hand later final before.trunks after.trunks trunks (page_of levels after.home) within
-            (Turns-then sizes before.base after.base mid hand later later before.trunks after.trunks after.trunks within wide written) count given;
+            (Turns-then sizes before.base after.base mid hand later later before.trunks after.trunks after.trunks within s.turns written) count given;
         kind_is = refl;
         stands = Stands-kept sizes mid new Table levels home (kept (pages_of levels home) (λ n. omega (arith, times-append n (pages_of levels home) after.chain))) (own, below);
         freed = chain-kept sizes mid new after.first after.bytes after.chain (kept after.chain (λ n. omega (arith, times-append n (pages_of levels home) after.chain)))
-            (chain-kept sizes after.base mid after.first after.bytes after.chain (beside after.chain after.trunks within_later writes (λ n. omega (arith, whole n, parts n))) o.freed);
+            (chain-kept sizes after.base mid after.first after.bytes after.chain (beside after.chain after.trunks within_later writes (λ n. omega (arith, whole n, parts n))) s.freed);
         root = moved-page sizes Table levels page after.home;
-        bounds = λ low high order. moved-order levels low high page after.home (subst (λ (s : List (TreeOf levels × TreeCell)). BesideIn (InOrder levels) low high s after.home) none (o.bounds low high order));
-        list = subst⁻¹ (TakenOut gone (list_beside Table levels before.siblings before.home)) (moved-list levels page after.home)
-            (subst (λ (s : List (TreeOf levels × TreeCell)). TakenOut gone (list_beside Table levels before.siblings before.home) (list_beside Table levels s after.home)) none o.list);
+        bounds = λ low high order. moved-order levels low high page after.home (s.bounds low high order);
+        list = subst⁻¹ (TakenOut gone (list_beside Table levels before.siblings before.home)) (moved-list levels page after.home) s.list;
         full = λ full.
-            let made = o.full full.below.0 full.below.1.1 in
+            let made = s.full full.below.0 full.below.1 in
             record {
-              below = moved-full levels page after.home made.1;
-              root = λ deep other. moved-some levels page after.home (some deep (λ is. other (moved-page sizes Table levels page after.home ∙ is)));
+              below = moved-full levels page after.home made.0;
+              root = λ deep other. moved-some levels page after.home (made.1 deep (λ is. other (moved-page sizes Table levels page after.home ∙ is)));
             };
       }
 

@@ -2,53 +2,40 @@
 use Rattle.std.proofs.Common.{◌≡◌, ℕ, suc, ◌+◌, ◌<◌, List, [], ◌∷◌, ◌++◌, length, map, refl, sym, ap, ◌∙◌, subst, inl, arith, length-append}
 use Rattle.std.proofs.Math.Path.{subst⁻¹}
 use Rattle.std.specs.List.{AllByRecursion}
-use Rattle.std.proofs.lemmas.List.{map-append, length-map, nil_from_length}
+use Rattle.std.proofs.lemmas.List.{map-append, length-map}
 use Rattle.format_spec.specs.declared.PageKind.TheVariants.{TableInterior}
 use Rattle.format_spec.specs.Cell.{IsCell}
-use Rattle.format_spec.specs.Page.{IsPage}
 use Rattle.page_spec.specs.Counts.{times}
 use Rattle.page_spec.specs.CountsLaws.{times-append, hit-itself}
 use Rattle.page_spec.specs.FreelistsLaws.{IsInRange-wider}
 use Rattle.page_spec.specs.Freelists.{Trunk, free_pages}
 use Rattle.tree_spec.specs.declared.TreeKind.TheVariants.{Table}
-use Rattle.tree_spec.specs.Trees.{TreeCell, TreeOf, Member, interior_kind, page_of, own_cells, cells_behind, pages_of, pages_beside}
+use Rattle.tree_spec.specs.Trees.{TreeCell, TreeOf, Member, interior_kind, page_of, cells_behind, pages_of, pages_beside}
 use Rattle.tree_spec.specs.Standing.{Sizes, Paged, IsNumber, IsBehind, Stands, StandsBefore, StandsLast}
 use Rattle.tree_spec.specs.StandingLaws.{divider-held, Stands-kept}
 use Rattle.tree_spec.specs.Worlds.{IsFree}
 use Rattle.tree_spec.specs.WorldsLaws.{all-front, all-back, all-join}
-use Rattle.tree_spec.specs.Changes.{Within, Turns, Writes}
+use Rattle.tree_spec.specs.Changes.{Within, Turns}
 use Rattle.tree_spec.specs.ChangesLaws.{Turns-keeps}
 use Rattle.put_spec.specs.Children.{child_at}
 use Rattle.put_spec.specs.ChildrenLaws.{beside-first, child-stands}
-use Rattle.put_spec.specs.Puts.{After, hand_after, IsInteriorCut, moved}
+use Rattle.put_spec.specs.Puts.{After, hand_after, IsInteriorCut}
 use Rattle.put_spec.specs.PutsLaws.{pages-parts}
-use Rattle.put_spec.specs.Steps.{Spelled, spelled, bytes_in, HasCells, child_page, with_dividers, IsSettled}
+use Rattle.put_spec.specs.Steps.{Spelled, spelled, HasCells, child_page, with_dividers, IsSettled, Releases}
 use Rattle.put_spec.specs.StepsLaws.{page-tells}
-use Rattle.delete_spec.specs.Deletes.{hand_of, alone, pair, became, parent_with, IsOpened, IsDeleted}
+use Rattle.delete_spec.specs.Deletes.{hand_of, alone, pair, became, parent_with, IsOpened}
 use Rattle.delete_spec.specs.NeighboursLaws.{alone-among, pair-among, group-count}
-use Rattle.delete_spec.specs.DeletesLaws.{cells-same, last-same, left-loose, right-loose, pair-joined, group-above, delete-settled, divider-chain}
+use Rattle.delete_spec.specs.DeletesLaws.{last-same, left-loose, right-loose, pair-joined, group-above, divider-chain}
 use Rattle.delete_spec.specs.CutsLaws.{dividers-in, cut-settled}
-use Rattle.delete_spec.specs.Steps.{IsReady, Gives, EmptiedDone, EmptiesBelow, DeleteBelow, GrownDone, GrowsBelow, RootDone, DeleteAt}
-use Rattle.delete_spec.specs.StepsLaws.{divider-payload, own-page, around-map, spelled-children, child-page, child-number, not-free, HasOpened, interior-written, sunk}
+use Rattle.delete_spec.specs.Steps.{IsReady, OpenedDone, OpensBelow, EmptiesBelow}
+use Rattle.delete_spec.specs.StepsLaws.{divider-payload, around-map, spelled-children, none-spelled, child-page, child-number, not-free}
 
 -- cells with one behind them
 behind-one : {Child : Type 0} (children : List (Child × TreeCell)) (child : Child) (cell : TreeCell) → map spelled (cells_behind (children ++ (child, cell) ∷ [])) ≡ map spelled (cells_behind children) ++ spelled cell ∷ []
 behind-one [] child cell = refl
 behind-one (x ∷ xs) child cell = ap (λ (l : List Spelled). spelled x.1 ∷ l) (behind-one xs child cell)
 
-none-behind : {Child : Type 0} (children : List (Child × TreeCell)) → cells_behind children ≡ [] → children ≡ []
-none-behind [] e = refl
-none-behind (x ∷ xs) e = absurd (let h : ⊥ = cc in h)
-
 module _ (sizes : Sizes) (gone : Member) (levels : ℕ) where
-  -- one of two neighbours is gone, and the other has become this
-  record HasJoined (old : Paged) (left : TreeOf (suc levels)) (divider : TreeCell) (right : TreeOf (suc levels)) (trunks : List Trunk) (home : TreeOf (suc levels)) (given : Paged) (first bytes : ℕ) : Type 0 where
-    rest : List Trunk
-    chain : List ℕ
-    done : IsDeleted sizes (suc levels) gone (pair (suc levels) old left divider right trunks) (record { base = given; siblings = []; home = home; trunks = rest; first = first; bytes = bytes; chain = chain })
-    page : page_of (suc levels) home ≡ page_of (suc levels) right
-    some : 0 < length (own_cells (suc levels) home)
-
   -- two neighbours were joined, but for the writing of the page, which is to have these cells
   record HasOpenedPair (old : Paged) (left : TreeOf (suc levels)) (divider : TreeCell) (right : TreeOf (suc levels)) (trunks : List Trunk) (given : Paged) (first bytes : ℕ) (cells : List Spelled) (last : ℕ) : Type 0 where
     home : TreeOf (suc levels)
@@ -59,13 +46,6 @@ module _ (sizes : Sizes) (gone : Member) (levels : ℕ) where
     cells_are : cells ≡ map spelled (cells_behind home.children)
     last_is : last ≡ page_of levels home.last
     free : IsFree sizes given rest
-
-  -- and this is spelled so
-  record HasWhole (old : Paged) (left : TreeOf (suc levels)) (divider : TreeCell) (right : TreeOf (suc levels)) (trunks : List Trunk) (given : Paged) (first bytes : ℕ) (cells : List Spelled) (last : ℕ) : Type 0 where
-    home : TreeOf (suc levels)
-    joined : HasJoined old left divider right trunks home given first bytes
-    cells_are : cells ≡ map spelled (cells_behind home.children)
-    last_is : last ≡ page_of levels home.last
 
   module _ (old : Paged) (left : TreeOf (suc levels)) (divider : TreeCell) (right : TreeOf (suc levels)) (trunks : List Trunk) (mid given : Paged) (first bytes : ℕ) (middle : Spelled)
       (within : Within sizes old (hand_of (pair (suc levels) old left divider right trunks)) trunks) (before : StandsBefore sizes old Table (suc levels) (left, divider)) (behind : StandsLast sizes old Table (suc levels) right)
@@ -78,7 +58,7 @@ module _ (sizes : Sizes) (gone : Member) (levels : ℕ) where
 
     -- The right one has no cell any more: the cells of the left one and the divider go in front of its only child.
     right-opened : (only : ℕ) (cells : List Spelled) (last : ℕ) → EmptiesBelow sizes gone (suc levels) right.page only old mid first bytes → HasCells sizes mid TableInterior left.page cells last → middle.view.child ≡ last
-        → Gives sizes left.page mid given
+        → Releases sizes left.page mid given
         → HasOpenedPair old left divider right trunks given first bytes (cells ++ middle ∷ []) only
     right-opened only cells last empties has names gives =
         let e = empties right trunks refl free (record { within = λ n. omega (arith, within n, pair-parts n); stands = behind.1 }) in
@@ -91,7 +71,7 @@ module _ (sizes : Sizes) (gone : Member) (levels : ℕ) where
         let told = page-tells sizes mid Table (suc levels) left.page left cells last refl has stays in
         let cut : IsInteriorCut whole left divider e.home = record {
           middle = came_down;
-          children = ap (λ (l : List (TreeOf levels × TreeCell)). left.children ++ (left.last, came_down) ∷ l) (sym (none-behind e.home.children e.none));
+          children = ap (λ (l : List (TreeOf levels × TreeCell)). left.children ++ (left.last, came_down) ∷ l) (sym (none-spelled e.home.children e.cells_are));
           last = refl;
           page = refl;
           rowid = sym rowid;
@@ -120,13 +100,13 @@ module _ (sizes : Sizes) (gone : Member) (levels : ℕ) where
           opened = opened;
           page = e.page;
           cells_are = same;
-          last_is = sym e.right_is;
+          last_is = e.right_is;
           free = opened.turns.freelist free;
         }
 
     -- The left one has none: its only child and the divider go in front of the cells of the right one.
     left-opened : (only : ℕ) (cells : List Spelled) (last : ℕ) → EmptiesBelow sizes gone (suc levels) left.page only old mid first bytes → HasCells sizes mid TableInterior right.page cells last → middle.view.child ≡ only
-        → Gives sizes left.page mid given
+        → Releases sizes left.page mid given
         → HasOpenedPair old left divider right trunks given first bytes (middle ∷ cells) last
     left-opened only cells last empties has names gives =
         let e = empties left trunks refl free (record { within = λ n. omega (arith, within n, pair-parts n); stands = before.1 }) in
@@ -139,7 +119,7 @@ module _ (sizes : Sizes) (gone : Member) (levels : ℕ) where
         let told = page-tells sizes mid Table (suc levels) right.page right cells last refl has stays in
         let cut : IsInteriorCut whole e.home divider right = record {
           middle = came_down;
-          children = ap (λ (l : List (TreeOf levels × TreeCell)). l ++ (e.home.last, came_down) ∷ right.children) (sym (none-behind e.home.children e.none));
+          children = ap (λ (l : List (TreeOf levels × TreeCell)). l ++ (e.home.last, came_down) ∷ right.children) (sym (none-spelled e.home.children e.cells_are));
           last = refl;
           page = refl;
           rowid = sym rowid;
@@ -147,7 +127,7 @@ module _ (sizes : Sizes) (gone : Member) (levels : ℕ) where
           chain = divider-chain sizes old divider before.0.held;
         } in
         let there : IsBehind sizes mid (interior_kind Table) came_down (page_of levels e.home.last) =
-        record { held = divider-held sizes mid middle.bytes middle.view is_cell; names = names ∙ sym e.right_is; in_range = e.opened.below.1.0 } in
+        record { held = divider-held sizes mid middle.bytes middle.view is_cell; names = names ∙ e.right_is; in_range = e.opened.below.1.0 } in
         let hand = pages_beside (suc levels) ((e.home, divider) ∷ []) right ++ e.chain in
         let in_hand : 0 < times e.home.page hand =
         omega (
@@ -172,75 +152,6 @@ module _ (sizes : Sizes) (gone : Member) (levels : ℕ) where
           last_is = told.1;
           free = opened.turns.freelist free;
         }
-
-  -- its page is written
-  pair-settled : (old : Paged) (left : TreeOf (suc levels)) (divider : TreeCell) (right : TreeOf (suc levels)) (trunks : List Trunk) (given written : Paged) (first bytes : ℕ) (cells : List Spelled) (last : ℕ)
-      → HasOpenedPair old left divider right trunks given first bytes cells last → 0 < length cells → Writes right.page given written
-      → IsPage (written.pages right.page) right.page sizes.usable TableInterior (bytes_in cells) last → HasWhole old left divider right trunks written first bytes cells last
-  pair-settled old left divider right trunks given written first bytes cells last o some writes is_page =
-      let after : After (suc levels) = record { base = given; siblings = []; home = o.home; trunks = o.rest; first = first; bytes = bytes; chain = o.chain } in
-      record {
-        home = o.home;
-        joined = record {
-          rest = o.rest;
-          chain = o.chain;
-          done = delete-settled sizes (suc levels) gone (pair (suc levels) old left divider right trunks) after written o.opened (subst⁻¹ (λ (p : ℕ). Writes p given written) o.page writes)
-              (own-page sizes levels written o.home right.page cells last o.page o.cells_are o.last_is is_page);
-          page = o.page;
-          some = omega (arith, ap length o.cells_are, length-map (cells_behind o.home.children) spelled);
-        };
-        cells_are = o.cells_are;
-        last_is = o.last_is;
-      }
-
-  -- The parent of two neighbours of which one is gone: the cell that names the left one goes. Its page is still to be written.
-  pair-above : (old : Paged) (tree : TreeOf (suc (suc levels))) (trunks : List Trunk) (front : List (TreeOf (suc levels) × TreeCell)) (left : TreeOf (suc levels)) (divider : TreeCell) (back : List (TreeOf (suc levels) × TreeCell))
-      (written : Paged) (first bytes : ℕ) (home : TreeOf (suc levels)) → tree.children ≡ front ++ (left, divider) ∷ back → IsReady sizes (suc (suc levels)) old tree trunks
-      → HasJoined old left divider (child_at (length front) (front ++ back) tree.last) trunks home written first bytes
-      → HasOpened sizes gone (suc (suc levels)) old tree trunks (parent_with (suc levels) tree.page (length front) (front ++ back) tree.last [] home) written first bytes
-  pair-above old tree trunks front left divider back written first bytes home whole ready g =
-      let i = length front in
-      let others = front ++ back in
-      let right = child_at i others tree.last in
-      let stands = StandsBefore sizes old Table (suc levels) in
-      let all = subst (AllByRecursion stands) whole ready.stands.1.0 in
-      let rest = all-back stands front ((left, divider) ∷ back) all in
-      let beside = all-join stands front back (all-front stands front ((left, divider) ∷ back) all) rest.1 in
-      let among = pair-among (suc levels) front left divider back tree.last in
-      let was : parent_with (suc levels) tree.page i others tree.last ((left, divider) ∷ []) right ≡ tree = λ j. record { page = tree.page; children = (among.0 ∙ sym whole) j; last = among.1 j } in
-      let number = subst⁻¹ (IsNumber sizes written) g.page
-      (IsInRange-wider sizes.size old.count written.count right.page g.done.opened.turns.grows (child-number sizes old (suc levels) i others tree.last beside ready.stands.1.1)) in
-      let after : After (suc levels) = record { base = written; siblings = []; home = home; trunks = g.rest; first = first; bytes = bytes; chain = g.chain } in
-      let opened = group-above sizes (suc levels) gone tree.page i others tree.last (pair (suc levels) old left divider right trunks) after
-      (subst⁻¹ (λ (t : TreeOf (suc (suc levels))). Within sizes old (pages_of (suc (suc levels)) t) trunks) was ready.within) (subst⁻¹ (Stands sizes old Table (suc (suc levels))) was ready.stands)
-      g.done number (inl g.page) (λ _ _. g.some) in
-      record {
-        rest = g.rest;
-        chain = g.chain;
-        opened = subst (λ (t : TreeOf (suc (suc levels))). IsOpened sizes (suc (suc levels)) gone (alone (suc (suc levels)) old t trunks)
-            (record { base = written; siblings = []; home = parent_with (suc levels) tree.page i others tree.last [] home; trunks = g.rest; first = first; bytes = bytes; chain = g.chain })) was opened;
-      }
-
-  -- what a join of two children of a page makes of the page, still to be written
-  record HasParent (old : Paged) (tree : TreeOf (suc (suc levels))) (trunks : List Trunk) (front back : List Spelled) (written : Paged) (first bytes right : ℕ) : Type 0 where
-    home : TreeOf (suc (suc levels))
-    opened : HasOpened sizes gone (suc (suc levels)) old tree trunks home written first bytes
-    page : home.page ≡ tree.page
-    cells : front ++ back ≡ map spelled (cells_behind home.children)
-    right_is : right ≡ page_of (suc levels) home.last
-
-  -- an interior page without a cell
-  emptied-parent : (old : Paged) (tree : TreeOf (suc (suc levels))) (trunks : List Trunk) (front back : List Spelled) (written : Paged) (first bytes right : ℕ) → front ++ back ≡ []
-      → HasParent old tree trunks front back written first bytes right → EmptiedDone sizes gone (suc (suc levels)) old tree trunks written right first bytes
-  emptied-parent old tree trunks front back written first bytes right none h = record {
-    home = h.home;
-    rest = h.opened.rest;
-    chain = h.opened.chain;
-    opened = h.opened.opened;
-    page = h.page;
-    none = nil_from_length (cells_behind h.home.children) (omega (arith, ap length h.cells, ap length none, length-map (cells_behind h.home.children) spelled));
-    right_is = sym h.right_is;
-  }
 
   module _ (page : ℕ) (old : Paged) (cells : List Spelled) (right : ℕ) (front : List Spelled) (cell : Spelled) (back : List Spelled) (only : ℕ) (mid given written : Paged) (first bytes : ℕ) (middle : Spelled) (beside : List Spelled) (last : ℕ)
       (has : HasCells sizes old TableInterior page cells right) (parts : cells ≡ front ++ cell ∷ back) (is_cell : IsCell TableInterior sizes.usable middle.bytes middle.view) (rowid : middle.view.rowid ≡ cell.view.rowid) where
@@ -304,35 +215,14 @@ module _ (sizes : Sizes) (gone : Member) (levels : ℕ) where
           was = was;
         }
 
-    -- the parent of such a pair, once it is one
-    pair-parent : (tree : TreeOf (suc (suc levels))) (trunks : List Trunk) (p : HasPair tree trunks) (home : TreeOf (suc levels)) → IsReady sizes (suc (suc levels)) old tree trunks
-        → HasJoined old p.left p.divider (child_at (length p.before) (p.before ++ p.behind) tree.last) trunks home written first bytes → HasParent old tree trunks front back written first bytes right
-    pair-parent tree trunks p home ready g =
-        let i = length p.before in
-        let others = p.before ++ p.behind in
-        let was = child_at i others tree.last in
-        let among = alone-among (suc levels) i others tree.last in
-        record {
-          home = parent_with (suc levels) tree.page i others tree.last [] home;
-          opened = pair-above old tree trunks p.before p.left p.divider p.behind written first bytes home p.whole ready g;
-          page = refl;
-          cells = p.others ∙ ap (map spelled) (sym (cells-same (suc levels) i others was home ∙ ap cells_behind among.0));
-          right_is = p.last_is ∙ sym (last-same (suc levels) i others tree.last was home g.page ∙ ap (page_of (suc levels)) among.1);
-        }
-
     -- what the two became, still to be written
     record HasBecome (tree : TreeOf (suc (suc levels))) (trunks : List Trunk) (so : List Spelled) (its_last : ℕ) : Type 0 where
       at : HasPair tree trunks
       both : HasOpenedPair old at.left at.divider (child_at (length at.before) (at.before ++ at.behind) tree.last) trunks given first bytes so its_last
 
-    -- and written
-    record HasUnder (tree : TreeOf (suc (suc levels))) (trunks : List Trunk) (so : List Spelled) (its_last : ℕ) : Type 0 where
-      at : HasPair tree trunks
-      whole : HasWhole old at.left at.divider (child_at (length at.before) (at.before ++ at.behind) tree.last) trunks written first bytes so its_last
-
     -- Two interior pages are joined where the right one has no cell any more.
     right-become : (tree : TreeOf (suc (suc levels))) (trunks : List Trunk) → tree.page ≡ page → IsFree sizes old trunks → IsReady sizes (suc (suc levels)) old tree trunks
-        → EmptiesBelow sizes gone (suc levels) next only old mid first bytes → HasCells sizes mid TableInterior cell.view.child beside last → middle.view.child ≡ last → Gives sizes cell.view.child mid given
+        → EmptiesBelow sizes gone (suc levels) next only old mid first bytes → HasCells sizes mid TableInterior cell.view.child beside last → middle.view.child ≡ last → Releases sizes cell.view.child mid given
         → HasBecome tree trunks (beside ++ middle ∷ []) only
     right-become tree trunks is free ready empties has_beside names gives =
         let p = pair-there tree trunks is ready in
@@ -341,12 +231,12 @@ module _ (sizes : Sizes) (gone : Member) (levels : ℕ) where
           at = p;
           both = right-opened old p.left p.divider there trunks mid given first bytes middle p.within p.stands p.right_stands free is_cell (rowid ∙ sym (ap (λ (c : Spelled). c.view.rowid) p.same)) only beside last
               (subst⁻¹ (λ (n : ℕ). EmptiesBelow sizes gone (suc levels) n only old mid first bytes) p.right_named empties) (subst⁻¹ (λ (n : ℕ). HasCells sizes mid TableInterior n beside last) p.named has_beside) names
-              (subst⁻¹ (λ (n : ℕ). Gives sizes n mid given) p.named gives);
+              (subst⁻¹ (λ (n : ℕ). Releases sizes n mid given) p.named gives);
         }
 
     -- Two interior pages are joined where the left one has no cell any more.
     left-become : (tree : TreeOf (suc (suc levels))) (trunks : List Trunk) → tree.page ≡ page → IsFree sizes old trunks → IsReady sizes (suc (suc levels)) old tree trunks
-        → EmptiesBelow sizes gone (suc levels) cell.view.child only old mid first bytes → HasCells sizes mid TableInterior next beside last → middle.view.child ≡ only → Gives sizes cell.view.child mid given
+        → EmptiesBelow sizes gone (suc levels) cell.view.child only old mid first bytes → HasCells sizes mid TableInterior next beside last → middle.view.child ≡ only → Releases sizes cell.view.child mid given
         → HasBecome tree trunks (middle ∷ beside) last
     left-become tree trunks is free ready empties has_beside names gives =
         let p = pair-there tree trunks is ready in
@@ -355,37 +245,14 @@ module _ (sizes : Sizes) (gone : Member) (levels : ℕ) where
           at = p;
           both = left-opened old p.left p.divider there trunks mid given first bytes middle p.within p.stands p.right_stands free is_cell (rowid ∙ sym (ap (λ (c : Spelled). c.view.rowid) p.same)) only beside last
               (subst⁻¹ (λ (n : ℕ). EmptiesBelow sizes gone (suc levels) n only old mid first bytes) p.named empties) (subst⁻¹ (λ (n : ℕ). HasCells sizes mid TableInterior n beside last) p.right_named has_beside) names
-              (subst⁻¹ (λ (n : ℕ). Gives sizes n mid given) p.named gives);
+              (subst⁻¹ (λ (n : ℕ). Releases sizes n mid given) p.named gives);
         }
 
-    become-written : (tree : TreeOf (suc (suc levels))) (trunks : List Trunk) (so : List Spelled) (its_last : ℕ) → HasBecome tree trunks so its_last → 0 < length so → Writes next given written
-        → IsPage (written.pages next) next sizes.usable TableInterior (bytes_in so) its_last → HasUnder tree trunks so its_last
-    become-written tree trunks so its_last b some writes is_page =
-        let p = b.at in
-        let there = child_at (length p.before) (p.before ++ p.behind) tree.last in
-        record {
-          at = p;
-          whole = pair-settled old p.left p.divider there trunks given written first bytes so its_last b.both some (subst⁻¹ (λ (n : ℕ). Writes n given written) p.right_named writes)
-              (subst⁻¹ (λ (n : ℕ). IsPage (written.pages n) n sizes.usable TableInterior (bytes_in so) its_last) p.right_named is_page);
-        }
-
-    right-under : (tree : TreeOf (suc (suc levels))) (trunks : List Trunk) → tree.page ≡ page → IsFree sizes old trunks → IsReady sizes (suc (suc levels)) old tree trunks
-        → EmptiesBelow sizes gone (suc levels) next only old mid first bytes → HasCells sizes mid TableInterior cell.view.child beside last → middle.view.child ≡ last → Gives sizes cell.view.child mid given → Writes next given written
-        → IsPage (written.pages next) next sizes.usable TableInterior (bytes_in (beside ++ middle ∷ [])) only → HasUnder tree trunks (beside ++ middle ∷ []) only
-    right-under tree trunks is free ready empties has_beside names gives writes is_page =
-        become-written tree trunks (beside ++ middle ∷ []) only (right-become tree trunks is free ready empties has_beside names gives) (omega (arith, length-append beside (middle ∷ []))) writes is_page
-
-    left-under : (tree : TreeOf (suc (suc levels))) (trunks : List Trunk) → tree.page ≡ page → IsFree sizes old trunks → IsReady sizes (suc (suc levels)) old tree trunks
-        → EmptiesBelow sizes gone (suc levels) cell.view.child only old mid first bytes → HasCells sizes mid TableInterior next beside last → middle.view.child ≡ only → Gives sizes cell.view.child mid given → Writes next given written
-        → IsPage (written.pages next) next sizes.usable TableInterior (bytes_in (middle ∷ beside)) last → HasUnder tree trunks (middle ∷ beside) last
-    left-under tree trunks is free ready empties has_beside names gives writes is_page =
-        become-written tree trunks (middle ∷ beside) last (left-become tree trunks is free ready empties has_beside names gives) (omega arith) writes is_page
-
-    -- Where the two do not go into one page they are cut again, and so is their parent where it has no room.
-    become-cut : (tree : TreeOf (suc (suc levels))) (trunks : List Trunk) (so : List Spelled) (its_last : ℕ) (grew : List Spelled) (new : Paged) (dividers : List Spelled) → tree.page ≡ page → IsFree sizes old trunks → IsReady sizes (suc (suc levels)) old tree trunks
-        → HasBecome tree trunks so its_last → 0 < length so → IsSettled sizes (suc levels) Table next its_last so given written grew → 0 < length (with_dividers (front ++ back) (length front) grew)
-        → IsSettled sizes (suc (suc levels)) Table page right (with_dividers (front ++ back) (length front) grew) written new dividers → GrownDone sizes gone (suc (suc levels)) old tree trunks new dividers first bytes
-    become-cut tree trunks so its_last grew new dividers is free ready b some settled some_parent settled_parent =
+    -- What the two became is settled: the parent is to have the dividers that came in place of the cell that came down.
+    become-settled : (tree : TreeOf (suc (suc levels))) (trunks : List Trunk) (so : List Spelled) (its_last : ℕ) (grew : List Spelled) → IsReady sizes (suc (suc levels)) old tree trunks
+        → HasBecome tree trunks so its_last → 0 < length so → IsSettled sizes (suc levels) Table next its_last so given written grew
+        → OpenedDone sizes gone (suc (suc levels)) old tree trunks written (with_dividers (front ++ back) (length front) grew) right first bytes
+    become-settled tree trunks so its_last grew ready b some settled =
         let p = b.at in
         let i = length p.before in
         let others = p.before ++ p.behind in
@@ -406,97 +273,27 @@ module _ (sizes : Sizes) (gone : Member) (levels : ℕ) where
         ap (λ (cs : List Spelled). with_dividers cs (length front) grew) p.others ∙ ap (λ (k : ℕ). with_dividers (map spelled (cells_behind others)) k grew) long
         ∙ ap (λ (ds : List Spelled). with_dividers (map spelled (cells_behind others)) i ds) (sym s.dividers_are) ∙ dividers-in i others s.siblings s.home (omega (arith, length-append p.before p.behind)) in
         let right_is : right ≡ page_of (suc levels) home.last = p.last_is ∙ sym (last-same (suc levels) i others tree.last there s.home last_page ∙ ap (page_of (suc levels)) among.1) in
-        let parent_after : After (suc (suc levels)) = record { base = written; siblings = []; home = home; trunks = s.trunks; first = first; bytes = bytes; chain = o.chain } in
-        let r = cut-settled sizes gone (suc levels) dividers (alone (suc (suc levels)) old (parent_with (suc levels) tree.page i others tree.last ((p.left, p.divider) ∷ []) there) trunks) parent_after
-        (with_dividers (front ++ back) (length front) grew) right new (s.done.opened.turns.freelist free) opened cells_are right_is some_parent
-        (subst⁻¹ (λ (n : ℕ). IsSettled sizes (suc (suc levels)) Table n right (with_dividers (front ++ back) (length front) grew) written new dividers) is settled_parent) in
         record {
-          siblings = r.siblings;
-          home = r.home;
-          rest = r.trunks;
+          home = home;
+          rest = s.trunks;
           chain = o.chain;
-          deleted = subst (λ (t : TreeOf (suc (suc levels))). IsDeleted sizes (suc (suc levels)) gone (alone (suc (suc levels)) old t trunks)
-              (record { base = new; siblings = r.siblings; home = r.home; trunks = r.trunks; first = first; bytes = bytes; chain = o.chain })) p.was r.done;
-          page = r.page;
-          dividers_are = r.dividers_are;
-          some = r.some;
+          opened = subst (λ (t : TreeOf (suc (suc levels))). IsOpened sizes (suc (suc levels)) gone (alone (suc (suc levels)) old t trunks)
+              (record { base = written; siblings = []; home = home; trunks = s.trunks; first = first; bytes = bytes; chain = o.chain })) p.was opened;
+          page = refl;
+          cells_are = cells_are;
+          right_is = right_is;
         }
 
-    parent-of : (tree : TreeOf (suc (suc levels))) (trunks : List Trunk) (so : List Spelled) (its_last : ℕ) → IsReady sizes (suc (suc levels)) old tree trunks → HasUnder tree trunks so its_last
-        → HasParent old tree trunks front back written first bytes right
-    parent-of tree trunks so its_last ready u = pair-parent tree trunks u.at u.whole.home ready u.whole.joined
+    -- The right one has no cell any more. The page behind the cell gets the cells of the one that the cell names, and the cell that came down.
+    pub right-joins : EmptiesBelow sizes gone (suc levels) next only old mid first bytes → HasCells sizes mid TableInterior cell.view.child beside last → middle.view.child ≡ last → Releases sizes cell.view.child mid given
+        → (grew : List Spelled) → IsSettled sizes (suc levels) Table next only (beside ++ middle ∷ []) given written grew
+        → OpensBelow sizes gone (suc (suc levels)) page (with_dividers (front ++ back) (length front) grew) right old written first bytes
+    right-joins empties has_beside names gives grew settled tree trunks is free ready =
+        become-settled tree trunks (beside ++ middle ∷ []) only grew ready (right-become tree trunks is free ready empties has_beside names gives) (omega (arith, length-append beside (middle ∷ []))) settled
 
-    -- A root whose two children were joined takes what they became, and their page is given back.
-    root-of-joined : (tree : TreeOf (suc (suc levels))) (trunks : List Trunk) (so : List Spelled) (its_last : ℕ) (taken new : Paged) → front ++ back ≡ [] → tree.page ≡ page → IsFree sizes old trunks
-        → IsReady sizes (suc (suc levels)) old tree trunks → HasUnder tree trunks so its_last → Writes page written taken → IsPage (taken.pages page) page sizes.usable TableInterior (bytes_in so) its_last → Gives sizes next taken new
-        → RootDone sizes gone (suc (suc levels)) old tree trunks new first bytes
-    root-of-joined tree trunks so its_last taken new none is free ready u writes is_page gives =
-        let p = u.at in
-        let w = u.whole in
-        let others = p.before ++ p.behind in
-        let there = child_at (length p.before) others tree.last in
-        let empty : others ≡ [] = nil_from_length others
-        (omega (arith, ap length p.others, ap length none, length-map (cells_behind others) spelled, length-map others (λ (child : TreeOf (suc levels) × TreeCell). child.1))) in
-        let was : record { page = tree.page; children = (p.left, p.divider) ∷ []; last = there } ≡ tree =
-        subst (λ (o : List (TreeOf (suc levels) × TreeCell)). parent_with (suc levels) tree.page (length p.before) o tree.last ((p.left, p.divider) ∷ []) there ≡ tree) empty p.was in
-        let root : record { page = page; children = (p.left, p.divider) ∷ []; last = there } ≡ tree =
-        subst (λ (n : ℕ). record { page = n; children = (p.left, p.divider) ∷ []; last = there } ≡ tree) is was in
-        let count = λ (n : ℕ). ap (λ (t : TreeOf (suc (suc levels))). times n (pages_of (suc (suc levels)) t)) root in
-        let after : After (suc levels) = record { base = written; siblings = []; home = w.home; trunks = w.joined.rest; first = first; bytes = bytes; chain = w.joined.chain } in
-        subst (λ (t : TreeOf (suc (suc levels))). RootDone sizes gone (suc (suc levels)) old t trunks new first bytes) root
-        (
-        sunk sizes gone (suc levels) page (pair (suc levels) old p.left p.divider there trunks) after taken new (λ n. omega (arith, ready.within n, count n)) free w.joined.done.opened refl writes
-        (own-page sizes levels taken (moved (suc levels) page w.home) page so its_last refl w.cells_are w.last_is is_page) (subst⁻¹ (λ (n : ℕ). Gives sizes n taken new) (w.joined.page ∙ p.right_named) gives) (λ deep other. w.joined.some)
-        )
-
-    -- The parent keeps a cell, and is written without the one between the two.
-    pub right-joins : EmptiesBelow sizes gone (suc levels) next only old mid first bytes → HasCells sizes mid TableInterior cell.view.child beside last → middle.view.child ≡ last → Gives sizes cell.view.child mid given
-        → Writes next given written → IsPage (written.pages next) next sizes.usable TableInterior (bytes_in (beside ++ middle ∷ [])) only → (new : Paged) → Writes page written new
-        → IsPage (new.pages page) page sizes.usable TableInterior (bytes_in (front ++ back)) right → DeleteBelow sizes gone (suc (suc levels)) page old new (length (front ++ back)) first bytes
-    right-joins empties has_beside names gives writes is_page new writes_own written_own tree trunks is free ready =
-        let h = parent-of tree trunks (beside ++ middle ∷ []) only ready (right-under tree trunks is free ready empties has_beside names gives writes is_page) in
-        interior-written sizes gone (suc levels) old tree trunks h.home written first bytes h.opened page new (front ++ back) right is h.cells h.right_is writes_own written_own h.page
-
-    pub left-joins : EmptiesBelow sizes gone (suc levels) cell.view.child only old mid first bytes → HasCells sizes mid TableInterior next beside last → middle.view.child ≡ only → Gives sizes cell.view.child mid given
-        → Writes next given written → IsPage (written.pages next) next sizes.usable TableInterior (bytes_in (middle ∷ beside)) last → (new : Paged) → Writes page written new
-        → IsPage (new.pages page) page sizes.usable TableInterior (bytes_in (front ++ back)) right → DeleteBelow sizes gone (suc (suc levels)) page old new (length (front ++ back)) first bytes
-    left-joins empties has_beside names gives writes is_page new writes_own written_own tree trunks is free ready =
-        let h = parent-of tree trunks (middle ∷ beside) last ready (left-under tree trunks is free ready empties has_beside names gives writes is_page) in
-        interior-written sizes gone (suc levels) old tree trunks h.home written first bytes h.opened page new (front ++ back) right is h.cells h.right_is writes_own written_own h.page
-
-    -- The parent has no other cell, and is not written.
-    pub right-joins-only : front ++ back ≡ [] → EmptiesBelow sizes gone (suc levels) next only old mid first bytes → HasCells sizes mid TableInterior cell.view.child beside last → middle.view.child ≡ last → Gives sizes cell.view.child mid given
-        → Writes next given written → IsPage (written.pages next) next sizes.usable TableInterior (bytes_in (beside ++ middle ∷ [])) only → EmptiesBelow sizes gone (suc (suc levels)) page right old written first bytes
-    right-joins-only none empties has_beside names gives writes is_page tree trunks is free ready =
-        emptied-parent old tree trunks front back written first bytes right none (parent-of tree trunks (beside ++ middle ∷ []) only ready (right-under tree trunks is free ready empties has_beside names gives writes is_page))
-
-    pub left-joins-only : front ++ back ≡ [] → EmptiesBelow sizes gone (suc levels) cell.view.child only old mid first bytes → HasCells sizes mid TableInterior next beside last → middle.view.child ≡ only → Gives sizes cell.view.child mid given
-        → Writes next given written → IsPage (written.pages next) next sizes.usable TableInterior (bytes_in (middle ∷ beside)) last → EmptiesBelow sizes gone (suc (suc levels)) page right old written first bytes
-    left-joins-only none empties has_beside names gives writes is_page tree trunks is free ready =
-        emptied-parent old tree trunks front back written first bytes right none (parent-of tree trunks (middle ∷ beside) last ready (left-under tree trunks is free ready empties has_beside names gives writes is_page))
-
-    -- A root with two children, which are joined.
-    pub right-joins-root : front ++ back ≡ [] → EmptiesBelow sizes gone (suc levels) next only old mid first bytes → HasCells sizes mid TableInterior cell.view.child beside last → middle.view.child ≡ last → Gives sizes cell.view.child mid given → Writes next given written
-        → IsPage (written.pages next) next sizes.usable TableInterior (bytes_in (beside ++ middle ∷ [])) only → (taken new : Paged) → Writes page written taken
-        → IsPage (taken.pages page) page sizes.usable TableInterior (bytes_in (beside ++ middle ∷ [])) only → Gives sizes next taken new → DeleteAt sizes gone (suc (suc levels)) page old new first bytes
-    right-joins-root none empties has_beside names gives writes is_page taken new writes_own written_own gives_last tree trunks is free ready =
-        root-of-joined tree trunks (beside ++ middle ∷ []) only taken new none is free ready (right-under tree trunks is free ready empties has_beside names gives writes is_page) writes_own written_own gives_last
-
-    pub left-joins-root : front ++ back ≡ [] → EmptiesBelow sizes gone (suc levels) cell.view.child only old mid first bytes → HasCells sizes mid TableInterior next beside last → middle.view.child ≡ only → Gives sizes cell.view.child mid given → Writes next given written
-        → IsPage (written.pages next) next sizes.usable TableInterior (bytes_in (middle ∷ beside)) last → (taken new : Paged) → Writes page written taken
-        → IsPage (taken.pages page) page sizes.usable TableInterior (bytes_in (middle ∷ beside)) last → Gives sizes next taken new → DeleteAt sizes gone (suc (suc levels)) page old new first bytes
-    left-joins-root none empties has_beside names gives writes is_page taken new writes_own written_own gives_last tree trunks is free ready =
-        root-of-joined tree trunks (middle ∷ beside) last taken new none is free ready (left-under tree trunks is free ready empties has_beside names gives writes is_page) writes_own written_own gives_last
-
-    -- Two pages that do not go into one are joined and cut again, and their parent gets the dividers in place of the one that came down.
-    pub right-joins-cut : EmptiesBelow sizes gone (suc levels) next only old mid first bytes → HasCells sizes mid TableInterior cell.view.child beside last → middle.view.child ≡ last → Gives sizes cell.view.child mid given → (grew : List Spelled) → IsSettled sizes (suc levels) Table next only (beside ++ middle ∷ []) given written grew
-        → (new : Paged) (dividers : List Spelled) → 0 < length (with_dividers (front ++ back) (length front) grew) → IsSettled sizes (suc (suc levels)) Table page right (with_dividers (front ++ back) (length front) grew) written new dividers
-        → GrowsBelow sizes gone (suc (suc levels)) page old new dividers first bytes
-    right-joins-cut empties has_beside names gives grew settled new dividers some settled_parent tree trunks is free ready =
-        become-cut tree trunks (beside ++ middle ∷ []) only grew new dividers is free ready (right-become tree trunks is free ready empties has_beside names gives) (omega (arith, length-append beside (middle ∷ []))) settled some settled_parent
-
-    pub left-joins-cut : EmptiesBelow sizes gone (suc levels) cell.view.child only old mid first bytes → HasCells sizes mid TableInterior next beside last → middle.view.child ≡ only → Gives sizes cell.view.child mid given → (grew : List Spelled) → IsSettled sizes (suc levels) Table next last (middle ∷ beside) given written grew
-        → (new : Paged) (dividers : List Spelled) → 0 < length (with_dividers (front ++ back) (length front) grew) → IsSettled sizes (suc (suc levels)) Table page right (with_dividers (front ++ back) (length front) grew) written new dividers
-        → GrowsBelow sizes gone (suc (suc levels)) page old new dividers first bytes
-    left-joins-cut empties has_beside names gives grew settled new dividers some settled_parent tree trunks is free ready =
-        become-cut tree trunks (middle ∷ beside) last grew new dividers is free ready (left-become tree trunks is free ready empties has_beside names gives) (omega arith) settled some settled_parent
+    -- The left one has none: the page behind the cell gets the cell that came down in front of its own.
+    pub left-joins : EmptiesBelow sizes gone (suc levels) cell.view.child only old mid first bytes → HasCells sizes mid TableInterior next beside last → middle.view.child ≡ only → Releases sizes cell.view.child mid given
+        → (grew : List Spelled) → IsSettled sizes (suc levels) Table next last (middle ∷ beside) given written grew
+        → OpensBelow sizes gone (suc (suc levels)) page (with_dividers (front ++ back) (length front) grew) right old written first bytes
+    left-joins empties has_beside names gives grew settled tree trunks is free ready =
+        become-settled tree trunks (middle ∷ beside) last grew ready (left-become tree trunks is free ready empties has_beside names gives) (omega arith) settled

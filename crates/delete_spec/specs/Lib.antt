@@ -6,4 +6,5 @@ pub mod MissingLaws
 pub mod NeighboursLaws
 pub mod Steps
 pub mod StepsLaws
+pub mod UnderLaws
 pub mod WorldsLaws

@@ -19,7 +19,7 @@ use Rattle.put_spec.specs.Children.{Belongs, Meets, views_of, child_at}
 use Rattle.put_spec.specs.ChildrenLaws.{child-stands, list-join}
 use Rattle.put_spec.specs.Steps.{Spelled, spelled, views_in, HasCells, child_page}
 use Rattle.put_spec.specs.StepsLaws.{page-tells}
-use Rattle.delete_spec.specs.Steps.{HasNone, MissingBelow}
+use Rattle.delete_spec.specs.Steps.{HasNone, MissingBelow, MissingUnder}
 use Rattle.delete_spec.specs.StepsLaws.{child-page}
 
 views-spelled : (cells : List TreeCell) → views_in (map spelled cells) ≡ views_of cells
@@ -81,10 +81,10 @@ module _ (sizes : Sizes) (rowid : ℤ) where
 
   -- In a world, a table of which the root has no row of a rowid below it has none.
   pub missing-in-world : (front : List Rooted) (old : Rooted) (back : List Rooted) (base : Paged) (trunks : List Trunk) → old.kind ≡ Table → IsWorld sizes base (with_tree front old back trunks)
-      → MissingBelow sizes old.levels (root_of old) rowid base → (m : Member) → Contains (list_in old) m → m.rowid ≢ rowid
+      → MissingUnder sizes (root_of old) rowid base → (m : Member) → Contains (list_in old) m → m.rowid ≢ rowid
   missing-in-world front old back base trunks table world missing m there =
       let root = world-root sizes base front old back trunks world in
-      let none = missing old.tree below_rowids greatest_rowid refl (subst (λ (k : TreeKind). Stands sizes base k old.levels old.tree) table root.stands)
+      let none = missing old.levels old.tree below_rowids greatest_rowid refl (subst (λ (k : TreeKind). Stands sizes base k old.levels old.tree) table root.stands)
       (subst (λ (k : TreeKind). IsOrdered k old.levels old.tree) table root.ordered) in
       let members = list_of Table old.levels old.tree in
       All-contains (λ (x : Member). x.rowid ≢ rowid) members m (All-from_recursion (λ (x : Member). x.rowid ≢ rowid) members none) (subst (λ (k : TreeKind). Contains (list_of k old.levels old.tree) m) table there)

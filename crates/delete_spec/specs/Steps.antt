@@ -2,6 +2,7 @@
 use Rattle.std.specs.Prelude.{◌≡◌, ◌≢◌, ℕ, ℤ, ◌-◌, ◌<◌, List, [], ◌∷◌, ◌++◌, length, map}
 use Rattle.std.specs.List.{AllByRecursion}
 use Rattle.byte_fields.specs.Bytes.{part_of}
+use Rattle.format_spec.specs.declared.PageKind.{PageKind}
 use Rattle.page_spec.specs.Chains.{IsChain, chain_bytes}
 use Rattle.page_spec.specs.Counts.{times}
 use Rattle.page_spec.specs.Freelists.{Trunk, free_pages}
@@ -11,7 +12,7 @@ use Rattle.tree_spec.specs.Bounds.{InOrder}
 use Rattle.tree_spec.specs.Standing.{Sizes, Paged, Stands}
 use Rattle.tree_spec.specs.Worlds.{IsFree}
 use Rattle.tree_spec.specs.Changes.{Within, Turns}
-use Rattle.put_spec.specs.Steps.{Spelled, spelled}
+use Rattle.put_spec.specs.Steps.{Spelled, spelled, HasCells}
 use Rattle.delete_spec.specs.Deletes.{alone, IsOpened, IsDeleted, IsRootDeleted}
 
 -- no member has the rowid
@@ -39,46 +40,24 @@ module _ (sizes : Sizes) where
   MissingBelow levels page rowid base = (tree : TreeOf levels) (low high : ℤ) → page_of levels tree ≡ page → Stands sizes base Table levels tree → InOrder levels low high tree → HasNone rowid (list_of Table levels tree)
 
   module _ (gone : Member) where
-    -- What a delete left of a tree, in its page, with the overflow chain of the cell that was taken out.
-    pub record DeleteDone (levels : ℕ) (old : Paged) (tree : TreeOf levels) (trunks : List Trunk) (new : Paged) (left first bytes : ℕ) : Type 0 where
-      pub home : TreeOf levels
-      pub rest : List Trunk
-      pub chain : List ℕ
-      pub deleted : IsDeleted sizes levels gone (alone levels old tree trunks) (record { base = new; siblings = []; home = home; trunks = rest; first = first; bytes = bytes; chain = chain })
-      pub page : page_of levels home ≡ page_of levels tree
-      pub cells : length (own_cells levels home) ≡ left
-
-    -- The tree's page would have no cell any more, but it is not written; in an interior page one child is left, the right one.
-    pub record EmptiedDone (levels : ℕ) (old : Paged) (tree : TreeOf levels) (trunks : List Trunk) (new : Paged) (only first bytes : ℕ) : Type 0 where
+    -- What a delete left of a tree, but for its own page, which is still to be written: it is to have these cells, and this right child, 0 in a leaf. The overflow chain of the cell that was taken out is in hand.
+    pub record OpenedDone (levels : ℕ) (old : Paged) (tree : TreeOf levels) (trunks : List Trunk) (new : Paged) (cells : List Spelled) (right first bytes : ℕ) : Type 0 where
       pub home : TreeOf levels
       pub rest : List Trunk
       pub chain : List ℕ
       pub opened : IsOpened sizes levels gone (alone levels old tree trunks) (record { base = new; siblings = []; home = home; trunks = rest; first = first; bytes = bytes; chain = chain })
       pub page : page_of levels home ≡ page_of levels tree
-      pub none : own_cells levels home ≡ []
-      pub right_is : own_right levels home ≡ only
+      pub cells_are : cells ≡ map spelled (own_cells levels home)
+      pub right_is : right ≡ own_right levels home
 
-    -- whatever tree stands at the page, the delete is done, and the page has so many cells left
-    abbrev pub DeleteBelow : (levels : ℕ) → ℕ → Paged → Paged → ℕ → ℕ → ℕ → Type 0
-    DeleteBelow levels page old new left first bytes =
-        (tree : TreeOf levels) (trunks : List Trunk) → page_of levels tree ≡ page → IsFree sizes old trunks → IsReady levels old tree trunks → DeleteDone levels old tree trunks new left first bytes
+    -- whatever tree stands at the page, the delete is done but for this page, which is to have these cells
+    abbrev pub OpensBelow : (levels : ℕ) → ℕ → List Spelled → ℕ → Paged → Paged → ℕ → ℕ → Type 0
+    OpensBelow levels page cells right old new first bytes =
+        (tree : TreeOf levels) (trunks : List Trunk) → page_of levels tree ≡ page → IsFree sizes old trunks → IsReady levels old tree trunks → OpenedDone levels old tree trunks new cells right first bytes
 
-    -- whatever tree stands at the page, the delete leaves it without a cell, and with this right child: 0 in a leaf
+    -- the page would have no cell any more, and is not written; in an interior page one child is left, the right one
     abbrev pub EmptiesBelow : (levels : ℕ) → ℕ → ℕ → Paged → Paged → ℕ → ℕ → Type 0
-    EmptiesBelow levels page only old new first bytes =
-        (tree : TreeOf levels) (trunks : List Trunk) → page_of levels tree ≡ page → IsFree sizes old trunks → IsReady levels old tree trunks → EmptiedDone levels old tree trunks new only first bytes
-
-    -- What a delete has made of the tree of a root.
-    pub record RootDone (levels : ℕ) (old : Paged) (tree : TreeOf levels) (trunks : List Trunk) (new : Paged) (first bytes : ℕ) : Type 0 where
-      pub rooted : Rooted
-      pub rest : List Trunk
-      pub chain : List ℕ
-      pub deleted : IsRootDeleted sizes levels gone old tree trunks new rooted first bytes chain rest
-
-    -- whatever tree stands at the root, the row is out of it
-    abbrev pub DeleteAt : (levels : ℕ) → ℕ → Paged → Paged → ℕ → ℕ → Type 0
-    DeleteAt levels root old new first bytes =
-        (tree : TreeOf levels) (trunks : List Trunk) → page_of levels tree ≡ root → IsFree sizes old trunks → IsReady levels old tree trunks → RootDone levels old tree trunks new first bytes
+    EmptiesBelow levels page only old new first bytes = OpensBelow levels page [] only old new first bytes
 
     -- What a delete left of a tree that may have been cut: its page has a cell, and in front of it stand the pages that the dividers name.
     pub record GrownDone (levels : ℕ) (old : Paged) (tree : TreeOf levels) (trunks : List Trunk) (new : Paged) (dividers : List Spelled) (first bytes : ℕ) : Type 0 where
@@ -95,3 +74,36 @@ module _ (sizes : Sizes) where
     abbrev pub GrowsBelow : (levels : ℕ) → ℕ → Paged → Paged → List Spelled → ℕ → ℕ → Type 0
     GrowsBelow levels page old new dividers first bytes =
         (tree : TreeOf levels) (trunks : List Trunk) → page_of levels tree ≡ page → IsFree sizes old trunks → IsReady levels old tree trunks → GrownDone levels old tree trunks new dividers first bytes
+
+    -- What a delete has made of the tree of a root.
+    pub record RootDone (levels : ℕ) (old : Paged) (tree : TreeOf levels) (trunks : List Trunk) (new : Paged) (first bytes : ℕ) : Type 0 where
+      pub rooted : Rooted
+      pub rest : List Trunk
+      pub chain : List ℕ
+      pub deleted : IsRootDeleted sizes levels gone old tree trunks new rooted first bytes chain rest
+
+    -- whatever tree stands at the root, the row is out of it
+    abbrev pub DeleteAt : (levels : ℕ) → ℕ → Paged → Paged → ℕ → ℕ → Type 0
+    DeleteAt levels root old new first bytes =
+        (tree : TreeOf levels) (trunks : List Trunk) → page_of levels tree ≡ root → IsFree sizes old trunks → IsReady levels old tree trunks → RootDone levels old tree trunks new first bytes
+
+    -- The same whatever levels the tree has: a writer that meets a page knows its kind alone.
+    abbrev pub OpensUnder : ℕ → List Spelled → ℕ → Paged → Paged → ℕ → ℕ → Type 0
+    OpensUnder page cells right old new first bytes = (levels : ℕ) → OpensBelow levels page cells right old new first bytes
+
+    abbrev pub GrowsUnder : ℕ → Paged → Paged → List Spelled → ℕ → ℕ → Type 0
+    GrowsUnder page old new dividers first bytes = (levels : ℕ) → GrowsBelow levels page old new dividers first bytes
+
+    abbrev pub DeleteInto : ℕ → Paged → Paged → ℕ → ℕ → Type 0
+    DeleteInto root old new first bytes = (levels : ℕ) → DeleteAt levels root old new first bytes
+
+    -- a page of this kind would have no cell any more
+    pub record EmptiesPage (page_kind : PageKind) (page only : ℕ) (old new : Paged) (first bytes : ℕ) : Type 0 where
+      pub cells : List Spelled
+      pub right : ℕ
+      pub has : HasCells sizes old page_kind page cells right
+      pub empties : OpensUnder page [] only old new first bytes
+
+  -- whatever tree stands at the page, of whatever levels, none of its rows has the rowid
+  abbrev pub MissingUnder : ℕ → ℤ → Paged → Type 0
+  MissingUnder page rowid base = (levels : ℕ) → MissingBelow levels page rowid base

@@ -12,9 +12,9 @@ ghost use Rattle.tree_spec.specs.Worlds.{IsWorld, with_tree, greatest_count, sla
 ghost use Rattle.tree_spec.specs.Changes.{Within, Turns, Writes};
 ghost use Rattle.put_spec.specs.Children.{Belongs, Meets, Rises, child_at, children_with, last_with};
 ghost use Rattle.put_spec.specs.Puts.{After, IsInteriorCut, cut_after, moved, deeper};
-ghost use Rattle.put_spec.specs.Steps.{Spelled, bytes_in, views_in, HasCells, child_page, with_dividers, IsSettled, IsDeepened, GivesBack};
-ghost use Rattle.delete_spec.specs.Deletes.{TakenOut, Before, hand_of, alone, pair, became, parent_with, IsOpened, IsLoose, IsDeleted, IsRootDeleted, IsWorldDeleted};
-ghost use Rattle.delete_spec.specs.Steps.{Gives, IsPayload, DeleteBelow, EmptiesBelow, GrowsBelow, DeleteAt, MissingBelow};
+ghost use Rattle.put_spec.specs.Steps.{Spelled, bytes_in, views_in, HasCells, child_page, with_dividers, IsSettled, IsRooted, Releases, GivesBack};
+ghost use Rattle.delete_spec.specs.Deletes.{TakenOut, Before, hand_of, alone, pair, became, parent_with, IsOpened, IsLoose, IsDeleted, IsSunk, IsRootDeleted, IsWorldDeleted};
+ghost use Rattle.delete_spec.specs.Steps.{IsPayload, OpensUnder, GrowsUnder, EmptiesPage, DeleteInto, MissingUnder};
 
 /// A cell is taken out of a leaf, and its overflow chain is in hand then.
 pub fn cell_is_taken_out_of_a_leaf()
@@ -103,9 +103,9 @@ pub fn root_has_the_delete()
     ensures stays { (sizes : Sizes) (levels : ℕ) (gone : Member) (base : Paged) (tree : TreeOf levels) (trunks : List Trunk) (after : After levels) → IsDeleted sizes levels gone (alone levels base tree trunks) after
         → after.siblings ≡ [] → page_of levels after.home ≡ page_of levels tree → (0 < levels → page_of levels after.home ≢ 1 → 0 < length (own_cells levels after.home))
         → IsRootDeleted sizes levels gone base tree trunks after.base (record { kind = Table; levels = levels; tree = after.home }) after.first after.bytes after.chain after.trunks }
-    ensures sinks { (sizes : Sizes) (levels : ℕ) (gone : Member) (page : ℕ) (before : Before levels) (after : After levels) (mid new : Paged) (trunks : List Trunk) → IsOpened sizes levels gone before after → after.siblings ≡ []
+    ensures sinks { (sizes : Sizes) (levels : ℕ) (gone : Member) (page : ℕ) (before : Before levels) (after : After levels) (mid new : Paged) (trunks : List Trunk) → IsSunk sizes levels gone page before after
         → Within sizes before.base (page ∷ hand_of before) before.trunks → Writes page after.base mid → HasOwnPage sizes mid Table levels (moved levels page after.home)
-        → Turns sizes mid (page_of levels after.home ∷ []) after.trunks new [] trunks → (0 < levels → page ≢ 1 → 0 < length (own_cells levels after.home))
+        → Turns sizes mid (page_of levels after.home ∷ []) after.trunks new [] trunks
         → IsRootDeleted sizes (suc levels) gone before.base (record { page = page; children = before.siblings; last = before.home }) before.trunks new
         (record { kind = Table; levels = levels; tree = moved levels page after.home }) after.first after.bytes after.chain trunks }
     ensures rises { (sizes : Sizes) (levels : ℕ) (gone : Member) (before : Before levels) (after : After levels) (fresh : ℕ) (mid new : Paged) (trunks : List Trunk) → IsOpened sizes levels gone before after → before.siblings ≡ []
@@ -129,123 +129,82 @@ pub fn delete_changes_one_row()
     ensures was { (gone : Member) (old new : List Member) → TakenOut gone old new → Contains old gone }
 {}
 
-/// A leaf is written without the cell of a row; one of a single cell is not written, and has none any more.
-pub fn leaf_is_written_without_a_row()
-    ensures kept { (sizes : Sizes) (gone : Member) (page : ℕ) (old : Paged) (cells : List Spelled) (right : ℕ) (front : List Spelled) (cell : Spelled) (back : List Spelled) (new : Paged) → HasCells sizes old TableLeaf page cells right
-        → cells ≡ front ++ cell ∷ back → gone.rowid ≡ cell.view.rowid → IsPayload sizes old cell gone.payload → Writes page old new
-        → IsPage (new.pages page) page sizes.usable TableLeaf (bytes_in (front ++ back)) 0
-        → DeleteBelow sizes gone zero page old new (length (front ++ back)) cell.view.overflow (cell.view.payload - cell.view.local) }
-    ensures emptied { (sizes : Sizes) (gone : Member) (page : ℕ) (old : Paged) (cells : List Spelled) (right : ℕ) (cell : Spelled) → HasCells sizes old TableLeaf page cells right → cells ≡ cell ∷ [] → gone.rowid ≡ cell.view.rowid
-        → IsPayload sizes old cell gone.payload → EmptiesBelow sizes gone zero page 0 old old cell.view.overflow (cell.view.payload - cell.view.local) }
+/// A leaf loses the cell of a row. It is written without it, unless it has no other and is no root.
+pub fn leaf_loses_a_row()
+    ensures opens { (sizes : Sizes) (gone : Member) (first bytes page : ℕ) (old : Paged) (cells : List Spelled) (right : ℕ) (front : List Spelled) (cell : Spelled) (back : List Spelled) → HasCells sizes old TableLeaf page cells right
+        → cells ≡ front ++ cell ∷ back → gone.rowid ≡ cell.view.rowid → IsPayload sizes old cell gone.payload → first ≡ cell.view.overflow → bytes ≡ cell.view.payload - cell.view.local
+        → OpensUnder sizes gone page (front ++ back) 0 old old first bytes }
+    ensures written { (sizes : Sizes) (gone : Member) (first bytes page : ℕ) (old : Paged) (cells : List Spelled) (right : ℕ) (opened : List Spelled) (new : Paged) → HasCells sizes old TableLeaf page cells right
+        → OpensUnder sizes gone page opened 0 old old first bytes → 0 < length opened → Writes page old new → IsPage (new.pages page) page sizes.usable TableLeaf (bytes_in opened) 0 → GrowsUnder sizes gone page old new [] first bytes }
+    ensures root { (sizes : Sizes) (gone : Member) (first bytes root : ℕ) (old : Paged) (cells : List Spelled) (right : ℕ) (opened : List Spelled) (new : Paged) → HasCells sizes old TableLeaf root cells right
+        → OpensUnder sizes gone root opened 0 old old first bytes → Writes root old new → IsPage (new.pages root) root sizes.usable TableLeaf (bytes_in opened) 0 → DeleteInto sizes gone root old new first bytes }
 {}
 
-/// A delete below a child that keeps a cell is one below its parent, which is not written.
-pub fn parent_of_a_delete_stays()
-    ensures { (sizes : Sizes) (gone : Member) (levels page : ℕ) (old : Paged) (cells : List Spelled) (right at : ℕ) (new : Paged) (left first bytes : ℕ) → HasCells sizes old TableInterior page cells right
-        → DeleteBelow sizes gone levels (child_page at cells right) old new left first bytes → 0 < left → DeleteBelow sizes gone (suc levels) page old new (length cells) first bytes }
+/// Where a child was cut the page is to have the dividers that came, and is settled, or a root's cells are moved out. Where no divider came the page is not written.
+pub fn parent_of_a_delete()
+    ensures grown { (sizes : Sizes) (gone : Member) (first bytes page : ℕ) (old : Paged) (cells : List Spelled) (right at : ℕ) (between : Paged) (grew : List Spelled) → HasCells sizes old TableInterior page cells right
+        → at ≤ length cells → GrowsUnder sizes gone (child_page at cells right) old between grew first bytes → OpensUnder sizes gone page (with_dividers cells at grew) right old between first bytes }
+    ensures stays { (sizes : Sizes) (gone : Member) (first bytes page : ℕ) (old : Paged) (cells : List Spelled) (right at : ℕ) (new : Paged) → HasCells sizes old TableInterior page cells right → 0 < length cells
+        → GrowsUnder sizes gone (child_page at cells right) old new [] first bytes → GrowsUnder sizes gone page old new [] first bytes }
+    ensures root_stays { (sizes : Sizes) (gone : Member) (first bytes root : ℕ) (old : Paged) (cells : List Spelled) (right at : ℕ) (new : Paged) → HasCells sizes old TableInterior root cells right → (root ≢ 1 → 0 < length cells)
+        → GrowsUnder sizes gone (child_page at cells right) old new [] first bytes → DeleteInto sizes gone root old new first bytes }
+    ensures settled { (sizes : Sizes) (gone : Member) (first bytes page : ℕ) (old : Paged) (cells : List Spelled) (right : ℕ) (opened : List Spelled) (its_right : ℕ) (mid new : Paged) (dividers : List Spelled)
+        → HasCells sizes old TableInterior page cells right → OpensUnder sizes gone page opened its_right old mid first bytes → 0 < length opened
+        → ((levels : ℕ) → IsSettled sizes (suc levels) Table page its_right opened mid new dividers) → GrowsUnder sizes gone page old new dividers first bytes }
+    ensures rooted { (sizes : Sizes) (gone : Member) (first bytes root : ℕ) (old : Paged) (cells : List Spelled) (right : ℕ) (opened : List Spelled) (its_right : ℕ) (mid new : Paged) → HasCells sizes old TableInterior root cells right
+        → OpensUnder sizes gone root opened its_right old mid first bytes → (root ≢ 1 → 0 < length opened) → ((levels : ℕ) → IsRooted sizes (suc levels) Table root its_right opened mid new) → DeleteInto sizes gone root old new first bytes }
 {}
 
-/// The parent of a leaf that goes is written without the cell that names it; where the last leaf goes, the one before it becomes the right child.
-pub fn parent_of_a_leaf_that_goes_is_written()
-    ensures left { (sizes : Sizes) (gone : Member) (page : ℕ) (old : Paged) (cells : List Spelled) (right : ℕ) (front : List Spelled) (cell : Spelled) (back : List Spelled) (mid given new : Paged) (first bytes : ℕ) → HasCells sizes old TableInterior page cells right
-        → cells ≡ front ++ cell ∷ back → EmptiesBelow sizes gone zero cell.view.child 0 old mid first bytes → Gives sizes cell.view.child mid given → Writes page given new
-        → IsPage (new.pages page) page sizes.usable TableInterior (bytes_in (front ++ back)) right → DeleteBelow sizes gone (suc zero) page old new (length (front ++ back)) first bytes }
-    ensures last { (sizes : Sizes) (gone : Member) (page : ℕ) (old : Paged) (cells : List Spelled) (right : ℕ) (front : List Spelled) (cell : Spelled) (mid given new : Paged) (first bytes : ℕ) → HasCells sizes old TableInterior page cells right
-        → cells ≡ front ++ cell ∷ [] → EmptiesBelow sizes gone zero right 0 old mid first bytes → Gives sizes right mid given → Writes page given new
-        → IsPage (new.pages page) page sizes.usable TableInterior (bytes_in front) cell.view.child → DeleteBelow sizes gone (suc zero) page old new (length front) first bytes }
+/// The parent of a leaf that goes is to have its cells without the one that names it; where the last leaf goes, the one before it becomes the right child.
+pub fn leaf_that_goes_leaves_its_parent()
+    ensures named { (sizes : Sizes) (gone : Member) (first bytes page : ℕ) (old : Paged) (cells : List Spelled) (right : ℕ) (front : List Spelled) (cell : Spelled) (back : List Spelled) (mid given : Paged)
+        → HasCells sizes old TableInterior page cells right → cells ≡ front ++ cell ∷ back → EmptiesPage sizes gone TableLeaf cell.view.child 0 old mid first bytes → Releases sizes cell.view.child mid given
+        → OpensUnder sizes gone page (front ++ back) right old given first bytes }
+    ensures last { (sizes : Sizes) (gone : Member) (first bytes page : ℕ) (old : Paged) (cells : List Spelled) (right : ℕ) (front : List Spelled) (cell : Spelled) (mid given : Paged)
+        → HasCells sizes old TableInterior page cells right → cells ≡ front ++ cell ∷ [] → EmptiesPage sizes gone TableLeaf right 0 old mid first bytes → Releases sizes right mid given
+        → OpensUnder sizes gone page front cell.view.child old given first bytes }
 {}
 
-/// A root stays where it keeps a cell, or needs none; one with two leaves of which one goes takes the cells of the other; page 1 without a cell takes what its only child has, where that has no cell either.
-pub fn root_of_a_delete_is_written()
-    ensures kept { (sizes : Sizes) (gone : Member) (levels root : ℕ) (old new : Paged) (left first bytes : ℕ) → DeleteBelow sizes gone levels root old new left first bytes → (0 < levels → root ≢ 1 → 0 < left)
-        → DeleteAt sizes gone levels root old new first bytes }
-    ensures left { (sizes : Sizes) (gone : Member) (root : ℕ) (old : Paged) (cells : List Spelled) (right : ℕ) (cell : Spelled) (mid given : Paged) (first bytes : ℕ) (kept : List Spelled) (none : ℕ) (written new : Paged)
-        → HasCells sizes old TableInterior root cells right → cells ≡ cell ∷ [] → EmptiesBelow sizes gone zero cell.view.child 0 old mid first bytes → Gives sizes cell.view.child mid given
-        → HasCells sizes given TableLeaf right kept none → Writes root given written → IsPage (written.pages root) root sizes.usable TableLeaf (bytes_in kept) 0 → Gives sizes right written new
-        → DeleteAt sizes gone (suc zero) root old new first bytes }
-    ensures right { (sizes : Sizes) (gone : Member) (root : ℕ) (old : Paged) (cells : List Spelled) (right : ℕ) (cell : Spelled) (mid given : Paged) (first bytes : ℕ) (kept : List Spelled) (none : ℕ) (written new : Paged)
-        → HasCells sizes old TableInterior root cells right → cells ≡ cell ∷ [] → EmptiesBelow sizes gone zero right 0 old mid first bytes → Gives sizes right mid given
-        → HasCells sizes given TableLeaf cell.view.child kept none → Writes root given written → IsPage (written.pages root) root sizes.usable TableLeaf (bytes_in kept) 0 → Gives sizes cell.view.child written new
-        → DeleteAt sizes gone (suc zero) root old new first bytes }
-    ensures only_child { (sizes : Sizes) (gone : Member) (levels : ℕ) (old : Paged) (right only : ℕ) (mid written new : Paged) (first bytes : ℕ) → HasCells sizes old TableInterior 1 [] right → EmptiesBelow sizes gone levels right only old mid first bytes
-        → Writes 1 mid written → IsPage (written.pages 1) 1 sizes.usable (kind_at Table levels) [] only → Gives sizes right written new → DeleteAt sizes gone (suc levels) 1 old new first bytes }
-{}
-
-/// What a writer did at a root is a delete in its world, once the overflow chain of the cell that was taken out is given back.
-pub fn writer_deletes_in_a_world()
-    ensures { (sizes : Sizes) (gone : Member) (front : List Rooted) (old : Rooted) (back : List Rooted) (a b c : Paged) (p : List Trunk) (first bytes : ℕ) → old.kind ≡ Table → IsWorld sizes a (with_tree front old back p)
-        → DeleteAt sizes gone old.levels (root_of old) a b first bytes → GivesBack sizes first bytes b c → c.count ≤ greatest_count → IsWorldDeleted sizes gone front old back a p c }
-{}
-
-/// The parent of a leaf that goes and that has no other cell is not written: one child is left.
-pub fn parent_of_a_leaf_that_goes_is_emptied()
-    ensures left { (sizes : Sizes) (gone : Member) (page : ℕ) (old : Paged) (cells : List Spelled) (right : ℕ) (cell : Spelled) (mid given : Paged) (first bytes : ℕ) → HasCells sizes old TableInterior page cells right → cells ≡ cell ∷ []
-        → EmptiesBelow sizes gone zero cell.view.child 0 old mid first bytes → Gives sizes cell.view.child mid given → EmptiesBelow sizes gone (suc zero) page right old given first bytes }
-    ensures last { (sizes : Sizes) (gone : Member) (page : ℕ) (old : Paged) (cells : List Spelled) (right : ℕ) (cell : Spelled) (mid given : Paged) (first bytes : ℕ) → HasCells sizes old TableInterior page cells right → cells ≡ cell ∷ []
-        → EmptiesBelow sizes gone zero right 0 old mid first bytes → Gives sizes right mid given → EmptiesBelow sizes gone (suc zero) page cell.view.child old given first bytes }
-{}
-
-/// Of two interior pages beside one another one has no cell any more: the other takes its only child, and the divider between them. Their parent is written without the cell of the left one, or, where it has no other, is not written; a root takes what the two became. Where they do not go into one page they are cut again.
+/// Of two interior pages beside one another one has no cell any more: they become one, in the page behind the cell between them, which comes down. That page is settled, and their parent is to have the dividers that came in place of the cell.
 pub fn interior_neighbours_are_joined()
-    ensures right { (sizes : Sizes) (gone : Member) (levels page : ℕ) (old : Paged) (cells : List Spelled) (right : ℕ) (front : List Spelled) (cell : Spelled) (back : List Spelled) (only : ℕ) (mid given written : Paged) (first bytes : ℕ)
+    ensures right { (sizes : Sizes) (gone : Member) (first bytes page : ℕ) (old : Paged) (cells : List Spelled) (right : ℕ) (front : List Spelled) (cell : Spelled) (back : List Spelled) (only : ℕ) (mid given written : Paged)
         (middle : Spelled) (beside : List Spelled) (last : ℕ) → HasCells sizes old TableInterior page cells right → cells ≡ front ++ cell ∷ back → IsCell TableInterior sizes.usable middle.bytes middle.view → middle.view.rowid ≡ cell.view.rowid
-        → EmptiesBelow sizes gone (suc levels) (child_page (length front) (front ++ back) right) only old mid first bytes → HasCells sizes mid TableInterior cell.view.child beside last → middle.view.child ≡ last → Gives sizes cell.view.child mid given
-        → Writes (child_page (length front) (front ++ back) right) given written → IsPage (written.pages (child_page (length front) (front ++ back) right)) (child_page (length front) (front ++ back) right) sizes.usable TableInterior (bytes_in (beside ++ middle ∷ [])) only → (new : Paged) → Writes page written new
-        → IsPage (new.pages page) page sizes.usable TableInterior (bytes_in (front ++ back)) right → DeleteBelow sizes gone (suc (suc levels)) page old new (length (front ++ back)) first bytes }
-    ensures left { (sizes : Sizes) (gone : Member) (levels page : ℕ) (old : Paged) (cells : List Spelled) (right : ℕ) (front : List Spelled) (cell : Spelled) (back : List Spelled) (only : ℕ) (mid given written : Paged) (first bytes : ℕ)
+        → (grew : List Spelled) → EmptiesPage sizes gone TableInterior (child_page (length front) (front ++ back) right) only old mid first bytes → HasCells sizes mid TableInterior cell.view.child beside last → middle.view.child ≡ last
+        → Releases sizes cell.view.child mid given → ((levels : ℕ) → IsSettled sizes (suc levels) Table (child_page (length front) (front ++ back) right) only (beside ++ middle ∷ []) given written grew)
+        → OpensUnder sizes gone page (with_dividers (front ++ back) (length front) grew) right old written first bytes }
+    ensures left { (sizes : Sizes) (gone : Member) (first bytes page : ℕ) (old : Paged) (cells : List Spelled) (right : ℕ) (front : List Spelled) (cell : Spelled) (back : List Spelled) (only : ℕ) (mid given written : Paged)
         (middle : Spelled) (beside : List Spelled) (last : ℕ) → HasCells sizes old TableInterior page cells right → cells ≡ front ++ cell ∷ back → IsCell TableInterior sizes.usable middle.bytes middle.view → middle.view.rowid ≡ cell.view.rowid
-        → EmptiesBelow sizes gone (suc levels) cell.view.child only old mid first bytes → HasCells sizes mid TableInterior (child_page (length front) (front ++ back) right) beside last → middle.view.child ≡ only → Gives sizes cell.view.child mid given
-        → Writes (child_page (length front) (front ++ back) right) given written → IsPage (written.pages (child_page (length front) (front ++ back) right)) (child_page (length front) (front ++ back) right) sizes.usable TableInterior (bytes_in (middle ∷ beside)) last → (new : Paged) → Writes page written new
-        → IsPage (new.pages page) page sizes.usable TableInterior (bytes_in (front ++ back)) right → DeleteBelow sizes gone (suc (suc levels)) page old new (length (front ++ back)) first bytes }
-    ensures right_only { (sizes : Sizes) (gone : Member) (levels page : ℕ) (old : Paged) (cells : List Spelled) (right : ℕ) (front : List Spelled) (cell : Spelled) (back : List Spelled) (only : ℕ) (mid given written : Paged) (first bytes : ℕ)
-        (middle : Spelled) (beside : List Spelled) (last : ℕ) → HasCells sizes old TableInterior page cells right → cells ≡ front ++ cell ∷ back → IsCell TableInterior sizes.usable middle.bytes middle.view → middle.view.rowid ≡ cell.view.rowid
-        → front ++ back ≡ [] → EmptiesBelow sizes gone (suc levels) (child_page (length front) (front ++ back) right) only old mid first bytes → HasCells sizes mid TableInterior cell.view.child beside last → middle.view.child ≡ last → Gives sizes cell.view.child mid given
-        → Writes (child_page (length front) (front ++ back) right) given written → IsPage (written.pages (child_page (length front) (front ++ back) right)) (child_page (length front) (front ++ back) right) sizes.usable TableInterior (bytes_in (beside ++ middle ∷ [])) only → EmptiesBelow sizes gone (suc (suc levels)) page right old written first bytes }
-    ensures left_only { (sizes : Sizes) (gone : Member) (levels page : ℕ) (old : Paged) (cells : List Spelled) (right : ℕ) (front : List Spelled) (cell : Spelled) (back : List Spelled) (only : ℕ) (mid given written : Paged) (first bytes : ℕ)
-        (middle : Spelled) (beside : List Spelled) (last : ℕ) → HasCells sizes old TableInterior page cells right → cells ≡ front ++ cell ∷ back → IsCell TableInterior sizes.usable middle.bytes middle.view → middle.view.rowid ≡ cell.view.rowid
-        → front ++ back ≡ [] → EmptiesBelow sizes gone (suc levels) cell.view.child only old mid first bytes → HasCells sizes mid TableInterior (child_page (length front) (front ++ back) right) beside last → middle.view.child ≡ only → Gives sizes cell.view.child mid given
-        → Writes (child_page (length front) (front ++ back) right) given written → IsPage (written.pages (child_page (length front) (front ++ back) right)) (child_page (length front) (front ++ back) right) sizes.usable TableInterior (bytes_in (middle ∷ beside)) last → EmptiesBelow sizes gone (suc (suc levels)) page right old written first bytes }
-    ensures right_root { (sizes : Sizes) (gone : Member) (levels page : ℕ) (old : Paged) (cells : List Spelled) (right : ℕ) (front : List Spelled) (cell : Spelled) (back : List Spelled) (only : ℕ) (mid given written : Paged) (first bytes : ℕ)
-        (middle : Spelled) (beside : List Spelled) (last : ℕ) → HasCells sizes old TableInterior page cells right → cells ≡ front ++ cell ∷ back → IsCell TableInterior sizes.usable middle.bytes middle.view → middle.view.rowid ≡ cell.view.rowid
-        → front ++ back ≡ [] → EmptiesBelow sizes gone (suc levels) (child_page (length front) (front ++ back) right) only old mid first bytes → HasCells sizes mid TableInterior cell.view.child beside last → middle.view.child ≡ last → Gives sizes cell.view.child mid given → Writes (child_page (length front) (front ++ back) right) given written
-        → IsPage (written.pages (child_page (length front) (front ++ back) right)) (child_page (length front) (front ++ back) right) sizes.usable TableInterior (bytes_in (beside ++ middle ∷ [])) only → (taken new : Paged) → Writes page written taken
-        → IsPage (taken.pages page) page sizes.usable TableInterior (bytes_in (beside ++ middle ∷ [])) only → Gives sizes (child_page (length front) (front ++ back) right) taken new → DeleteAt sizes gone (suc (suc levels)) page old new first bytes }
-    ensures left_root { (sizes : Sizes) (gone : Member) (levels page : ℕ) (old : Paged) (cells : List Spelled) (right : ℕ) (front : List Spelled) (cell : Spelled) (back : List Spelled) (only : ℕ) (mid given written : Paged) (first bytes : ℕ)
-        (middle : Spelled) (beside : List Spelled) (last : ℕ) → HasCells sizes old TableInterior page cells right → cells ≡ front ++ cell ∷ back → IsCell TableInterior sizes.usable middle.bytes middle.view → middle.view.rowid ≡ cell.view.rowid
-        → front ++ back ≡ [] → EmptiesBelow sizes gone (suc levels) cell.view.child only old mid first bytes → HasCells sizes mid TableInterior (child_page (length front) (front ++ back) right) beside last → middle.view.child ≡ only → Gives sizes cell.view.child mid given → Writes (child_page (length front) (front ++ back) right) given written
-        → IsPage (written.pages (child_page (length front) (front ++ back) right)) (child_page (length front) (front ++ back) right) sizes.usable TableInterior (bytes_in (middle ∷ beside)) last → (taken new : Paged) → Writes page written taken
-        → IsPage (taken.pages page) page sizes.usable TableInterior (bytes_in (middle ∷ beside)) last → Gives sizes (child_page (length front) (front ++ back) right) taken new → DeleteAt sizes gone (suc (suc levels)) page old new first bytes }
-    ensures right_cut { (sizes : Sizes) (gone : Member) (levels page : ℕ) (old : Paged) (cells : List Spelled) (right : ℕ) (front : List Spelled) (cell : Spelled) (back : List Spelled) (only : ℕ) (mid given written : Paged) (first bytes : ℕ)
-        (middle : Spelled) (beside : List Spelled) (last : ℕ) → HasCells sizes old TableInterior page cells right → cells ≡ front ++ cell ∷ back → IsCell TableInterior sizes.usable middle.bytes middle.view → middle.view.rowid ≡ cell.view.rowid
-        → EmptiesBelow sizes gone (suc levels) (child_page (length front) (front ++ back) right) only old mid first bytes → HasCells sizes mid TableInterior cell.view.child beside last → middle.view.child ≡ last → Gives sizes cell.view.child mid given → (grew : List Spelled) → IsSettled sizes (suc levels) Table (child_page (length front) (front ++ back) right) only (beside ++ middle ∷ []) given written grew
-        → (new : Paged) (dividers : List Spelled) → 0 < length (with_dividers (front ++ back) (length front) grew) → IsSettled sizes (suc (suc levels)) Table page right (with_dividers (front ++ back) (length front) grew) written new dividers
-        → GrowsBelow sizes gone (suc (suc levels)) page old new dividers first bytes }
-    ensures left_cut { (sizes : Sizes) (gone : Member) (levels page : ℕ) (old : Paged) (cells : List Spelled) (right : ℕ) (front : List Spelled) (cell : Spelled) (back : List Spelled) (only : ℕ) (mid given written : Paged) (first bytes : ℕ)
-        (middle : Spelled) (beside : List Spelled) (last : ℕ) → HasCells sizes old TableInterior page cells right → cells ≡ front ++ cell ∷ back → IsCell TableInterior sizes.usable middle.bytes middle.view → middle.view.rowid ≡ cell.view.rowid
-        → EmptiesBelow sizes gone (suc levels) cell.view.child only old mid first bytes → HasCells sizes mid TableInterior (child_page (length front) (front ++ back) right) beside last → middle.view.child ≡ only → Gives sizes cell.view.child mid given → (grew : List Spelled) → IsSettled sizes (suc levels) Table (child_page (length front) (front ++ back) right) last (middle ∷ beside) given written grew
-        → (new : Paged) (dividers : List Spelled) → 0 < length (with_dividers (front ++ back) (length front) grew) → IsSettled sizes (suc (suc levels)) Table page right (with_dividers (front ++ back) (length front) grew) written new dividers
-        → GrowsBelow sizes gone (suc (suc levels)) page old new dividers first bytes }
+        → (grew : List Spelled) → EmptiesPage sizes gone TableInterior cell.view.child only old mid first bytes → HasCells sizes mid TableInterior (child_page (length front) (front ++ back) right) beside last → middle.view.child ≡ only
+        → Releases sizes cell.view.child mid given → ((levels : ℕ) → IsSettled sizes (suc levels) Table (child_page (length front) (front ++ back) right) last (middle ∷ beside) given written grew)
+        → OpensUnder sizes gone page (with_dividers (front ++ back) (length front) grew) right old written first bytes }
+{}
+
+/// A root that is to have no cell, and one child, takes what that has, and the child's page is given back. So does page 1 without a cell where its only child has none any more.
+pub fn root_takes_its_only_child()
+    ensures leaf { (sizes : Sizes) (gone : Member) (first bytes root : ℕ) (old : Paged) (cells : List Spelled) (right its_right : ℕ) (mid : Paged) (kept : List Spelled) (none : ℕ) (written new : Paged)
+        → HasCells sizes old TableInterior root cells right → OpensUnder sizes gone root [] its_right old mid first bytes → HasCells sizes mid TableLeaf its_right kept none
+        → Writes root mid written → IsPage (written.pages root) root sizes.usable TableLeaf (bytes_in kept) none → Releases sizes its_right written new → DeleteInto sizes gone root old new first bytes }
+    ensures interior { (sizes : Sizes) (gone : Member) (first bytes root : ℕ) (old : Paged) (cells : List Spelled) (right its_right : ℕ) (mid : Paged) (kept : List Spelled) (last : ℕ) (written new : Paged)
+        → HasCells sizes old TableInterior root cells right → OpensUnder sizes gone root [] its_right old mid first bytes → HasCells sizes mid TableInterior its_right kept last
+        → Writes root mid written → IsPage (written.pages root) root sizes.usable TableInterior (bytes_in kept) last → Releases sizes its_right written new → DeleteInto sizes gone root old new first bytes }
+    ensures only_leaf { (sizes : Sizes) (gone : Member) (first bytes : ℕ) (old : Paged) (right : ℕ) (mid written new : Paged) → HasCells sizes old TableInterior 1 [] right → EmptiesPage sizes gone TableLeaf right 0 old mid first bytes
+        → Writes 1 mid written → IsPage (written.pages 1) 1 sizes.usable TableLeaf [] 0 → Releases sizes right written new → DeleteInto sizes gone 1 old new first bytes }
+    ensures only_interior { (sizes : Sizes) (gone : Member) (first bytes : ℕ) (old : Paged) (right only : ℕ) (mid written new : Paged) → HasCells sizes old TableInterior 1 [] right → EmptiesPage sizes gone TableInterior right only old mid first bytes
+        → Writes 1 mid written → IsPage (written.pages 1) 1 sizes.usable TableInterior [] only → Releases sizes right written new → DeleteInto sizes gone 1 old new first bytes }
 {}
 
 /// A row that is not found where its rowid belongs is not there.
 pub fn missing_row_is_not_there()
     ensures leaf { (sizes : Sizes) (rowid : ℤ) (page : ℕ) (base : Paged) (cells : List Spelled) (right i : ℕ) → HasCells sizes base TableLeaf page cells right → Belongs rowid i (views_in cells) → ¬ Meets rowid i (views_in cells)
-        → MissingBelow sizes zero page rowid base }
-    ensures interior { (sizes : Sizes) (rowid : ℤ) (levels page : ℕ) (base : Paged) (cells : List Spelled) (right i : ℕ) → HasCells sizes base TableInterior page cells right → Belongs rowid i (views_in cells)
-        → MissingBelow sizes levels (child_page i cells right) rowid base → MissingBelow sizes (suc levels) page rowid base }
+        → MissingUnder sizes page rowid base }
+    ensures interior { (sizes : Sizes) (rowid : ℤ) (page : ℕ) (base : Paged) (cells : List Spelled) (right i : ℕ) → HasCells sizes base TableInterior page cells right → Belongs rowid i (views_in cells)
+        → MissingUnder sizes (child_page i cells right) rowid base → MissingUnder sizes page rowid base }
     ensures world { (sizes : Sizes) (rowid : ℤ) (front : List Rooted) (old : Rooted) (back : List Rooted) (base : Paged) (trunks : List Trunk) → old.kind ≡ Table → IsWorld sizes base (with_tree front old back trunks)
-        → MissingBelow sizes old.levels (root_of old) rowid base → (m : Member) → Contains (list_in old) m → m.rowid ≢ rowid }
+        → MissingUnder sizes (root_of old) rowid base → (m : Member) → Contains (list_in old) m → m.rowid ≢ rowid }
 {}
 
-/// Where a child was cut, or a divider became longer, the page with the dividers that came is cut or written, and a root gets a level. Where nothing came, the page is not written, and a root stays.
-pub fn page_of_a_delete_is_cut()
-    ensures kept { (sizes : Sizes) (gone : Member) (levels page : ℕ) (old new : Paged) (left first bytes : ℕ) → DeleteBelow sizes gone levels page old new left first bytes → 0 < left → GrowsBelow sizes gone levels page old new [] first bytes }
-    ensures parent { (sizes : Sizes) (gone : Member) (levels page : ℕ) (old : Paged) (cells : List Spelled) (right at : ℕ) (between : Paged) (grew : List Spelled) (first bytes : ℕ) (new : Paged) (dividers : List Spelled) → HasCells sizes old TableInterior page cells right
-        → at ≤ length cells → 0 < length (with_dividers cells at grew) → GrowsBelow sizes gone levels (child_page at cells right) old between grew first bytes
-        → IsSettled sizes (suc levels) Table page right (with_dividers cells at grew) between new dividers → GrowsBelow sizes gone (suc levels) page old new dividers first bytes }
-    ensures parent_stays { (sizes : Sizes) (gone : Member) (levels page : ℕ) (old : Paged) (cells : List Spelled) (right at : ℕ) (new : Paged) (first bytes : ℕ) → HasCells sizes old TableInterior page cells right
-        → GrowsBelow sizes gone levels (child_page at cells right) old new [] first bytes → DeleteBelow sizes gone (suc levels) page old new (length cells) first bytes }
-    ensures root_stays { (sizes : Sizes) (gone : Member) (levels root : ℕ) (old new : Paged) (first bytes : ℕ) → GrowsBelow sizes gone levels root old new [] first bytes → DeleteAt sizes gone levels root old new first bytes }
-    ensures root { (sizes : Sizes) (gone : Member) (levels root : ℕ) (old between new : Paged) (dividers : List Spelled) (first bytes : ℕ) → GrowsBelow sizes gone (suc levels) root old between dividers first bytes
-        → IsDeepened sizes TableInterior Table root dividers between new → DeleteAt sizes gone (suc levels) root old new first bytes }
+/// What a writer did at a root is a delete in its world, once the overflow chain of the cell that was taken out is given back.
+pub fn writer_deletes_in_a_world()
+    ensures { (sizes : Sizes) (gone : Member) (front : List Rooted) (old : Rooted) (back : List Rooted) (a b c : Paged) (p : List Trunk) (first bytes : ℕ) → old.kind ≡ Table → IsWorld sizes a (with_tree front old back p)
+        → DeleteInto sizes gone (root_of old) a b first bytes → GivesBack sizes first bytes b c → c.count ≤ greatest_count → IsWorldDeleted sizes gone front old back a p c }
 {}

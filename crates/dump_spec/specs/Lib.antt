@@ -1,3 +1,5 @@
 pub mod Printing
 pub mod SchemaRows
 pub mod SchemaRowsLaws
+pub mod SchemaDumps
+pub mod SchemaDumpsLaws

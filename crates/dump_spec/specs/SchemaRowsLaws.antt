@@ -1,12 +1,12 @@
 -- The members of a schema table have one text, or one first that is no row of it: crates above cite these facts in their proofs.
-use Rattle.std.proofs.Common.{◌≡◌, ℕ, ℤ, List, [], ◌∷◌, ◌++◌, Result, refl, sym, ap, ap₂, ◌∙◌, inl, inr}
+use Rattle.std.proofs.Common.{◌≡◌, ℕ, ℤ, List, [], ◌∷◌, ◌++◌, refl, sym, ap₂, ◌∙◌, inl, inr}
 use Rattle.common_spec.specs.Reading.{OrFault}
 use Rattle.common_spec.specs.ReadingLaws.{IsOne, OrFault-one}
 use Rattle.rbu_value.specs.declared.value.Value.{Value}
 use Rattle.record_codec.specs.RecordLaws.{record-same}
 use Rattle.tree_spec.specs.Trees.{Member}
 use Rattle.dump_spec.specs.Printing.{row_line}
-use Rattle.dump_spec.specs.SchemaRows.{IsSchemaRecord, AreLines, IsBad, IsFirstBad}
+use Rattle.dump_spec.specs.SchemaRows.{AreLines, IsFirstBad}
 
 -- the text of members is one
 AreLines-one : (members : List Member) → IsOne (AreLines members)

@@ -1,1 +1,2 @@
 mod FileReads
+mod LogCalls

@@ -1,10 +1,10 @@
 -- The pages of a file by the header of its first bytes are those of the file.
-use Rattle.std.proofs.Common.{◌≡◌, ℕ, ◌+◌, ◌≤◌, ◌/◌, ◌==◌, ◌&&◌, nat_lt, if◌then◌else◌, List, length, take, refl, sym, ap, ap₂, ◌∙◌, arith}
+use Rattle.std.proofs.Common.{◌≡◌, ℕ, ◌+◌, ◌≤◌, ◌/◌, ◌==◌, ◌&&◌, nat_lt, if◌then◌else◌, List, length, take, sym, ap, ap₂, ◌∙◌, arith}
 use Rattle.byte_fields.specs.Numbers.{number_at, page_at}
 use Rattle.byte_fields.specs.NumbersLaws.{number_at-take}
 use Rattle.format_spec.specs.Sizes.{size_from_field}
 use Rattle.format_spec.specs.Header.{page_bytes, pages, change_counter, version_valid_for}
-use Rattle.format_spec.specs.PageMap.{PageMap, SamePages, page_count, file_pages}
+use Rattle.format_spec.specs.PageMap.{SamePages, page_count, file_pages}
 use Rattle.db_header.specs.declared.fields.Header.{Header}
 use Rattle.db_header.specs.Reading.{IsHeaderOf, counted_pages}
 use Rattle.file_pages.specs.FileMap.{map_by}

@@ -1,5 +1,5 @@
 // Takes a page.
-ghost use Rattle.std.specs.Prelude.{◌≡◌, ◌⊎◌, ◌^◌, ◌<◌, ◌≤◌, IfErr, IfOk, IfSome, OnOk, Some, List, length};
+ghost use Rattle.std.specs.Prelude.{◌≡◌, ◌⊎◌, ◌^◌, ◌<◌, ◌≤◌, IfErr, IfOk, IfSome, OnOk, Some, List, length, max};
 ghost use Rattle.common_spec.specs.Reading.{OrFault, ReadsOrWants};
 ghost use Rattle.common_spec.specs.Told.{Leads};
 ghost use Rattle.page_spec.specs.Pages.{Pages, IsInRange};
@@ -120,6 +120,7 @@ pub fn allocate<S: PageWrite>(
     ensures changes { (m : Pages) → S.pages store.old ≡ Some m → IfOk result (λ page. ChangesFew (S.count store.old) page m (S.pages store.new)) }
     ensures in_range { IfOk result (IsNumber S.PageRead store.new) }
     ensures count { OnOk result (S.count store.old ≤ S.count store.new) }
+    ensures most { OnOk result (S.count store.new ≤ max limit (S.count store.old)) }
     ensures stays { StaysRefused S.PageRead store.old store.new result }
     ensures owes { OwesBy S.PageRead fault_in store.old store.new result }
 {

@@ -1,4 +1,4 @@
-// Cursors over a table's tree of three levels, and over trees that are damaged.
+// Cursors over a table's and an index's tree of three levels, and over trees that are damaged.
 
 use crate::stores::{ensure, is_whole, put_page, store_of};
 use page_store::{PageRead, PlainStore};
@@ -51,6 +51,39 @@ fn table(alloc: Global) -> Result<PlainStore, Fail> {
     for at in 0..5 {
         let rowid = 10 + 20 * at;
         put_page(&mut store, 5 + u32::from(at), &leaf(rowid, rowid + 10))?;
+    }
+    Ok(store)
+}
+
+// An index's leaf with two entries, each of one value.
+fn index_leaf(first: u8, second: u8) -> [u8; 512] {
+    page_of(
+        b"\x0a\x00\x00\x00\x02\x01\xf8\x00\x01\xf8\x01\xfc",
+        &[3, 2, 1, first, 3, 2, 1, second],
+    )
+}
+
+// An index's interior page with one entry.
+fn index_interior(child: u8, value: u8, right: u8) -> [u8; 512] {
+    page_of(
+        &[2, 0, 0, 0, 1, 1, 248, 0, 0, 0, 0, right, 1, 248],
+        &[0, 0, 0, child, 3, 2, 1, value],
+    )
+}
+
+// An index at root 2, in three levels: its entries are 1 to 14, of which 3, 6, 9 and 12 stand in interior pages.
+fn index(alloc: Global) -> Result<PlainStore, Fail> {
+    let mut store = store_of(alloc, 9)?;
+    put_page(&mut store, 2, &index_interior(3, 9, 4))?;
+    let three = page_of(
+        b"\x02\x00\x00\x00\x02\x01\xf0\x00\x00\x00\x00\x07\x01\xf0\x01\xf8",
+        b"\x00\x00\x00\x05\x03\x02\x01\x03\x00\x00\x00\x06\x03\x02\x01\x06",
+    );
+    put_page(&mut store, 3, &three)?;
+    put_page(&mut store, 4, &index_interior(8, 12, 9))?;
+    for at in 0..5 {
+        let value = 1 + 3 * at;
+        put_page(&mut store, 5 + u32::from(at), &index_leaf(value, value + 1))?;
     }
     Ok(store)
 }
@@ -114,6 +147,19 @@ fn stands_at(
     }
 }
 
+// Whether a cursor stands at the entry of this value, which has no rowid.
+fn stands_at_entry(
+    alloc: Global,
+    store: &mut PlainStore,
+    cursor: &Cursor,
+    value: u8,
+) -> Result<bool, Fail> {
+    match row(alloc, store, cursor)? {
+        Some(row) => Ok(row.rowid == 0 && row.payload.as_slice() == [2, 1, value].as_slice()),
+        None => Ok(false),
+    }
+}
+
 // Whether a cursor that was sought stands at the row of this rowid.
 fn finds(alloc: Global, store: &mut PlainStore, sought: i64, rowid: u8) -> Result<bool, Fail> {
     let cursor = seek(alloc, store, sought)?;
@@ -138,6 +184,22 @@ fn rows_of_three_levels_come_in_order(rt: HostRuntime) -> Result<(), Fail> {
         )?;
         let moved = next(alloc, &mut store, &mut cursor)?;
         ensure(moved == (rowid < 100), "the last row is the last")?;
+    }
+    ensure(row(alloc, &mut store, &cursor)?.is_none(), "past the last")
+}
+
+#[test]
+fn entries_of_three_levels_come_in_order(rt: HostRuntime) -> Result<(), Fail> {
+    let alloc = rt.alloc();
+    let mut store = index(alloc)?;
+    let mut cursor = first(alloc, &mut store)?;
+    for value in 1..15u8 {
+        ensure(
+            stands_at_entry(alloc, &mut store, &cursor, value)?,
+            "each entry once, in order",
+        )?;
+        let moved = next(alloc, &mut store, &mut cursor)?;
+        ensure(moved == (value < 14), "the last entry is the last")?;
     }
     ensure(row(alloc, &mut store, &cursor)?.is_none(), "past the last")
 }

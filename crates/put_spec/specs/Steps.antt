@@ -7,7 +7,8 @@ use Rattle.format_spec.specs.declared.CellView.{CellView}
 use Rattle.format_spec.specs.Cell.{IsCell}
 use Rattle.format_spec.specs.Page.{IsPage}
 use Rattle.page_spec.specs.Chains.{IsChain}
-use Rattle.page_spec.specs.Freelists.{Trunk}
+use Rattle.page_spec.specs.Counts.{times}
+use Rattle.page_spec.specs.Freelists.{Trunk, free_pages}
 use Rattle.tree_spec.specs.declared.TreeKind.{TreeKind}
 use Rattle.tree_spec.specs.declared.TreeKind.TheVariants.{Table, Index}
 use Rattle.tree_spec.specs.Trees.{member, list_in, root_of, TreeCell, TreeOf, Rooted, interior_kind, kind_at, page_of, cells_behind}
@@ -92,6 +93,10 @@ module _ (sizes : Sizes) where
   -- a page was taken from the free pages, or added at the end, and may have been written
   abbrev pub Took : ℕ → Paged → Paged → Type 0
   Took fresh old new = (trunks : List Trunk) → IsFree sizes old trunks → (rest : List Trunk) × Turns sizes old [] trunks new (fresh ∷ []) rest
+
+  -- a page was given back: it is free now
+  abbrev pub Releases : ℕ → Paged → Paged → Type 0
+  Releases page old new = (trunks : List Trunk) → IsFree sizes old trunks → times page (free_pages trunks) ≡ 0 → (rest : List Trunk) × Turns sizes old (page ∷ []) trunks new [] rest
 
   -- The front of some cells was put on a page that was taken, which the divider names.
   pub record IsFronted (levels : ℕ) (kind : TreeKind) (cells : List Spelled) (divider : Spelled) (back : List Spelled) (old new : Paged) : Type 0 where

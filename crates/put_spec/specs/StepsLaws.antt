@@ -207,12 +207,12 @@ module _ (sizes : Sizes) (kind : TreeKind) where
     pub dividers_are : map spelled (cells_behind siblings) ≡ map spelled (cells_behind after.siblings) ++ dividers
 
   -- the cells between siblings, with one more sibling
-  siblings-cells : {Child : Type 0} (siblings : List (Child × TreeCell)) (left : Child) (cell : TreeCell) (divider : Spelled) (dividers : List Spelled) → spelled cell ≡ divider
+  pub siblings-cells : {Child : Type 0} (siblings : List (Child × TreeCell)) (left : Child) (cell : TreeCell) (divider : Spelled) (dividers : List Spelled) → spelled cell ≡ divider
       → map spelled (cells_behind (siblings ++ (left, cell) ∷ [])) ++ dividers ≡ map spelled (cells_behind siblings) ++ divider ∷ dividers
   siblings-cells [] left cell divider dividers is = ap (λ (c : Spelled). c ∷ dividers) is
   siblings-cells (x ∷ xs) left cell divider dividers is = ap (λ (l : List Spelled). spelled x.1 ∷ l) (siblings-cells xs left cell divider dividers is)
 
-  own-written : (base : Paged) (levels : ℕ) (tree : TreeOf levels) (page : ℕ) (cells : List Spelled) (right : ℕ) → page_of levels tree ≡ page → cells ≡ map spelled (own_cells levels tree)
+  pub own-written : (base : Paged) (levels : ℕ) (tree : TreeOf levels) (page : ℕ) (cells : List Spelled) (right : ℕ) → page_of levels tree ≡ page → cells ≡ map spelled (own_cells levels tree)
       → right ≡ own_right levels tree → IsPage (base.pages page) page sizes.usable (kind_at kind levels) (bytes_in cells) right → HasOwnPage sizes base kind levels tree
   own-written base levels tree page cells right is same right_is written =
       subst⁻¹ (λ (p : ℕ). IsPage (base.pages p) p sizes.usable (kind_at kind levels) (map (λ (cell : TreeCell). cell.bytes) (own_cells levels tree)) (own_right levels tree)) is
@@ -223,11 +223,11 @@ module _ (sizes : Sizes) (kind : TreeKind) where
   cells-many [] = refl
   cells-many (child ∷ children) = omega (arith, cells-many children)
 
-  moved-cells : (levels fresh : ℕ) (tree : TreeOf levels) → own_cells levels (moved levels fresh tree) ≡ own_cells levels tree
+  pub moved-cells : (levels fresh : ℕ) (tree : TreeOf levels) → own_cells levels (moved levels fresh tree) ≡ own_cells levels tree
   moved-cells zero fresh tree = refl
   moved-cells (suc levels) fresh tree = refl
 
-  moved-right : (levels fresh : ℕ) (tree : TreeOf levels) → own_right levels (moved levels fresh tree) ≡ own_right levels tree
+  pub moved-right : (levels fresh : ℕ) (tree : TreeOf levels) → own_right levels (moved levels fresh tree) ≡ own_right levels tree
   moved-right zero fresh tree = refl
   moved-right (suc levels) fresh tree = refl
 
@@ -328,7 +328,7 @@ module _ (sizes : Sizes) (kind : TreeKind) where
       }
 
   -- some cells that stand in their page were spread, and then it was written
-  settled-spread : (dividers : List Spelled) (levels page right : ℕ) (cells : List Spelled) (old new : Paged) → IsSettled sizes levels kind page right cells old new dividers
+  pub settled-spread : (dividers : List Spelled) (levels page right : ℕ) (cells : List Spelled) (old new : Paged) → IsSettled sizes levels kind page right cells old new dividers
       → (left : List Spelled) × (between : Paged) × IsSpread sizes levels kind cells old between dividers left × Writes page between new × IsPage (new.pages page) page sizes.usable (kind_at kind levels) (bytes_in left) right
   settled-spread [] levels page right cells old new done = (cells, old, (refl, refl), done.0, done.1)
   settled-spread (divider ∷ dividers) levels page right cells old new done =

@@ -1,6 +1,7 @@
 pub mod Call
 pub mod Uses
 pub mod Disk
+pub mod DiskLaws
 pub mod Sink
 pub use Rattle.common_spec.specs.Told
 pub use Rattle.common_spec.specs.Counts

@@ -2,3 +2,5 @@ mod Lines
 mod Records
 mod Stores
 mod Walking
+mod Dumps
+mod Loans

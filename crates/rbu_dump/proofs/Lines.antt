@@ -2,11 +2,10 @@
 use Rattle.std.proofs.Common.{◌≡◌, ℕ, ℤ, ◌-◌, ◌<◌, ◌≤◌, List, [], ◌∷◌, ◌++◌, length, take, drop, get_or, Result, Ok, Err, Vec, Global, refl, sym, ap, ap₂, ◌∙◌, subst, append_assoc, append-nil, inl, inr, arith}
 use Rattle.std.proofs.lemmas.List.{take_rest}
 use Rattle.common_spec.specs.Reading.{OrFault, ReadsOrWants}
-use Rattle.common_spec.specs.ReadingLaws.{IsOne, Reads-one, OrFault-one}
-use Rattle.tree_spec.specs.Trees.{Member}
+use Rattle.common_spec.specs.ReadingLaws.{IsOne, Reads-one}
 use Rattle.tree_walk.specs.declared.cursor.Row.{Row}
 use Rattle.dump_spec.specs.Printing.{row_line}
-use Rattle.dump_spec.specs.SchemaRows.{AreLines, IsFirstBad}
+use Rattle.dump_spec.specs.SchemaRows.{IsFirstBad}
 use Rattle.dump_spec.specs.SchemaRowsLaws.{schema_rows-one}
 use Rattle.rbu_dump.specs.declared.schema.SchemaFault.{SchemaFault}
 use Rattle.rbu_dump.specs.declared.schema.SchemaFault.TheVariants.{SchemaRow, Memory}

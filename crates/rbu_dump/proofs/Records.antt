@@ -1,5 +1,5 @@
 -- Whether a record has the five columns of the schema table.
-use Rattle.std.proofs.Common.{◌≡◌, ◌≢◌, ℕ, List, [], length, Option, Some, None, option_map, Result, Ok, Err, IfOk, Vec, Global, sym, subst, refl, ap, ◌∙◌, inl, inr}
+use Rattle.std.proofs.Common.{◌≡◌, ◌≢◌, ℕ, List, [], length, Option, None, option_map, Result, Ok, Err, IfOk, Vec, Global, sym, subst, refl, ap, ◌∙◌, inl, inr}
 use Rattle.std.specs.declared.alloc.AllocError.{AllocError}
 use Rattle.common_spec.specs.Reading.{Reads, OrNone, OrFault, ReadsOrWants}
 use Rattle.common_spec.specs.ReadingLaws.{IsOne, Reads-one, OrNone-one}
@@ -7,7 +7,6 @@ use Rattle.format_spec.specs.Record.{IsRecord}
 use Rattle.rbu_value.specs.declared.value.Value.{Value}
 use Rattle.record_codec.specs.RecordLaws.{record-same}
 use Rattle.record_codec.specs.declared.read.RecordFault.{RecordFault}
-use Rattle.record_codec.specs.declared.read.RecordFault.TheVariants.{ShortHeader, ReservedType, RealValue, BodyLength, Memory}
 use Rattle.record_codec.specs.Faults.{HasFault, IsMemory}
 use Rattle.dump_spec.specs.SchemaRows.{IsSchemaRecord}
 

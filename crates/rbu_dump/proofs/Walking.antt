@@ -1,14 +1,13 @@
 -- The rows that were read of a tree, and the members that are left.
-use Rattle.std.proofs.Common.{◌≡◌, ℕ, List, [], ◌∷◌, ◌++◌, Option, Some, None, Result, Ok, Err, Vec, Global, drop, map, refl, sym, ap, ap₂, ◌∙◌, append_assoc, append-nil}
+use Rattle.std.proofs.Common.{◌≡◌, ℕ, List, [], ◌∷◌, ◌++◌, Option, Some, None, Result, Ok, Err, Vec, Global, drop, refl, sym, ap, ap₂, ◌∙◌, append_assoc, append-nil}
 use Rattle.std.proofs.lemmas.List.{map-append}
 use Rattle.tree_spec.specs.declared.TreeKind.{TreeKind}
 use Rattle.tree_spec.specs.declared.fault.TreeFault.{TreeFault}
-use Rattle.tree_spec.specs.Faults.{IsOther}
-use Rattle.tree_spec.specs.Standing.{Sizes, Paged, IsTree}
+use Rattle.tree_spec.specs.Standing.{Sizes, Paged}
 use Rattle.tree_spec.specs.Trees.{Member}
 use Rattle.tree_walk.specs.declared.path.Cursor.{Cursor}
 use Rattle.tree_walk.specs.declared.cursor.Row.{Row}
-use Rattle.tree_walk.specs.Walks.{IsFirstRow, StandsAt, StandsFirst, Leaves, MovesOn, ReadsRow}
+use Rattle.tree_walk.specs.Walks.{IsFirstRow, StandsAt, StandsFirst, MovesOn, ReadsRow}
 use Rattle.rbu_dump.specs.Rows.{members_of, LeavesRow, ReadsFrom, ReadsRows}
 
 abbrev member_of : Row → Member

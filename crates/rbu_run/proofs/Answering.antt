@@ -1,16 +1,20 @@
 -- What the status of an answer says of the files.
-use Rattle.std.proofs.Common.{◌≡◌, ◌≢◌, ◌≤◌, ◌⊎◌, ℕ, ℤ, List, Option, refl, sym, ap, ◌∙◌, subst, inl, inr, arith}
+use Rattle.std.proofs.Common.{◌≡◌, ◌≢◌, ◌≤◌, ◌⊎◌, ℕ, IsTrue, List, Option, None, refl, sym, ap, ◌∙◌, subst, inl, inr, arith}
+use Rattle.std.proofs.lemmas.Bool.{false≢true}
 use Rattle.common_spec.specs.Told.{Leads}
 use Rattle.common_spec.specs.ToldLaws.{Leads-same, Leads-weaken, same-Leads}
 use Rattle.file_spec.specs.Files.{Files}
 use Rattle.refusal.specs.declared.Part.TheVariants as part
 use Rattle.refusal.specs.declared.Refusal.TheVariants.{NotYet}
 use Rattle.rbu_disk.specs.declared.disk.Disk as disk
+use Rattle.rbu_disk.specs.declared.disk.DiskFault.{DiskFault}
 use Rattle.rbu_disk.specs.declared.sink.Sink as sink
+use Rattle.rbu_disk.specs.Disk.{IsCause}
+use Rattle.answer_lines.specs.Fields.{takes_memory}
 use Rattle.update_spec.specs.declared.Outcome.{Outcome}
 use Rattle.update_spec.specs.declared.Outcome.TheVariants.{Done, KeyPresent, Refused}
 use Rattle.update_spec.specs.declared.Answer.{Answer}
-use Rattle.update_spec.specs.declared.Answer.TheVariants.{Usage, Ended, Fault, NoMemory}
+use Rattle.update_spec.specs.declared.Answer.TheVariants.{Usage, Ended, Printed, Fault, NoMemory}
 use Rattle.update_spec.specs.declared.Command.TheVariants.{Apply}
 use Rattle.update_spec.specs.Words.{IsUsage, AsksUpdate, AsksMore}
 use Rattle.update_spec.specs.Answer.{IsUpdateAnswer, IsAnswer}
@@ -19,7 +23,7 @@ use Rattle.small_spec.specs.SmallUpdate.{IsFinished, small_inserts}
 use Rattle.small_spec.specs.SmallLaws.{IsFinished-done}
 use Rattle.rbu_run.specs.Ending.{EndsAs}
 use Rattle.rbu_run.specs.Told.{IsTold}
-use Rattle.rbu_run.specs.Status.{KeepsOnFault, KeepsOnRefusal, IsHalted, HasStatusOf, IsStatus, IsOutcome, IsOfWords, IsCounted, IsOwed, TellsFault, CountsCalls, CountsWrites}
+use Rattle.rbu_run.specs.Status.{KeepsOnFault, KeepsOnRefusal, IsHalted, HasStatusOf, IsStatus, IsOutcome, IsOfUpdate, IsOfWords, answer_fault, IsCounted, IsOwed, TellsFault, CountsCalls, CountsWrites}
 use Rattle.rbu_run.proofs.Endings.{outcome-ends, fault-ends}
 
 -- an answer of the words, and what it left of the files
@@ -28,35 +32,52 @@ pub record Settled (salt : ℕ × ℕ) (words : List (List ℕ)) (before after :
   pub files : AsksUpdate words → Leads (EndsAs salt answer) before after
   pub idle : (¬ AsksUpdate words) → after ≡ before
 
--- the answer that is told: that of the command, or want of memory where the line of a constraint fault takes memory
+-- the answer that is told: that of the command, or want of memory where its text takes memory
 abbrev pub IsTellable : Answer → Answer → Type 0
-IsTellable answer told = (told ≡ answer) ⊎ ((told ≡ NoMemory) × ((table : List ℕ) × (data_rowid : ℤ) × (answer ≡ Ended (KeyPresent table data_rowid))))
+IsTellable answer told = (told ≡ answer) ⊎ ((told ≡ NoMemory) × IsTrue (takes_memory answer))
 
 pub usage-asks_no_update : (words : List (List ℕ)) → IsUsage words → ¬ AsksUpdate words
 usage-asks_no_update words usage asks = usage (Apply 4294967295) asks
 
-settled-no_memory : (salt : ℕ × ℕ) (words : List (List ℕ)) (a b : Option Files) (table : List ℕ) (id : ℤ) → Settled salt words a b (Ended (KeyPresent table id)) → Settled salt words a b NoMemory
-settled-no_memory salt words a b table id settled = record {
+-- an answer whose text takes memory leaves the files as they were
+memory-stays : (salt : ℕ × ℕ) (answer : Answer) → IsTrue (takes_memory answer) → (f g : Files) → EndsAs salt answer f g → g ≡ f
+memory-stays salt Usage takes f g ends = absurd ends
+memory-stays salt (Ended Done) takes f g ends = absurd (false≢true takes)
+memory-stays salt (Ended (KeyPresent table id)) takes f g ends = ends.0.1
+memory-stays salt (Ended (Refused refusal)) takes f g ends = ends.0.1
+memory-stays salt (Printed text) takes f g ends = absurd ends
+memory-stays salt (Fault file call) takes f g ends = absurd (false≢true takes)
+memory-stays salt NoMemory takes f g same = same
+
+settled-no_memory : (salt : ℕ × ℕ) (words : List (List ℕ)) (a b : Option Files) (answer : Answer) → IsTrue (takes_memory answer) → Settled salt words a b answer → Settled salt words a b NoMemory
+settled-no_memory salt words a b answer takes settled = record {
   of_words = asked settled.of_words;
-  files = λ asks. Leads-weaken (settled.files asks) (λ f g ends. ends.0.1);
+  files = λ asks. Leads-weaken (settled.files asks) (memory-stays salt answer takes);
   idle = settled.idle;
 }
   where
-    asked : IsOfWords words (Ended (KeyPresent table id)) → IsOfWords words NoMemory
-    asked (inl asks) = inl (asks.0, λ e. let same : NoMemory ≡ Usage = e in cc)
-    asked (inr (inl more)) = absurd (let e = more.1 in cc)
-    asked (inr (inr usage)) = absurd (let e = usage.1 in cc)
+    asked : IsOfWords words answer → IsOfWords words NoMemory
+    asked (inl asks) = inl (asks.0, tt)
+    asked (inr (inl more)) = absurd (false≢true (subst (λ (x : Answer). IsTrue (takes_memory x)) more.1 takes))
+    asked (inr (inr usage)) = absurd (false≢true (subst (λ (x : Answer). IsTrue (takes_memory x)) usage.1 takes))
 
 pub settled-told : (salt : ℕ × ℕ) (words : List (List ℕ)) (a b : Option Files) (answer told : Answer) → Settled salt words a b answer → IsTellable answer told → Settled salt words a b told
 settled-told salt words a b answer told settled (inl same) = subst (Settled salt words a b) (sym same) settled
-settled-told salt words a b answer told settled (inr short) =
-    subst (Settled salt words a b) (sym short.0) (settled-no_memory salt words a b short.1.0 short.1.1 (subst (Settled salt words a b) short.1.2 settled))
+settled-told salt words a b answer told settled (inr short) = subst (Settled salt words a b) (sym short.0) (settled-no_memory salt words a b answer short.1 settled)
+
+-- no call on the disk has failed behind such an answer
+memory-no_fault : (answer : Answer) → IsTrue (takes_memory answer) → answer_fault answer ≡ None
+memory-no_fault Usage takes = refl
+memory-no_fault (Ended outcome) takes = refl
+memory-no_fault (Printed text) takes = refl
+memory-no_fault (Fault file call) takes = absurd (false≢true takes)
+memory-no_fault NoMemory takes = refl
 
 pub counted-told : {D : Type 0} {d : disk.Ghosts D} {before after : D} (answer told : Answer) → IsCounted d before after answer → IsTellable answer told → IsCounted d before after told
 counted-told {d = d} {before = before} {after = after} answer told counted (inl same) = subst (IsCounted d before after) (sym same) counted
 counted-told {d = d} {before = before} {after = after} answer told counted (inr short) =
-    let present : IsCounted d before after (Ended (KeyPresent short.1.0 short.1.1)) = subst (IsCounted d before after) short.1.2 counted in
-    subst (IsCounted d before after) (sym short.0) (record { later = present.later; cause = present.cause })
+    let cause : IsCause None (d.failures before) (d.failures after) = subst (λ (fault : Option DiskFault). IsCause fault (d.failures before) (d.failures after)) (memory-no_fault answer short.1) counted.cause in
+    subst (IsCounted d before after) (sym short.0) (record { later = counted.later; cause = cause })
 
 -- a fact of the files however the update ended, and of files that stay
 pub settled-however : (salt : ℕ × ℕ) (words : List (List ℕ)) (a b : Option Files) (answer : Answer) {Q : Files → Files → Type 0} → Settled salt words a b answer →
@@ -69,11 +90,12 @@ settled-however salt words a b answer {Q = Q} settled ends stays = by settled.of
     by (inr (inr usage)) = Leads-same (settled.idle (usage-asks_no_update words usage.0)) stays
 
 -- the answer of the words and the files
-IsUpdateAnswer-from_ending : (salt : ℕ × ℕ) (a b : Option Files) (answer : Answer) → answer ≢ Usage → Leads (EndsAs salt answer) a b → IsUpdateAnswer small_inserts a b answer
-IsUpdateAnswer-from_ending salt a b Usage other led = absurd (other refl)
+IsUpdateAnswer-from_ending : (salt : ℕ × ℕ) (a b : Option Files) (answer : Answer) → IsOfUpdate answer → Leads (EndsAs salt answer) a b → IsUpdateAnswer small_inserts a b answer
+IsUpdateAnswer-from_ending salt a b Usage other led = absurd other
 IsUpdateAnswer-from_ending salt a b (Ended Done) other led = Leads-weaken led (λ f g ends. IsFinished-done f g ends.0)
 IsUpdateAnswer-from_ending salt a b (Ended (KeyPresent table id)) other led = Leads-weaken led (λ f g ends. ends.0)
 IsUpdateAnswer-from_ending salt a b (Ended (Refused refusal)) other led = Leads-weaken led (λ f g ends. ends.0)
+IsUpdateAnswer-from_ending salt a b (Printed text) other led = absurd other
 IsUpdateAnswer-from_ending salt a b (Fault file call) other led = Leads-weaken led (fault-ends salt file call)
 IsUpdateAnswer-from_ending salt a b NoMemory other led = same-Leads led
 
@@ -102,6 +124,9 @@ module _ (salt : ℕ × ℕ) (words : List (List ℕ)) (a b : Option Files) wher
       (is.0, Leads-weaken is.1 (λ f g ends. ends.0))
   settled-done (Ended (KeyPresent table id)) settled zero = absurd (omega (arith, zero))
   settled-done (Ended (Refused refusal)) settled zero = absurd (omega (arith, zero))
+  settled-done (Printed text) settled zero =
+      let is = settled-asked (Printed text) (λ e. let same : Printed text ≡ Ended (Refused (NotYet part.Words)) = e in cc) (λ e. let same : Printed text ≡ Usage = e in cc) settled in
+      (is.0, Leads-weaken is.1 (λ f g ends. absurd ends))
   settled-done (Fault file call) settled zero = absurd (omega (arith, zero))
   settled-done NoMemory settled zero = absurd (omega (arith, zero))
 
@@ -112,6 +137,7 @@ module _ (salt : ℕ × ℕ) (words : List (List ℕ)) (a b : Option Files) wher
       let is = settled-asked (Ended (KeyPresent table id)) (λ e. let same : Ended (KeyPresent table id) ≡ Ended (Refused (NotYet part.Words)) = e in cc) (λ e. let same : Ended (KeyPresent table id) ≡ Usage = e in cc) settled in
       (is.0, Leads-weaken is.1 (λ f g ends. ((table, id, ends.0.0), ends.0.1)))
   settled-constraint (Ended (Refused refusal)) settled three = absurd (omega (arith, three))
+  settled-constraint (Printed text) settled three = absurd (omega (arith, three))
   settled-constraint (Fault file call) settled three = absurd (omega (arith, three))
   settled-constraint NoMemory settled three = absurd (omega (arith, three))
 
@@ -125,6 +151,7 @@ module _ (salt : ℕ × ℕ) (words : List (List ℕ)) (a b : Option Files) wher
       by (inl asks) = inr (asks.0, Leads-weaken (settled.files asks.0) (λ f g ends. ((refusal, ends.0.0), ends.0.1)))
       by (inr (inl more)) = inl more.0
       by (inr (inr usage)) = absurd (let e = usage.1 in cc)
+  settled-refused (Printed text) settled four = absurd (omega (arith, four))
   settled-refused (Fault file call) settled four = absurd (omega (arith, four))
   settled-refused NoMemory settled four = absurd (omega (arith, four))
 
@@ -133,6 +160,7 @@ module _ (salt : ℕ × ℕ) (words : List (List ℕ)) (a b : Option Files) wher
   settled-memory (Ended Done) settled seven = absurd (omega (arith, seven))
   settled-memory (Ended (KeyPresent table id)) settled seven = absurd (omega (arith, seven))
   settled-memory (Ended (Refused refusal)) settled seven = absurd (omega (arith, seven))
+  settled-memory (Printed text) settled seven = absurd (omega (arith, seven))
   settled-memory (Fault file call) settled seven = absurd (omega (arith, seven))
   settled-memory NoMemory settled seven = settled-however salt words a b NoMemory settled (λ f g same. same) (λ f. refl)
 
@@ -140,18 +168,20 @@ module _ (salt : ℕ × ℕ) (words : List (List ℕ)) (a b : Option Files) wher
   settled-usage Usage settled two = by settled.of_words
     where
       by : IsOfWords words Usage → IsUsage words
-      by (inl asks) = absurd (asks.1 refl)
+      by (inl asks) = absurd asks.1
       by (inr (inl more)) = absurd (let e = more.1 in cc)
       by (inr (inr usage)) = usage.0
   settled-usage (Ended Done) settled two = absurd (omega (arith, two))
   settled-usage (Ended (KeyPresent table id)) settled two = absurd (omega (arith, two))
   settled-usage (Ended (Refused refusal)) settled two = absurd (omega (arith, two))
+  settled-usage (Printed text) settled two = absurd (omega (arith, two))
   settled-usage (Fault file call) settled two = absurd (omega (arith, two))
   settled-usage NoMemory settled two = absurd (omega (arith, two))
 
   status-of_outcome : (answer : Answer) (outcome : Outcome) (status : ℕ) → IsOutcome outcome answer → status ≡ answer_status answer → (status ≡ outcome_status outcome) ⊎ IsHalted status
   status-of_outcome Usage outcome status is told = absurd is
   status-of_outcome (Ended other) outcome status is told = inl (told ∙ ap outcome_status (sym is))
+  status-of_outcome (Printed text) outcome status is told = absurd is
   status-of_outcome (Fault file call) outcome status is told = inr (omega (arith, told), omega (arith, told))
   status-of_outcome NoMemory outcome status is told = inr (omega (arith, told), omega (arith, told))
 
@@ -216,6 +246,7 @@ status-answer Usage = (omega arith, λ e. omega (arith, e), λ e. omega (arith, 
 status-answer (Ended Done) = (omega arith, λ e. omega (arith, e), λ e. omega (arith, e))
 status-answer (Ended (KeyPresent table id)) = (omega arith, λ e. omega (arith, e), λ e. omega (arith, e))
 status-answer (Ended (Refused refusal)) = (omega arith, λ e. omega (arith, e), λ e. omega (arith, e))
+status-answer (Printed text) = (omega arith, λ e. omega (arith, e), λ e. omega (arith, e))
 status-answer (Fault file call) = (omega arith, λ e. omega (arith, e), λ e. omega (arith, e))
 status-answer NoMemory = (omega arith, λ e. omega (arith, e), λ e. omega (arith, e))
 
@@ -228,6 +259,7 @@ answer_status-below_eight Usage = omega arith
 answer_status-below_eight (Ended Done) = omega arith
 answer_status-below_eight (Ended (KeyPresent table id)) = omega arith
 answer_status-below_eight (Ended (Refused refusal)) = omega arith
+answer_status-below_eight (Printed text) = omega arith
 answer_status-below_eight (Fault file call) = omega arith
 answer_status-below_eight NoMemory = omega arith
 
@@ -255,6 +287,7 @@ module _ {D O : Type 0} {d : disk.Ghosts D} {o : sink.Ghosts O} (salt : ℕ × �
   settled-fault (Ended Done) status settled counted told six = absurd (omega (arith, six))
   settled-fault (Ended (KeyPresent table id)) status settled counted told six = absurd (omega (arith, six))
   settled-fault (Ended (Refused refusal)) status settled counted told six = absurd (omega (arith, six))
+  settled-fault (Printed text) status settled counted told six = absurd (omega (arith, six))
   settled-fault (Fault file call) status settled counted told six =
       (file, call, counted.cause, settled-however salt words (d.shown before) (d.shown after) (Fault file call) settled (fault-ends salt file call) (λ f. inl refl), told)
   settled-fault NoMemory status settled counted told six = absurd (omega (arith, six))
@@ -270,5 +303,6 @@ module _ {D O : Type 0} {d : disk.Ghosts D} {o : sink.Ghosts O} (salt : ℕ × �
   told-counts_calls answer status counted (inr failed) = record { later = counted.later; none = λ six eight. absurd (eight failed.0) }
   told-counts_calls Usage status counted (inl line) = record { later = counted.later; none = λ six eight. counted.cause }
   told-counts_calls (Ended outcome) status counted (inl line) = record { later = counted.later; none = λ six eight. counted.cause }
+  told-counts_calls (Printed text) status counted (inl line) = record { later = counted.later; none = λ six eight. counted.cause }
   told-counts_calls (Fault file call) status counted (inl line) = record { later = counted.later; none = λ six eight. absurd (six line.0) }
   told-counts_calls NoMemory status counted (inl line) = record { later = counted.later; none = λ six eight. counted.cause }

@@ -8,7 +8,7 @@ use Rattle.file_spec.specs.Trails.{Trail}
 use Rattle.file_spec.specs.TrailsLaws.{images-since, Passes-none}
 use Rattle.update_spec.specs.declared.Outcome.TheVariants.{Done, KeyPresent, Refused}
 use Rattle.update_spec.specs.declared.Answer.{Answer}
-use Rattle.update_spec.specs.declared.Answer.TheVariants.{Usage, Ended, Fault, NoMemory}
+use Rattle.update_spec.specs.declared.Answer.TheVariants.{Usage, Ended, Printed, Fault, NoMemory}
 use Rattle.update_spec.specs.Text.{answer_status}
 use Rattle.update_spec.specs.Update.{SeesOldOrNew}
 use Rattle.update_spec.specs.Crashes.{LeavesOldOrNew, HasShownNames, HasShownFile}
@@ -58,6 +58,7 @@ ended-shown_names Usage r (inr (inr e)) stable = absurd (omega (arith, e))
 ended-shown_names (Ended Done) r ended stable = stable.0
 ended-shown_names (Ended (KeyPresent table id)) r ended stable = stable
 ended-shown_names (Ended (Refused refusal)) r ended stable = stable
+ended-shown_names (Printed text) r ended stable = absurd stable
 ended-shown_names (Fault file call) r (inl e) stable = absurd (omega (arith, e))
 ended-shown_names (Fault file call) r (inr (inl e)) stable = absurd (omega (arith, e))
 ended-shown_names (Fault file call) r (inr (inr e)) stable = absurd (omega (arith, e))
@@ -70,6 +71,7 @@ done-shown_target Usage r zero stable = absurd (omega (arith, zero))
 done-shown_target (Ended Done) r zero stable = stable.1
 done-shown_target (Ended (KeyPresent table id)) r zero stable = absurd (omega (arith, zero))
 done-shown_target (Ended (Refused refusal)) r zero stable = absurd (omega (arith, zero))
+done-shown_target (Printed text) r zero stable = absurd stable
 done-shown_target (Fault file call) r zero stable = absurd (omega (arith, zero))
 done-shown_target NoMemory r zero stable = absurd (omega (arith, zero))
 

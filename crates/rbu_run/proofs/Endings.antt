@@ -14,7 +14,7 @@ use Rattle.update_spec.specs.ViewLaws.{KeepsView-same}
 use Rattle.update_spec.specs.Update.{SeesOldOrNew, AfterFault}
 use Rattle.update_spec.specs.declared.Outcome.TheVariants.{Done, KeyPresent, Refused}
 use Rattle.update_spec.specs.declared.Answer.{Answer}
-use Rattle.update_spec.specs.declared.Answer.TheVariants.{Usage, Ended, Fault, NoMemory}
+use Rattle.update_spec.specs.declared.Answer.TheVariants.{Usage, Ended, Printed, Fault, NoMemory}
 use Rattle.small_spec.specs.SmallUpdate.{AreNewBytes, small_inserts}
 use Rattle.small_spec.specs.SmallLaws.{view-small, sees_new-bytes, IsFinished-done}
 use Rattle.rbu_run.specs.Handover.{log_of, page_frames, IsMidway, KeepsOthers, LeavesLog}
@@ -73,6 +73,7 @@ module _ (salt : ℕ × ℕ) where
   sees-ends (Ended Done) f g ends = inr (IsFinished-done f g ends.0).sees_new
   sees-ends (Ended (KeyPresent table id)) f g ends = inl (KeepsView-same f g ends.0.1)
   sees-ends (Ended (Refused refusal)) f g ends = inl (KeepsView-same f g ends.0.1)
+  sees-ends (Printed text) f g ends = absurd ends
   sees-ends (Fault file call) f g (inl same) = inl (KeepsView-same f g same)
   sees-ends (Fault file call) f g (inr stops) = sees-midway f g stops.1.bytes stops.1.salt_fits stops.1.new_bytes stops.1.midway
   sees-ends NoMemory f g same = inl (KeepsView-same f g same)
@@ -83,6 +84,7 @@ module _ (salt : ℕ × ℕ) where
   others-ends (Ended Done) f g ends = λ name x y z. ends.0.others name x
   others-ends (Ended (KeyPresent table id)) f g ends = λ name x y z. ap (λ (files : Files). files name) ends.0.1
   others-ends (Ended (Refused refusal)) f g ends = λ name x y z. ap (λ (files : Files). files name) ends.0.1
+  others-ends (Printed text) f g ends = absurd ends
   others-ends (Fault file call) f g (inl same) = λ name x y z. ap (λ (files : Files). files name) same
   others-ends (Fault file call) f g (inr stops) = others-midway f g stops.1.bytes stops.1.midway
   others-ends NoMemory f g same = λ name x y z. ap (λ (files : Files). files name) same
@@ -93,6 +95,7 @@ module _ (salt : ℕ × ℕ) where
   log-ends (Ended Done) f g ends = inl (ends.0.no_wal ∙ sym (AreNewBytes-no_wal f ends.0.bytes ends.0.new_bytes))
   log-ends (Ended (KeyPresent table id)) f g ends = inl (ap (λ (files : Files). files Wal) ends.0.1)
   log-ends (Ended (Refused refusal)) f g ends = inl (ap (λ (files : Files). files Wal) ends.0.1)
+  log-ends (Printed text) f g ends = absurd ends
   log-ends (Fault file call) f g (inl same) = inl (ap (λ (files : Files). files Wal) same)
   log-ends (Fault file call) f g (inr stops) = log-midway f g stops.1.bytes stops.1.new_bytes stops.1.midway
   log-ends NoMemory f g same = inl (ap (λ (files : Files). files Wal) same)
@@ -101,6 +104,7 @@ module _ (salt : ℕ × ℕ) where
   pub outcome-ends : (answer : Answer) (f g : Files) → EndsAs salt answer f g → IsOutcomeOf answer f
   outcome-ends Usage f g ends = absurd ends
   outcome-ends (Ended outcome) f g ends = ends.1
+  outcome-ends (Printed text) f g ends = absurd ends
   outcome-ends (Fault file call) f g ends = λ other has. tt
   outcome-ends NoMemory f g ends = λ other has. tt
 

@@ -41,10 +41,10 @@ memory-cause (Err halt) h failures = subst (λ (x : Halt). IsCause (fault_in x) 
 
 module _ (salt : ℕ × ℕ) (target : List ℕ) (old : List TargetRow) (prepared : List PreparedRow) where
   pub shared-ends : Decides old prepared decision.SharedKey → (f : Files) → IsSmallWith target old prepared f → Ends salt (Ok (Refused (NotYet part.Rows))) f f
-  shared-ends decides f known = (((old, prepared, known.small, decides), refl), HasOnly-decided f target old prepared known decision.SharedKey decides)
+  shared-ends decides f known = (((part.Rows, refl, (old, prepared, known.small, decides)), refl), HasOnly-decided f target old prepared known decision.SharedKey decides)
 
   pub room-ends : Decides old prepared decision.NoRoom → (f : Files) → IsSmallWith target old prepared f → Ends salt (Ok (Refused (NotYet part.Room))) f f
-  room-ends decides f known = (((old, prepared, known.small, decides.0, decides.1), refl), HasOnly-decided f target old prepared known decision.NoRoom decides)
+  room-ends decides f known = (((part.Room, refl, (old, prepared, known.small, decides.0, decides.1)), refl), HasOnly-decided f target old prepared known decision.NoRoom decides)
 
   -- small files whose prepared rows can be inserted
   IsSmallWith-can_insert : (f : Files) → IsSmallWith target old prepared f → HasDistinctKeys prepared → page_room (all_rows old prepared) ≤ 4096 → CanInsert f old prepared

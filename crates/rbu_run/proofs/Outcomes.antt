@@ -6,68 +6,71 @@ use Rattle.std.specs.List.{Contains}
 use Rattle.std.proofs.lemmas.List.Elements.{at_from_Contains}
 use Rattle.file_spec.specs.declared.FileName.TheVariants.{Target, Rbu}
 use Rattle.file_spec.specs.Files.{Files, content}
+use Rattle.refusal.specs.declared.Part.{Part}
 use Rattle.refusal.specs.declared.Part.TheVariants as part
-use Rattle.refusal.specs.declared.Refusal.TheVariants.{NotYet, BadPage, ChainBroken, TrunkDamaged, TargetFull, LogHeader, LogFrame}
+use Rattle.refusal.specs.declared.Refusal.{Refusal}
+use Rattle.refusal.specs.declared.Refusal.TheVariants.{NotYet}
 use Rattle.update_spec.specs.declared.Outcome.{Outcome}
 use Rattle.update_spec.specs.declared.Outcome.TheVariants.{Done, KeyPresent, Refused}
 use Rattle.small_spec.specs.declared.TargetRow.{TargetRow}
 use Rattle.small_spec.specs.declared.PreparedRow.{PreparedRow}
 use Rattle.small_spec.specs.SmallFile.{IsSmallTarget, IsSmallRbu, target_table}
 use Rattle.small_spec.specs.Inserts.{HasDistinctKeys, NonePresent, all_rows, page_room, IsFirstPresent}
-use Rattle.small_spec.specs.SmallUpdate.{HasOtherFile}
+use Rattle.small_spec.specs.SmallUpdate.{HasOtherFile, NeedsPart, HasOutcome}
 use Rattle.small_update.specs.Decision.{Decides}
 use Rattle.small_update.specs.declared.Decision.{Decision}
 use Rattle.small_update.specs.declared.Decision.TheVariants as decision
 use Rattle.rbu_run.specs.Inspection.{HasOnly, IsSmallWith}
 
+-- files are refused for a part alone
+refused-part : (f : Files) (outcome : Outcome) → ((p : Part) → NeedsPart f p → Refused (NotYet p) ≡ outcome) → (refusal : Refusal) → HasOutcome f (Refused refusal) → Refused refusal ≡ outcome
+refused-part f outcome each refusal h = ap Refused h.1 ∙ each h.0 h.2
+
 pub HasOnly-files : (f : Files) → HasOtherFile f → HasOnly f (Refused (NotYet part.Files))
 HasOnly-files f other Done (old, prepared, can, none) = absurd (can.small.alone other)
 HasOnly-files f other (KeyPresent table id) (old, prepared, row, can, first, name, same) = absurd (can.small.alone other)
-HasOnly-files f other (Refused (NotYet part.Words)) h = absurd h
-HasOnly-files f other (Refused (NotYet part.Files)) h = refl
-HasOnly-files f other (Refused (NotYet part.Target)) h = absurd (h.0 other)
-HasOnly-files f other (Refused (NotYet part.Rbu)) h = absurd (h.0 other)
-HasOnly-files f other (Refused (NotYet part.Rows)) (old, prepared, small, shares) = absurd (small.alone other)
-HasOnly-files f other (Refused (NotYet part.Room)) (old, prepared, small, keys, room) = absurd (small.alone other)
-HasOnly-files f other (Refused (BadPage rule)) h = absurd h
-HasOnly-files f other (Refused (ChainBroken page)) h = absurd h
-HasOnly-files f other (Refused (TrunkDamaged page)) h = absurd h
-HasOnly-files f other (Refused (TargetFull pages limit)) h = absurd h
-HasOnly-files f other (Refused LogHeader) h = absurd h
-HasOnly-files f other (Refused (LogFrame number)) h = absurd h
+HasOnly-files f other (Refused refusal) h = refused-part f (Refused (NotYet part.Files)) each refusal h
+  where
+    each : (p : Part) → NeedsPart f p → Refused (NotYet p) ≡ Refused (NotYet part.Files)
+    each part.Words h = absurd h
+    each part.Files h = refl
+    each part.Target h = absurd (h.0 other)
+    each part.Rbu h = absurd (h.0 other)
+    each part.Rows (old, prepared, small, shares) = absurd (small.alone other)
+    each part.Room (old, prepared, small, keys, room) = absurd (small.alone other)
+    each part.Log h = absurd h
+    each part.Name h = absurd h
 
 pub HasOnly-target : (f : Files) → (¬ HasOtherFile f) → ((old : List TargetRow) → ¬ IsSmallTarget (content f Target) old) → HasOnly f (Refused (NotYet part.Target))
 HasOnly-target f alone none Done (old, prepared, can, absent) = absurd (none old can.small.target)
 HasOnly-target f alone none (KeyPresent table id) (old, prepared, row, can, first, name, same) = absurd (none old can.small.target)
-HasOnly-target f alone none (Refused (NotYet part.Words)) h = absurd h
-HasOnly-target f alone none (Refused (NotYet part.Files)) h = absurd (alone h)
-HasOnly-target f alone none (Refused (NotYet part.Target)) h = refl
-HasOnly-target f alone none (Refused (NotYet part.Rbu)) h = absurd (none h.1.0 h.1.1)
-HasOnly-target f alone none (Refused (NotYet part.Rows)) (old, prepared, small, shares) = absurd (none old small.target)
-HasOnly-target f alone none (Refused (NotYet part.Room)) (old, prepared, small, keys, room) = absurd (none old small.target)
-HasOnly-target f alone none (Refused (BadPage rule)) h = absurd h
-HasOnly-target f alone none (Refused (ChainBroken page)) h = absurd h
-HasOnly-target f alone none (Refused (TrunkDamaged page)) h = absurd h
-HasOnly-target f alone none (Refused (TargetFull pages limit)) h = absurd h
-HasOnly-target f alone none (Refused LogHeader) h = absurd h
-HasOnly-target f alone none (Refused (LogFrame number)) h = absurd h
+HasOnly-target f alone none (Refused refusal) h = refused-part f (Refused (NotYet part.Target)) each refusal h
+  where
+    each : (p : Part) → NeedsPart f p → Refused (NotYet p) ≡ Refused (NotYet part.Target)
+    each part.Words h = absurd h
+    each part.Files h = absurd (alone h)
+    each part.Target h = refl
+    each part.Rbu h = absurd (none h.1.0 h.1.1)
+    each part.Rows (old, prepared, small, shares) = absurd (none old small.target)
+    each part.Room (old, prepared, small, keys, room) = absurd (none old small.target)
+    each part.Log h = absurd h
+    each part.Name h = absurd h
 
 pub HasOnly-rbu : (f : Files) → (¬ HasOtherFile f) → (old : List TargetRow) → IsSmallTarget (content f Target) old →
     ((prepared : List PreparedRow) → ¬ IsSmallRbu (content f Rbu) prepared) → HasOnly f (Refused (NotYet part.Rbu))
 HasOnly-rbu f alone rows small none Done (old, prepared, can, absent) = absurd (none prepared can.small.rbu)
 HasOnly-rbu f alone rows small none (KeyPresent table id) (old, prepared, row, can, first, name, same) = absurd (none prepared can.small.rbu)
-HasOnly-rbu f alone rows small none (Refused (NotYet part.Words)) h = absurd h
-HasOnly-rbu f alone rows small none (Refused (NotYet part.Files)) h = absurd (alone h)
-HasOnly-rbu f alone rows small none (Refused (NotYet part.Target)) h = absurd (h.1 rows small)
-HasOnly-rbu f alone rows small none (Refused (NotYet part.Rbu)) h = refl
-HasOnly-rbu f alone rows small none (Refused (NotYet part.Rows)) (old, prepared, both, shares) = absurd (none prepared both.rbu)
-HasOnly-rbu f alone rows small none (Refused (NotYet part.Room)) (old, prepared, both, keys, room) = absurd (none prepared both.rbu)
-HasOnly-rbu f alone rows small none (Refused (BadPage rule)) h = absurd h
-HasOnly-rbu f alone rows small none (Refused (ChainBroken page)) h = absurd h
-HasOnly-rbu f alone rows small none (Refused (TrunkDamaged page)) h = absurd h
-HasOnly-rbu f alone rows small none (Refused (TargetFull pages limit)) h = absurd h
-HasOnly-rbu f alone rows small none (Refused LogHeader) h = absurd h
-HasOnly-rbu f alone rows small none (Refused (LogFrame number)) h = absurd h
+HasOnly-rbu f alone rows small none (Refused refusal) h = refused-part f (Refused (NotYet part.Rbu)) each refusal h
+  where
+    each : (p : Part) → NeedsPart f p → Refused (NotYet p) ≡ Refused (NotYet part.Rbu)
+    each part.Words h = absurd h
+    each part.Files h = absurd (alone h)
+    each part.Target h = absurd (h.1 rows small)
+    each part.Rbu h = refl
+    each part.Rows (old, prepared, both, shares) = absurd (none prepared both.rbu)
+    each part.Room (old, prepared, both, keys, room) = absurd (none prepared both.rbu)
+    each part.Log h = absurd h
+    each part.Name h = absurd h
 
 -- two places with one key are one place
 distinct_keys-one_place : (prepared : List PreparedRow) → HasDistinctKeys prepared → (r s : PreparedRow) → Contains prepared r → Contains prepared s → r.key ≡ s.key → r.data_rowid ≡ s.data_rowid
@@ -143,17 +146,16 @@ HasOnly-decided f target old prepared known d decides (KeyPresent table id) (o, 
     ap₂ KeyPresent named (sym rowid)
     ∙ outcome_of-present old prepared d decides
     (rows-carried (λ _ q. HasDistinctKeys q) same can.keys) (rows-carried (λ r q. page_room (all_rows r q) ≤ 4096) same can.room) row (rows-carried (λ r q. IsFirstPresent r q row) same first)
-HasOnly-decided f target old prepared known d decides (Refused (NotYet part.Words)) h = absurd h
-HasOnly-decided f target old prepared known d decides (Refused (NotYet part.Files)) h = absurd (known.small.alone h)
-HasOnly-decided f target old prepared known d decides (Refused (NotYet part.Target)) h = absurd (h.1 old known.small.target)
-HasOnly-decided f target old prepared known d decides (Refused (NotYet part.Rbu)) h = absurd (h.2 prepared known.small.rbu)
-HasOnly-decided f target old prepared known d decides (Refused (NotYet part.Rows)) (o, p, both, shares) =
-    outcome_of-rows old prepared d decides (rows-carried (λ _ q. ¬ HasDistinctKeys q) (known.only o p both) shares)
-HasOnly-decided f target old prepared known d decides (Refused (NotYet part.Room)) (o, p, both, keys, room) =
-    outcome_of-room old prepared d decides (rows-carried (λ _ q. HasDistinctKeys q) (known.only o p both) keys) (rows-carried (λ r q. 4096 < page_room (all_rows r q)) (known.only o p both) room)
-HasOnly-decided f target old prepared known d decides (Refused (BadPage rule)) h = absurd h
-HasOnly-decided f target old prepared known d decides (Refused (ChainBroken page)) h = absurd h
-HasOnly-decided f target old prepared known d decides (Refused (TrunkDamaged page)) h = absurd h
-HasOnly-decided f target old prepared known d decides (Refused (TargetFull pages limit)) h = absurd h
-HasOnly-decided f target old prepared known d decides (Refused LogHeader) h = absurd h
-HasOnly-decided f target old prepared known d decides (Refused (LogFrame number)) h = absurd h
+HasOnly-decided f target old prepared known d decides (Refused refusal) h = refused-part f (outcome_of d) each refusal h
+  where
+    each : (p : Part) → NeedsPart f p → Refused (NotYet p) ≡ outcome_of d
+    each part.Words h = absurd h
+    each part.Files h = absurd (known.small.alone h)
+    each part.Target h = absurd (h.1 old known.small.target)
+    each part.Rbu h = absurd (h.2 prepared known.small.rbu)
+    each part.Rows (o, p, both, shares) =
+        outcome_of-rows old prepared d decides (rows-carried (λ _ q. ¬ HasDistinctKeys q) (known.only o p both) shares)
+    each part.Room (o, p, both, keys, room) =
+        outcome_of-room old prepared d decides (rows-carried (λ _ q. HasDistinctKeys q) (known.only o p both) keys) (rows-carried (λ r q. 4096 < page_room (all_rows r q)) (known.only o p both) room)
+    each part.Log h = absurd h
+    each part.Name h = absurd h

@@ -41,7 +41,7 @@ IsStableAfter Done r = HasShownNames r × HasShownFile Target r
 IsStableAfter (KeyPresent table data_rowid) r = HasShownNames r
 IsStableAfter (Refused refusal) r = HasShownNames r
 
--- the same of a result, and of an answer; behind a halt nothing is said
+-- the same of a result, and of an answer; behind a halt nothing is said, and an update prints no lines
 abbrev pub IsStableEnd : Result Outcome Halt → Record → Type 0
 IsStableEnd (Ok outcome) r = IsStableAfter outcome r
 IsStableEnd (Err halt) r = Unit {0}
@@ -49,6 +49,7 @@ IsStableEnd (Err halt) r = Unit {0}
 abbrev pub IsStableAnswer : Answer → Record → Type 0
 IsStableAnswer answer.Usage r = Unit {0}
 IsStableAnswer (answer.Ended outcome) r = IsStableAfter outcome r
+IsStableAnswer (answer.Printed text) r = ⊥
 IsStableAnswer (answer.Fault file call) r = Unit {0}
 IsStableAnswer answer.NoMemory r = Unit {0}
 

@@ -40,5 +40,6 @@ Ends salt (Err halt) before after = AfterHalt salt halt before after
 abbrev pub EndsAs : ℕ × ℕ → Answer → Files → Files → Type 0
 EndsAs salt answer.Usage before after = ⊥
 EndsAs salt (answer.Ended outcome) before after = Ends salt (Ok outcome) before after
+EndsAs salt (answer.Printed text) before after = ⊥
 EndsAs salt (answer.Fault file call) before after = Ends salt (Err (Fault (record { file = file; call = call }))) before after
 EndsAs salt answer.NoMemory before after = Ends salt (Err Memory) before after

@@ -4,7 +4,6 @@ pub mod Handover
 pub mod Ending
 pub mod Phases
 pub mod Crash
-pub mod Line
 pub mod Status
 pub mod Told
 pub use Rattle.rbu_disk.specs.Call

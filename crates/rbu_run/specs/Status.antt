@@ -15,7 +15,7 @@ use Rattle.refusal.specs.declared.Refusal.TheVariants.{NotYet}
 use Rattle.update_spec.specs.declared.Outcome.{Outcome}
 use Rattle.update_spec.specs.declared.Outcome.TheVariants.{KeyPresent, Refused}
 use Rattle.update_spec.specs.declared.Answer.{Answer}
-use Rattle.update_spec.specs.declared.Answer.TheVariants.{Usage, Ended, Fault, NoMemory}
+use Rattle.update_spec.specs.declared.Answer.TheVariants.{Usage, Ended, Printed, Fault, NoMemory}
 use Rattle.update_spec.specs.Answer.{IsAnswer}
 use Rattle.update_spec.specs.Update.{AfterFault}
 use Rattle.update_spec.specs.Words.{AsksUpdate, AsksMore, IsUsage}
@@ -51,6 +51,7 @@ HasStatusOf status files = (outcome : Outcome) → HasOutcome files outcome → 
 abbrev pub IsOutcome : Outcome → Answer → Type 0
 IsOutcome outcome Usage = ⊥
 IsOutcome outcome (Ended other) = outcome ≡ other
+IsOutcome outcome (Printed text) = ⊥
 IsOutcome outcome (Fault file call) = Unit {0}
 IsOutcome outcome NoMemory = Unit {0}
 
@@ -62,6 +63,7 @@ IsOutcomeOf answer files = (outcome : Outcome) → HasOutcome files outcome → 
 abbrev pub answer_fault : Answer → Option DiskFault
 answer_fault Usage = None
 answer_fault (Ended outcome) = None
+answer_fault (Printed text) = None
 answer_fault (Fault file call) = Some (record { file = file; call = call })
 answer_fault NoMemory = None
 
@@ -76,10 +78,16 @@ pub record IsOwed {D : Type 0} (d : disk.Ghosts D) (words : List (List ℕ)) (be
   pub outcome : AsksUpdate words → Goes d before after (λ f _. IsOutcomeOf answer f)
   pub calls : IsCounted d before after answer
 
+-- an answer that an update may have
+abbrev pub IsOfUpdate : Answer → Type 0
+IsOfUpdate Usage = ⊥
+IsOfUpdate (Printed text) = ⊥
+IsOfUpdate other = Unit {0}
+
 -- which answers the words may have, whatever the files are
 abbrev pub IsOfWords : List (List ℕ) → Answer → Type 0
 IsOfWords words answer =
-    (AsksUpdate words × (answer ≢ Usage))
+    (AsksUpdate words × IsOfUpdate answer)
     ⊎ ((AsksMore words × (answer ≡ Ended (Refused (NotYet part.Words)))) ⊎ (IsUsage words × (answer ≡ Usage)))
 
 -- the answer that is owed is told by the status and the output

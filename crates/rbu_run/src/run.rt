@@ -3,7 +3,6 @@ ghost use Rattle.std.specs.Prelude.{◌≡◌, ◌≢◌, ◌⊎◌, ◌↔◌, 
 ghost use Rattle.rbu_disk.specs.Disk.{AllowsAll, Goes, GoesOn, HasNow};
 ghost use Rattle.format_spec.specs.Log.{pair_of};
 ghost use Rattle.update_spec.specs.declared.Command.TheVariants.{Apply};
-ghost use Rattle.update_spec.specs.declared.Answer.TheVariants.{Usage};
 ghost use Rattle.file_spec.specs.declared.FileName.TheVariants.{Target};
 ghost use Rattle.update_spec.specs.Update.{SeesOldOrNew};
 ghost use Rattle.update_spec.specs.Crashes.{HasShownFile, HasShownNames, LeavesOldOrNew};
@@ -12,12 +11,13 @@ ghost use Rattle.small_spec.specs.SmallUpdate.{IsFinished, small_inserts};
 ghost use Rattle.rbu_run.specs.Crash.{IsStableAnswer, Survives};
 ghost use Rattle.rbu_run.specs.Ending.{EndsAs};
 ghost use Rattle.rbu_run.specs.Handover.{KeepsOthers, LeavesLog};
-ghost use Rattle.rbu_run.specs.Status.{HasEnded, Tells, TellsFault, KeepsOnFault, KeepsOnRefusal, HasStatusOf, IsStatus, IsOfWords, IsCounted, CountsCalls, CountsWrites};
+ghost use Rattle.rbu_run.specs.Status.{HasEnded, Tells, TellsFault, KeepsOnFault, KeepsOnRefusal, HasStatusOf, IsStatus, IsOfUpdate, IsOfWords, IsCounted, CountsCalls, CountsWrites};
 
 use crate::halt::Halt;
-use crate::text::{tellable, write_line};
+use crate::text::write_text;
 use crate::update::{not_yet, update};
 use crate::words::command_of;
+use answer_lines::tellable;
 use rbu_disk::{Disk, Sink};
 use refusal::Part;
 use std::alloc::Global;
@@ -33,7 +33,7 @@ pub struct Ran<D> {
 /// The answer of the update.
 fn update_answer<D: Disk>(alloc: Global, salt: [u32; 2], disk: &mut D) -> Answer
     requires allowed { AllowsAll D.Disk disk.old }
-    ensures ended { result ≢ Usage }
+    ensures ended { IsOfUpdate result }
     ensures files { Goes D.Disk disk.old disk.new (EndsAs (pair_of salt) result) }
     ensures crash { GoesOn D.Disk disk.old disk.new (Survives (IsStableAnswer result)) }
     ensures calls { IsCounted D.Disk disk.old disk.new result }
@@ -137,6 +137,6 @@ pub fn run_command<D: Disk, O: Sink>(
 {
     let answer = answer_of(alloc, words, salt, &mut disk);
     let (answer, line) = tellable(alloc, answer);
-    let status = write_line(&answer, &line, out);
+    let status = write_text(&answer, &line, out);
     Ran { disk, status }
 }

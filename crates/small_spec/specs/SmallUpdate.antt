@@ -5,7 +5,7 @@ use Rattle.file_spec.specs.declared.FileName.TheVariants.{Target, Oal, Wal, Jour
 use Rattle.file_spec.specs.Files.{Files, content, is_name}
 use Rattle.refusal.specs.declared.Part.{Part}
 use Rattle.refusal.specs.declared.Part.TheVariants as part
-use Rattle.refusal.specs.declared.Refusal.TheVariants.{NotYet, BadPage, ChainBroken, TrunkDamaged, TargetFull, LogHeader, LogFrame}
+use Rattle.refusal.specs.declared.Refusal.TheVariants.{NotYet}
 use Rattle.format_spec.specs.PageMap.{PageMap, SamePages, pages_of}
 use Rattle.update_spec.specs.declared.Outcome.{Outcome}
 use Rattle.update_spec.specs.declared.Outcome.TheVariants.{Done, KeyPresent, Refused}
@@ -39,16 +39,12 @@ NeedsPart files part.Target = (¬ HasOtherFile files) × ((old : List TargetRow)
 NeedsPart files part.Rbu = (¬ HasOtherFile files) × ((old : List TargetRow) × IsSmallTarget (content files Target) old) × ((prepared : List PreparedRow) → ¬ IsSmallRbu (content files Rbu) prepared)
 NeedsPart files part.Rows = (old : List TargetRow) × (prepared : List PreparedRow) × AreSmall files old prepared × (¬ HasDistinctKeys prepared)
 NeedsPart files part.Room = (old : List TargetRow) × (prepared : List PreparedRow) × AreSmall files old prepared × HasDistinctKeys prepared × (4096 < page_room (all_rows old prepared))
+NeedsPart files part.Log = ⊥
+NeedsPart files part.Name = ⊥
 
 -- The outcome over the files: a part that is not built, else the constraint fault, else the update is done.
 abbrev pub HasOutcome : Files → Outcome → Type 0
-HasOutcome files (Refused (NotYet part)) = NeedsPart files part
-HasOutcome files (Refused (BadPage rule)) = ⊥
-HasOutcome files (Refused (ChainBroken page)) = ⊥
-HasOutcome files (Refused (TrunkDamaged page)) = ⊥
-HasOutcome files (Refused (TargetFull pages limit)) = ⊥
-HasOutcome files (Refused LogHeader) = ⊥
-HasOutcome files (Refused (LogFrame number)) = ⊥
+HasOutcome files (Refused refusal) = (part : Part) × (refusal ≡ NotYet part) × NeedsPart files part
 HasOutcome files (KeyPresent table data_rowid) =
     (old : List TargetRow) × (prepared : List PreparedRow) × (row : PreparedRow)
     × CanInsert files old prepared × IsFirstPresent old prepared row × (table ≡ target_table.name) × (row.data_rowid ≡ data_rowid)

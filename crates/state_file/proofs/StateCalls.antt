@@ -1,8 +1,8 @@
 -- What each call of a save makes of the files and of the moments, and how they join.
-use Rattle.std.proofs.Common.{◌≡◌, ℕ, ◌+◌, ◌-◌, List, ◌++◌, length, take, drop, replicate, Option, Some, None, option_map, Result, Ok, Err, OnOk, IfSome, refl, sym, ap, ◌∙◌, subst, inl, inr, arith, length-append}
+use Rattle.std.proofs.Common.{◌≡◌, ℕ, ◌+◌, ◌-◌, List, ◌++◌, length, take, drop, replicate, Option, Some, None, Result, Ok, Err, OnOk, IfSome, refl, sym, ap, ◌∙◌, subst, inl, inr, arith, length-append}
 use Rattle.std.proofs.lemmas.List.{take_at}
 use Rattle.common_spec.specs.Told.{Leads}
-use Rattle.common_spec.specs.ToldLaws.{Leads-then, Leads-weaken, Leads-known, Leads-both, part-Leads}
+use Rattle.common_spec.specs.ToldLaws.{Leads-then, Leads-weaken, Leads-known, Leads-both}
 use Rattle.byte_fields.specs.Bytes.{resized, overwritten}
 use Rattle.byte_fields.specs.BytesLaws.{overwritten-front, resized-short}
 use Rattle.file_spec.specs.declared.FileName.{FileName}
@@ -16,29 +16,11 @@ use Rattle.file_spec.specs.Records.{Stored, Names, MayName, Record, Every, IsIma
 use Rattle.file_spec.specs.Trails.{Trail, Passes, Adds}
 use Rattle.file_spec.specs.TrailsLaws.{Passes-kept, Passes-then, Passes-weaken, Passes-now, Adds-passes, Fails-passes, FailsStill-passes}
 use Rattle.file_spec.specs.Steps.{Changes, Written, Torn, LengthSet, Cut, Fails, synced_at, renamed_at, folder_synced, AfterWrite, AfterFailedWrite, AfterSetLen, AfterFailedLength, AfterSync, AfterFailedSync, AfterRename, AfterFailedRename, AfterFolderSync, AfterFailedFolderSync}
-use Rattle.rbu_disk.specs.declared.disk.Disk.{Ghosts}
 use Rattle.rbu_disk.specs.Call.{LeadsBy}
+use Rattle.rbu_disk.specs.DiskLaws.{led-by, Adds-now}
 use Rattle.state_file.specs.Saving.{HasFirmNames, LeavesOldOrNew, CrashesSaving, LeavesNew}
 use Rattle.state_file.specs.Phases.{IsWriting, IsTaking, HasTemporary, KeepsWriting, KeepsTaking, TakesName, HasTaken}
 use Rattle.state_file.proofs.StateSteps.{writing-start, writing-changes, writing-synced, writing-whole, taking-renamed, renamed-state, taking-settled, settled-state, writing-image, taking-image, taken-image, synced-temporary}
-
--- what a call makes of the moments, however it ended
-pub led-by : {T E : Type 0} (x y : Option Trail) (result : Result T E) (Done Failed S : Trail → Trail → Type 0) → LeadsBy result Done Failed x y →
-    ((a b : Trail) → Done a b → S a b) → ((a b : Trail) → Failed a b → S a b) → Leads S x y
-led-by x y (Ok v) Done Failed S led done failed = Leads-weaken led done
-led-by x y (Err e) Done Failed S led done failed = Leads-weaken led failed
-
--- what a call that ended well makes of them, and what follows
-pub led-then : {T E Q : Type 0} {x y : Option Trail} (Done Failed : Trail → Trail → Type 0) (result : Result T E) → LeadsBy result Done Failed x y → (Leads Done x y → Q) → OnOk result Q
-led-then Done Failed (Ok v) led w = w led
-led-then Done Failed (Err e) led w = tt
-
--- what is said of the shown files, said of the records
-pub records-go : {D : Type 0} (d : Ghosts D) (tied : (disk : D) → d.shown disk ≡ option_map (λ (t : Trail). shown_files t.now.at) (d.trail disk)) (R : Files → Files → Type 0) (before after : D)
-    → Leads R (d.shown before) (d.shown after) → Leads (λ a b. R (shown_files a.now.at) (shown_files b.now.at)) (d.trail before) (d.trail after)
-records-go d tied R before after led =
-    part-Leads (λ (t : Trail). shown_files t.now.at) R (d.trail before) (d.trail after)
-    (subst (λ f. Leads R f (option_map (λ (t : Trail). shown_files t.now.at) (d.trail after))) (tied before) (subst (λ f. Leads R (d.shown before) f) (tied after) led))
 
 -- a change of length
 pub only-length : (n : ℕ) {x y : Option Files} → Leads (λ f g. g ≡ after_set_len f StateTemp n) x y → Leads (OnlyChanges StateTemp) x y
@@ -65,10 +47,6 @@ Wrote bytes written set =
     s ∙ ap (λ (files : Files). after_set_len files StateTemp (length bytes)) w
     ∙ with_file-again f StateTemp (Some (overwritten (content f StateTemp) 0 bytes)) (Some (resized (overwritten (content f StateTemp) 0 bytes) (length bytes)))
     ∙ ap (λ (b : List ℕ). with_file f StateTemp (Some b)) (whole (content f StateTemp) bytes))
-
--- the record that a call left
-Adds-now : (file : FileName) (which : DiskCall) (R : Record → Record → Type 0) (a b : Trail) → Adds file which R a b → R a.now.at b.now.at
-Adds-now file which R a b adds = subst (R a.now.at) (sym (ap (λ (t : Trail). t.now.at) adds.is)) adds.step
 
 -- while the temporary file is written
 pub writing-then : {x y z : Option Trail} → Leads KeepsWriting x y → Leads KeepsWriting y z → Leads KeepsWriting x z

@@ -1,2 +1,4 @@
+pub mod Changed
 pub mod Fronts
+pub mod Placing
 pub mod Raised

@@ -1,1 +1,4 @@
+pub mod Changes
+pub mod ChangesLaws
 pub mod Levels
+pub mod Views

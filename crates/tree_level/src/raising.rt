@@ -27,8 +27,8 @@ fn view_of(cell: &[u8], usable: u32) -> CellView
     }
 }
 
-// The cell of a table's interior page with a child and a rowid.
-fn key_cell(alloc: Global, child: u32, rowid: i64) -> Result<Bytes, AllocError>
+/// The cell of a table's interior page with a child and a rowid.
+pub fn key_cell(alloc: Global, child: u32, rowid: i64) -> Result<Bytes, AllocError>
     ensures { IfOk result (λ cell. cell ≡ cell_bytes TableInterior (interior_cell child rowid) []) }
 {
     let view = CellView {

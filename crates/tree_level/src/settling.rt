@@ -1,5 +1,5 @@
 // Writes the cells that a page is to have.
-ghost use Rattle.std.specs.Prelude.{◌≡◌, ◌≤◌, ◌<◌, ◌*◌, [], IfOk, OnOk, length};
+ghost use Rattle.std.specs.Prelude.{◌≡◌, ◌≤◌, ◌<◌, ◌*◌, [], IfOk, OnOk, length, max};
 ghost use Rattle.std.specs.List.{All};
 ghost use Rattle.page_spec.specs.Rooms.{IsOneCell, free_bytes, needs as bytes_needed};
 ghost use Rattle.page_store.specs.Store.{HasSizes, IsNumber, OwesBy};
@@ -32,8 +32,10 @@ pub fn settle<S: PageWrite>(
     requires cells { All (IsOneCell node.kind (S.usable store.old)) cells.now }
     requires place { place < length cells.now }
     ensures settled { IfOk result (λ dividers. Becomes S.PageRead store.old store.new (Settles (sizes_of S.PageRead store.old) node cells.now dividers.items)) }
+    ensures dividers { IfOk result (λ dividers. All (IsOneCell (above_kind node.kind) (S.usable store.old)) dividers.items) }
     ensures few { IfOk result (λ dividers. bytes_needed cells.now ≤ 2 * page_room node.kind (S.usable store.old) → length dividers.items ≤ 2) }
     ensures count { OnOk result (S.count store.old ≤ S.count store.new) }
+    ensures most { OnOk result (S.count store.new ≤ max limit (S.count store.old)) }
     ensures owes { OwesBy S.PageRead fault_in store.old store.new result }
 {
     let Spread { dividers, start } = spread_cells(
@@ -73,6 +75,7 @@ pub fn move_out<S: PageWrite>(
     requires twice { bytes_needed cells.now ≤ 2 * page_room root.kind (S.usable store.old) }
     ensures moved { OnOk result (Becomes S.PageRead store.old store.new (MovesOut (sizes_of S.PageRead store.old) root cells.now)) }
     ensures count { OnOk result (S.count store.old ≤ S.count store.new) }
+    ensures most { OnOk result (S.count store.new ≤ max limit (S.count store.old)) }
     ensures owes { OwesBy S.PageRead fault_in store.old store.new result }
 {
     let Spread { dividers, start } = spread_cells(

@@ -1,5 +1,5 @@
 // Spreads cells that one page has no room for.
-ghost use Rattle.std.specs.Prelude.{◌≡◌, ◌≤◌, ◌<◌, ◌+◌, ◌*◌, [], ◌∷◌, ◌++◌, IfOk, OnOk, length, drop};
+ghost use Rattle.std.specs.Prelude.{◌≡◌, ◌≤◌, ◌<◌, ◌+◌, ◌*◌, [], ◌∷◌, ◌++◌, IfOk, OnOk, length, drop, max};
 ghost use Rattle.std.specs.List.{All};
 ghost use Rattle.page_spec.specs.Rooms.{IsOneCell, needs as bytes_needed};
 ghost use Rattle.page_store.specs.Store.{HasSizes, OwesBy};
@@ -49,6 +49,7 @@ fn write_front<S: PageWrite>(
     ensures left { IfOk result (λ front. front.used < length cells.now) }
     ensures half { IfOk result (λ front. bytes_needed cells.now ≤ 2 * page_room kind (S.usable store.old) → 2 * bytes_needed (drop (front.used + 1) cells.now) ≤ bytes_needed cells.now) }
     ensures count { OnOk result (S.count store.old ≤ S.count store.new) }
+    ensures most { OnOk result (S.count store.new ≤ max limit (S.count store.old)) }
     ensures owes { OwesBy S.PageRead fault_in store.old store.new result }
 {
     let usable = store.usable();
@@ -108,6 +109,7 @@ pub fn spread_cells<S: PageWrite>(
     ensures over { IfOk result (λ spread. page_room kind (S.usable store.old) < bytes_needed cells.now → 1 ≤ length spread.dividers.items) }
     ensures few { IfOk result (λ spread. bytes_needed cells.now ≤ 2 * page_room kind (S.usable store.old) → length spread.dividers.items ≤ 2) }
     ensures count { OnOk result (S.count store.old ≤ S.count store.new) }
+    ensures most { OnOk result (S.count store.new ≤ max limit (S.count store.old)) }
     ensures owes { OwesBy S.PageRead fault_in store.old store.new result }
 {
     let room = room_of(kind, store.usable());

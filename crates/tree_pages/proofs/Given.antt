@@ -1,10 +1,12 @@
 -- What is left of a chain while its pages are given back.
-use Rattle.std.proofs.Common.{◌≡◌, ℕ, suc, ◌+◌, ◌-◌, ◌*◌, ◌/◌, ◌%◌, ◌<◌, ◌≤◌, ◌==◌, if◌then◌else◌, List, [], ◌∷◌, length, Option, Some, refl, sym, ap, ap₂, ◌∙◌, subst, arith, add-zero}
+use Rattle.std.proofs.Common.{◌≡◌, ◌⊎◌, ℕ, suc, ◌+◌, ◌-◌, ◌*◌, ◌/◌, ◌%◌, ◌<◌, ◌≤◌, ◌==◌, if◌then◌else◌, List, [], ◌∷◌, length, Option, Some, Err, refl, sym, inl, inr, ap, ap₂, ◌∙◌, subst, arith, add-zero}
 use Rattle.std.proofs.lemmas.Nat.{div-mul-add}
 use Rattle.std.proofs.Math.Nat.{mod-eq-sub-div-mul}
 use Rattle.std.proofs.Math.Path.{subst⁻¹}
 use Rattle.std.proofs.lemmas.Option.{same_Some}
 use Rattle.std.proofs.lemmas.List.{nil_from_length}
+use Rattle.common_spec.specs.Reading.{Reads, OrFault}
+use Rattle.format_spec.specs.Header.{freelist_trunk}
 use Rattle.page_spec.specs.Counts.{times}
 use Rattle.page_spec.specs.CountsLaws.{hit-itself, times-itself}
 use Rattle.page_spec.specs.Pages.{Pages, next_page}
@@ -17,8 +19,16 @@ use Rattle.tree_spec.specs.StandingLaws.{chain-kept}
 use Rattle.tree_spec.specs.Worlds.{IsFree}
 use Rattle.tree_spec.specs.Changes.{Within, Turns}
 use Rattle.tree_spec.specs.ChangesLaws.{Turns-then, Turns-wide, Turns-same, Turns-within, Turns-keeps, Turns-few}
+use Rattle.put_spec.specs.Steps.{Releases}
+use Rattle.free_list.specs.declared.fault.FreeFault.{FreeFault}
+use Rattle.free_list.specs.declared.fault.FreeFault.TheVariants as free
+use Rattle.free_list.specs.Answers.{RefusesRelease, IsBadTrunk, IsTrunkFault}
+use Rattle.free_list.specs.Answers as freelist
 use Rattle.free_list.specs.Steps.{ChangesFew, Gives}
-use Rattle.tree_pages.specs.Writers.{Releases}
+use Rattle.tree_spec.specs.declared.fault.TreeFault.{TreeFault}
+use Rattle.tree_spec.specs.Faults.{IsOther}
+use Rattle.tree_pages.specs.Faults.{from_freelist}
+use Rattle.tree_pages.proofs.Taken.{other, trunks-sound}
 
 -- a page that was given back, in the words of trees
 pub released : (sizes : Sizes) (page count now : ℕ) (old : Pages) (told : Option Pages) → now ≡ count → ChangesFew count page old told
@@ -41,6 +51,21 @@ released sizes page count now old told stays few gives = (
             (λ n. omega (arith, t.balance n, ap (λ (c : ℕ). due sizes.size c n) stays)),
       ),
 )
+
+-- A sound freelist takes a page.
+pub refused-release : {F : Type 0} (pages : Pages) (size usable count : ℕ) (N : Unit {0} → Type 0) (fault : FreeFault F) (answer : TreeFault F) (trunks : List Trunk) → answer ≡ from_freelist fault
+    → IsFreelist pages size usable count trunks → freelist.IsOther fault ⊎ Reads (OrFault N (RefusesRelease pages size usable count)) (Err fault) → IsOther answer
+refused-release {F} pages size usable count N fault answer trunks is sound_list answers = subst⁻¹ IsOther is (by answers)
+  where
+    sound : (f : FreeFault F) → ¬ RefusesRelease pages size usable count f
+    sound (free.TrunkDamaged page) bad = trunks-sound pages size usable count (freelist_trunk (pages 1)) page trunks sound_list.named bad.0 (inl bad.1)
+    sound (free.TargetFull has most) bad = bad.1
+    sound (free.Store error) bad = bad.1
+    sound (free.Memory error) bad = bad.1
+
+    by : freelist.IsOther fault ⊎ Reads (OrFault N (RefusesRelease pages size usable count)) (Err fault) → IsOther (from_freelist fault)
+    by (inl is_other) = other fault is_other
+    by (inr reads) = absurd (sound fault reads.holds)
 
 -- as many bytes as whole pages hold
 whole : (u n : ℕ) → 0 < u → n * u / u + (if n * u % u == 0 then 0 else 1) ≡ n

@@ -60,7 +60,7 @@ module _ (pages : Pages) (size usable count : ℕ) where
   trunk-sound trunk page is (inl (inr many)) = omega (arith, is.few, is.counts, many.1)
   trunk-sound trunk page is (inr out) = out.1 (given-in_range trunk is)
 
-  trunks-sound : (first page : ℕ) (trunks : List Trunk) → AreTrunks pages size usable count first trunks → first ≢ 0 → ¬ IsBadTake pages size usable count first page
+  pub trunks-sound : (first page : ℕ) (trunks : List Trunk) → AreTrunks pages size usable count first trunks → first ≢ 0 → ¬ IsBadTake pages size usable count first page
   trunks-sound first page [] named some bad = some named
   trunks-sound first page (trunk ∷ trunks) named some bad =
       trunk-sound trunk page named.1 (subst (λ (n : ℕ). IsBadTake pages size usable count n page) named.0 bad)

@@ -1,8 +1,7 @@
 -- What a writer of trees says of a store. Each word takes the store's members, as `S.PageRead`.
-use Rattle.std.specs.Prelude.{◌≡◌, ℕ, Some, List, [], ◌∷◌, length}
+use Rattle.std.specs.Prelude.{◌≡◌, ℕ, Some, List, [], length}
 use Rattle.page_spec.specs.Chains.{IsChain, chain_bytes}
-use Rattle.page_spec.specs.Counts.{times}
-use Rattle.page_spec.specs.Freelists.{Trunk, free_pages}
+use Rattle.page_spec.specs.Freelists.{Trunk}
 use Rattle.page_spec.specs.Pages.{Pages}
 use Rattle.page_store.specs.declared.store.PageRead.{Ghosts}
 use Rattle.tree_spec.specs.Standing.{Sizes, Paged}
@@ -21,11 +20,6 @@ module _ {P F : Type 0} (g : Ghosts P F) where
   -- Whatever pages the store told before, it tells pages now, and the ones became the others by R.
   abbrev pub Becomes : P → P → (Paged → Paged → Type 0) → Type 0
   Becomes before after R = (old : Pages) → g.pages before ≡ Some old → (new : Pages) × (g.pages after ≡ Some new) × R (paged before old) (paged after new)
-
--- a page was given back: it is free now
-abbrev pub Releases : Sizes → ℕ → Paged → Paged → Type 0
-Releases sizes number old new =
-    (trunks : List Trunk) → IsFree sizes old trunks → times number (free_pages trunks) ≡ 0 → (rest : List Trunk) × Turns sizes old (number ∷ []) trunks new [] rest
 
 -- The bytes stand in an overflow chain over pages that were taken.
 pub record HasOverflow (sizes : Sizes) (first : ℕ) (bytes : List ℕ) (old : Paged) (trunks : List Trunk) (new : Paged) : Type 0 where

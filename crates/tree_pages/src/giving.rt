@@ -1,11 +1,12 @@
 // Gives pages back.
-ghost use Rattle.std.specs.Prelude.{◌≡◌, ◌≤◌, IfOk, OnOk, length};
+ghost use Rattle.std.specs.Prelude.{◌≡◌, ◌≤◌, IfErr, IfOk, OnOk, List, Some, length};
 ghost use Rattle.page_spec.specs.Chains.{pages_for as pages_of_bytes};
-ghost use Rattle.page_spec.specs.Pages.{next_page};
+ghost use Rattle.page_spec.specs.Freelists.{Trunk, IsFreelist};
+ghost use Rattle.page_spec.specs.Pages.{Pages, next_page};
 ghost use Rattle.page_store.specs.Store.{HasSizes, IsNumber, OwesBy};
-ghost use Rattle.put_spec.specs.Steps.{GivesBack};
-ghost use Rattle.tree_spec.specs.Faults.{fault_in};
-ghost use Rattle.tree_pages.specs.Writers.{Becomes, Releases, sizes_of};
+ghost use Rattle.put_spec.specs.Steps.{GivesBack, Releases};
+ghost use Rattle.tree_spec.specs.Faults.{IsOther, fault_in};
+ghost use Rattle.tree_pages.specs.Writers.{Becomes, sizes_of};
 
 use crate::taking::of_freelist;
 use byte_fields::u32_at;
@@ -15,6 +16,27 @@ use page_store::{PageWrite, is_in_range, page_buffer};
 use refusal::Rule;
 use std::alloc::Global;
 use tree_spec::TreeFault;
+
+/// Gives a page back that is not free. Over a sound freelist nothing is refused but for the store's faults and memory.
+///
+/// The page is from 2 to the store's count and not the lock-byte page. After a fault of the store a part of the change may be written.
+pub fn give_page<S: PageWrite>(
+    alloc: Global,
+    store: &mut S,
+    number: u32,
+) -> Result<(), TreeFault<S::Fault>>
+    requires sizes { HasSizes S.PageRead store.old }
+    requires number { IsNumber S.PageRead store.old number }
+    ensures released { OnOk result (Becomes S.PageRead store.old store.new (Releases (sizes_of S.PageRead store.old) number)) }
+    ensures count { OnOk result (S.count store.new ≡ S.count store.old) }
+    ensures sound { (m : Pages) (trunks : List Trunk) → S.pages store.old ≡ Some m → IsFreelist m (S.size store.old) (S.usable store.old) (S.count store.old) trunks → IfErr result IsOther }
+    ensures owes { OwesBy S.PageRead fault_in store.old store.new result }
+{
+    match release(alloc, store, number) {
+        Ok(()) => Ok(()),
+        Err(fault) => Err(of_freelist(fault)),
+    }
+}
 
 // Gives a page of a chain back, and answers the number of the next.
 fn give_next<S: PageWrite>(
@@ -33,9 +55,9 @@ fn give_next<S: PageWrite>(
     if let Err(fault) = store.page(number, page) {
         return Err(TreeFault::Store(fault));
     }
-    match release(alloc, store, number) {
+    match give_page(alloc, store, number) {
         Ok(()) => Ok(u32_at(page, 0)),
-        Err(fault) => Err(of_freelist(fault)),
+        Err(fault) => Err(fault),
     }
 }
 

@@ -1,5 +1,5 @@
 // Takes pages.
-ghost use Rattle.std.specs.Prelude.{◌≡◌, ◌≤◌, ◌⊎◌, ℕ, IfErr, IfOk, OnOk, Some, List};
+ghost use Rattle.std.specs.Prelude.{◌≡◌, ◌≤◌, ◌⊎◌, ℕ, IfErr, IfOk, OnOk, Some, List, max};
 ghost use Rattle.page_spec.specs.Freelists.{IsFreelist, Trunk, free_pages};
 ghost use Rattle.page_spec.specs.FreePages.{slack};
 ghost use Rattle.page_spec.specs.Pages.{Pages};
@@ -39,6 +39,7 @@ pub fn take_page<S: PageWrite>(
     ensures took { IfOk result (λ page. Becomes S.PageRead store.old store.new (Took (sizes_of S.PageRead store.old) page)) }
     ensures in_range { IfOk result (IsNumber S.PageRead store.new) }
     ensures count { OnOk result (S.count store.old ≤ S.count store.new) }
+    ensures most { OnOk result (S.count store.new ≤ max limit (S.count store.old)) }
     ensures refuses { (m : Pages) (trunks : List Trunk) → S.pages store.old ≡ Some m
         → IsFreelist m (S.size store.old) (S.usable store.old) (S.count store.old) trunks
         → IfErr result (λ fault. IsOther fault ⊎ (IsFull (S.count store.old) limit fault × (slack (S.size store.old) (S.count store.old) limit (free_pages trunks) ≡ 0))) }

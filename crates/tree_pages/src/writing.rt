@@ -1,5 +1,5 @@
 // Writes overflow chains over pages that are taken.
-ghost use Rattle.std.specs.Prelude.{◌≡◌, ◌+◌, ◌≤◌, IfOk, OnOk, length};
+ghost use Rattle.std.specs.Prelude.{◌≡◌, ◌+◌, ◌≤◌, IfOk, OnOk, length, max};
 ghost use Rattle.page_spec.specs.Pages.{with_page};
 ghost use Rattle.page_spec.specs.WrittenChains.{overflow_page};
 ghost use Rattle.page_store.specs.Store.{Goes, HasSizes, IsNumber, OwesBy};
@@ -63,6 +63,7 @@ pub fn write_overflow<S: PageWrite>(
     ensures written { IfOk result (λ first. Becomes S.PageRead store.old store.new (WritesOverflow (sizes_of S.PageRead store.old) first bytes.now)) }
     ensures none { length bytes.now ≡ 0 → IfOk result (λ first. first ≡ 0) }
     ensures count { OnOk result (S.count store.old ≤ S.count store.new) }
+    ensures most { OnOk result (S.count store.new ≤ max limit (S.count store.old)) }
     ensures owes { OwesBy S.PageRead fault_in store.old store.new result }
 {
     let mut buffer = page_buffer(alloc, store.page_size())?;

@@ -1,12 +1,12 @@
 -- The rowids of a table tree's list rise: crates above cite these facts in their proofs.
-use Rattle.std.proofs.Common.{◌≡◌, ℕ, ℤ, zero, suc, ◌<ℤ◌, ◌≤ℤ◌, List, [], ◌∷◌, ◌++◌, map, refl, ap, ◌∙◌, arith}
+use Rattle.std.proofs.Common.{◌≡◌, ℕ, ℤ, zero, suc, ◌<◌, ◌<ℤ◌, ◌≤ℤ◌, List, [], ◌∷◌, ◌++◌, length, map, refl, ap, ◌∙◌, arith, length-append}
 use Rattle.std.proofs.Math.Path.{subst⁻¹}
-use Rattle.std.specs.List.{All, AllPairs, flat_map}
+use Rattle.std.specs.List.{All, AllByRecursion, AllPairs, flat_map}
 use Rattle.std.proofs.lemmas.Int.{ints}
-use Rattle.std.proofs.lemmas.List.{append_assoc}
+use Rattle.std.proofs.lemmas.List.{append_assoc, length-map}
 use Rattle.std.proofs.lemmas.List.Kept.{AllPairs-cons}
 use Rattle.tree_spec.specs.declared.TreeKind.TheVariants.{Table}
-use Rattle.tree_spec.specs.Trees.{TreeCell, TreeOf, Member, member, between, list_of, list_beside}
+use Rattle.tree_spec.specs.Trees.{TreeCell, TreeOf, Member, member, between, own_cells, cells_behind, list_of, list_beside, IsFull, IsFullBelow}
 use Rattle.tree_spec.specs.Bounds.{RisesIn, BesideIn, InOrder}
 
 pub rises-bounds : (low high : ℤ) (xs : List ℤ) → RisesIn low high xs → low ≤ℤ high
@@ -57,3 +57,31 @@ above low high (m ∷ ms) h (suc k) d less =
 pub rises-pairs : (low high : ℤ) (members : List Member) → RisesIn low high (rowids members) → AllPairs (λ (a b : Member). a.rowid <ℤ b.rowid) members
 rises-pairs low high [] h = λ i j d less within. absurd (omega arith)
 rises-pairs low high (m ∷ ms) h = AllPairs-cons (λ (a b : Member). a.rowid <ℤ b.rowid) m ms (above m.rowid high ms h.1) (rises-pairs m.rowid high ms h.1)
+
+-- a bound above some number is strictly above the one below it
+pub rises-strict : (low high : ℤ) (xs : List ℤ) → 0 < length xs → RisesIn low high xs → low <ℤ high
+rises-strict low high [] some rises = absurd (omega arith)
+rises-strict low high (x ∷ xs) some rises = omega (arith, ints, rises.0, rises-bounds x high xs rises.1)
+
+-- a tree whose pages have cells has members
+pub some-members : (levels : ℕ) (tree : TreeOf levels) → IsFull levels tree → 0 < length (list_of Table levels tree)
+some-members zero tree full = omega (arith, length-map tree.cells member, full.0)
+some-members (suc levels) tree full =
+    let front = flat_map (λ (child : TreeOf levels × TreeCell). list_of Table levels child.0 ++ between Table child.1) tree.children in
+    omega (arith, length-append front (list_of Table levels tree.last), some-members levels tree.last full.1.1)
+
+-- the rowids of the cells behind children rise within the bounds of the page
+pub dividers-rise : (levels : ℕ) (low high : ℤ) (children : List (TreeOf levels × TreeCell)) (last : TreeOf levels) → AllByRecursion (λ child. IsFull levels child.0) children
+    → BesideIn (InOrder levels) low high children last → RisesIn low high (map (λ (c : TreeCell). c.view.rowid) (cells_behind children))
+dividers-rise levels low high [] last full beside = rises-bounds low high (rowids (list_of Table levels last)) (InOrder-rises levels low high last beside)
+dividers-rise levels low high (child ∷ children) last full beside =
+    let members = list_of Table levels child.0 in
+    let rowid = child.1.view.rowid in (
+      rises-strict low rowid (rowids members) (omega (arith, length-map members (λ (m : Member). m.rowid), some-members levels child.0 full.0)) (InOrder-rises levels low rowid child.0 beside.0),
+      dividers-rise levels rowid high children last full.1 beside.1,
+    )
+
+-- and so do those of a tree's own page
+pub own_cells-rise : (levels : ℕ) (low high : ℤ) (tree : TreeOf levels) → IsFullBelow levels tree → InOrder levels low high tree → RisesIn low high (map (λ (c : TreeCell). c.view.rowid) (own_cells levels tree))
+own_cells-rise zero low high tree full order = order
+own_cells-rise (suc levels) low high tree full order = dividers-rise levels low high tree.children tree.last full.0 order

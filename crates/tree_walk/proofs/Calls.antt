@@ -1,50 +1,38 @@
 -- What follows for a cursor from what the calls that it makes say.
-use Rattle.std.proofs.Common.{◌≡◌, ◌≢◌, ℕ, ℤ, ◌<◌, ◌≤◌, true, false, List, [], ◌∷◌, length, Option, Some, None, IfSome, IfErr, OnOk, Result, Ok, Err, refl, sym, ap, ◌∙◌, subst, inl, inr, arith}
+use Rattle.std.proofs.Common.{◌≡◌, ◌≢◌, ℕ, ℤ, ◌<◌, List, [], Option, None, IfErr, OnOk, Result, Ok, Err, sym, ap, ◌∙◌, subst, inl, inr, arith}
 use Rattle.std.proofs.Math.Path.{subst⁻¹}
+use Rattle.std.proofs.lemmas.Option.{IfSome_then}
 use Rattle.common_spec.specs.Reading.{OrFault}
-use Rattle.format_spec.specs.declared.PageKind.{PageKind}
-use Rattle.format_spec.specs.declared.PageKind.TheVariants.{IndexInterior, TableInterior, IndexLeaf, TableLeaf}
 use Rattle.page_spec.specs.Pages.{Pages, IsInRange}
 use Rattle.page_store.specs.declared.store.PageRead.{Ghosts}
-use Rattle.page_store.specs.Store.{Stays, OwesBy, IsCause}
+use Rattle.page_store.specs.Store.{Stays, OwesBy, IsCause, Sees}
 use Rattle.overflow_chain.specs.declared.fault.ChainFault.{ChainFault}
 use Rattle.overflow_chain.specs.declared.fault.ChainFault.TheVariants as chain
 use Rattle.overflow_chain.specs.Chain.{fault_in as chain_fault_in}
 use Rattle.tree_walk.specs.Payloads.{tree_fault}
 use Rattle.refusal.specs.declared.Rule.{Rule}
 use Rattle.tree_spec.specs.declared.TreeKind.{TreeKind}
-use Rattle.tree_spec.specs.Trees.{Rooted, Member, list_in, root_of}
 use Rattle.tree_spec.specs.Bounds.{greatest_rowid}
-use Rattle.tree_spec.specs.Standing.{Sizes, Paged, IsRoot, IsTree}
+use Rattle.tree_spec.specs.Standing.{Sizes, Paged}
 use Rattle.tree_spec.specs.declared.fault.TreeFault.{TreeFault}
 use Rattle.tree_spec.specs.declared.fault.TreeFault.TheVariants.{TreeDamaged}
-use Rattle.tree_spec.specs.Faults.{IsOther, IsDamage, IsDamageOrOther, fault_in}
-use Rattle.tree_spec.specs.FaultsLaws.{damage-then, damage-none, damage-weaken}
+use Rattle.tree_spec.specs.Faults.{IsDamage, IsDamageOrOther, fault_in}
+use Rattle.tree_spec.specs.FaultsLaws.{damage-then, damage-weaken}
 use Rattle.tree_walk.specs.declared.page.TreePage.{TreePage}
 use Rattle.tree_walk.specs.declared.place.Place.{Place}
 use Rattle.tree_walk.specs.declared.path.Cursor.{Cursor}
-use Rattle.tree_walk.specs.Pages.{IsDecoded, IsBadRead, IsReadFault, has_dividers, is_leaf, tree_kind}
+use Rattle.tree_walk.specs.Pages.{IsDecoded, IsBadRead, IsReadFault, tree_kind}
 use Rattle.tree_walk.specs.Places.{most_above, Rises, child_at, low_at, high_at, IsBadNumber, IsBadPage, IsBounded, IsEntered, IsChild, IsBadRoot, IsBadStep, OutOfOrder, EntersPage, EntersRoot, IsOutOfPlace}
-use Rattle.tree_walk.specs.Walks.{IsAbove, StandsAt, Leaves}
 use Rattle.tree_walk.specs.Courses.{Course, GoesFrom}
-use Rattle.tree_walk.proofs.Steps.{landed, root_above, root_bad}
 
 -- what holds in any case holds where a call ends well
 pub ok-so : {T E P : Type 0} (result : Result T E) → P → OnOk result P
 ok-so (Ok done) p = p
 ok-so (Err error) p = tt
 
--- what is said of a store's sizes and count after a call that leaves them
-pub at-sizes : {P F : Type 0} (g : Ghosts P F) {before after : P} → Stays g before after → g.count after ≡ g.count before → (Q : ℕ → ℕ → ℕ → Type 0)
-    → Q (g.size after) (g.usable after) (g.count after) → Q (g.size before) (g.usable before) (g.count before)
-at-sizes g {before} {after} stays count Q q =
-    subst (λ (s : ℕ). Q s (g.usable before) (g.count before)) stays.size
-    (subst (λ (u : ℕ). Q (g.size after) u (g.count before)) stays.usable (subst (λ (n : ℕ). Q (g.size after) (g.usable after) n) count q))
-
--- what holds of every state holds of the one that is told
-pub some-all : {S : Type 0} (told : Option S) {P : S → Type 0} → ((f : S) → P f) → IfSome told P
-some-all None all = tt
-some-all (Some f) all = all f
+-- what follows from what a whole answer is
+pub sees-then : {P F : Type 0} (g : Ghosts P F) {before after : P} {A B : Pages → Type 0} → ((m : Pages) → A m → B m) → Sees g before after A → Sees g before after B
+sees-then g {before} follows sees = record { same = sees.same; count = sees.count; answer = IfSome_then (g.pages before) sees.answer follows }
 
 -- what a call owes whose error is no fault of the store
 pub owes-free : {P F T : Type 0} (g : Ghosts P F) {before after : P} (result : Result T (TreeFault F)) → Stays g before after → g.faults after ≡ g.faults before → IfErr result (λ fault. fault_in fault ≡ None)
@@ -65,11 +53,6 @@ owes-chain {P} {F} {T} {R} g {before} {after} fault told is owes =
     by (chain.ChainBroken page) o = record { stays = o.stays; faults = record { later = o.faults.later; still = tt; cause = o.faults.cause } }
     by (chain.Store f) o = record { stays = o.stays; faults = record { later = o.faults.later; still = tt; cause = o.faults.cause } }
     by (chain.Memory error) o = record { stays = o.stays; faults = record { later = o.faults.later; still = tt; cause = o.faults.cause } }
-
--- nothing is taken from nothing
-pub none_popped : {A : Type 0} (old new : List A) → new ≡ old → (0 < length old → ⊥) → new ≡ []
-none_popped [] new same none = same
-none_popped (x ∷ old) new same none = absurd (none (omega arith))
 
 module _ (bytes : List ℕ) (number usable : ℕ) where
   -- a page that was read, stood at with bounds
@@ -144,48 +127,6 @@ module _ (pages : Pages) (size usable count : ℕ) (parent : Place) (above : ℕ
       by : (r : Result Place (TreeFault F)) → EntersPage {F = F} (pages (child_at parent)) (child_at parent) usable parent r → OrFault (IsChild pages usable parent) (IsDamageOrOther (IsBadStep pages size usable count parent above)) r
       by (Ok place) below = below
       by (Err fault) bad = bad_page-step (subst (IsInRange size count) is in_range) few fault bad
-
--- kinds whose cells are no members
-pub dividers : (kind : PageKind) → has_dividers kind ≡ true → kind ≡ TableInterior
-dividers TableLeaf has = absurd (let e : false ≡ true = has in cc)
-dividers TableInterior has = refl
-dividers IndexLeaf has = absurd (let e : false ≡ true = has in cc)
-dividers IndexInterior has = absurd (let e : false ≡ true = has in cc)
-
-pub no_dividers : (kind : PageKind) → has_dividers kind ≡ false → kind ≢ TableInterior
-no_dividers kind none is = let has : has_dividers kind ≡ true = ap has_dividers is in cc
-
--- what is left stays where cursors go down
-abbrev pub KeepsLeft : Sizes → Paged → Cursor → Cursor → Type 0
-KeepsLeft sizes base old new = (kind : TreeKind) (rest : List Member) → IsAbove sizes base kind rest old → IsAbove sizes base kind rest new
-
-module _ (sizes : Sizes) (base : Paged) where
-  -- going down to a leaf is to stand
-  pub landed-all : {T F : Type 0} (kind : TreeKind) (rest : List Member) (new : Cursor) (result : Result T (TreeFault F)) → is_leaf new.here.page.kind ≡ true → Leaves (IsAbove sizes base kind rest) new result
-      → Leaves (StandsAt sizes base kind rest) new result
-  landed-all kind rest new (Ok done) leaf above = landed sizes base kind rest new leaf above
-  landed-all kind rest new (Err fault) leaf other = other
-
-  root_first_by : (rooted : Rooted) (is : IsRoot sizes base rooted) (root : ℕ) → root_of rooted ≡ root → rooted.levels ≤ 24 → (cursor : Cursor) → cursor.above.items ≡ []
-      → IsEntered (base.pages root) root sizes.usable None greatest_rowid cursor.here → IsAbove sizes base rooted.kind (list_in rooted) cursor
-  root_first_by rooted is root root_is deep cursor none entered =
-      root_above sizes base rooted is cursor none deep (subst⁻¹ (λ (n : ℕ). IsEntered (base.pages n) n sizes.usable None greatest_rowid cursor.here) root_is entered)
-
-  -- the cursor at the root of a tree is about to go down to its first member
-  pub root_first : (root : ℕ) (kind : TreeKind) (depth : ℕ) (members : List Member) (numbers : List ℕ) → IsTree sizes base root kind depth members numbers → (place : Place)
-      → IsEntered (base.pages root) root sizes.usable None greatest_rowid place → (cursor : Cursor) → cursor.above.items ≡ [] → cursor.here ≡ place → IsAbove sizes base kind members cursor
-  root_first root kind depth members numbers is place entered cursor none here_is =
-      subst (λ (k : TreeKind). IsAbove sizes base k members cursor) is.kind_is
-      (subst (λ (r : List Member). IsAbove sizes base is.rooted.kind r cursor) is.members_are
-      (root_first_by is.rooted is.is_root root is.root_is (omega (arith, is.deep, is.depth_is)) cursor none
-      (subst⁻¹ (IsEntered (base.pages root) root sizes.usable None greatest_rowid) here_is entered)))
-
-  -- the root of a tree is not refused
-  pub root_not_bad : {F : Type 0} (root : ℕ) (kind : TreeKind) (depth : ℕ) (members : List Member) (numbers : List ℕ) → IsTree sizes base root kind depth members numbers → (fault : TreeFault F)
-      → IsDamageOrOther (IsBadRoot (base.pages root) root sizes.usable) fault → IsOther fault
-  root_not_bad root kind depth members numbers is =
-      damage-none (IsBadRoot (base.pages root) root sizes.usable)
-      (λ page r bad. root_bad sizes base is.rooted is.is_root page r (subst⁻¹ (λ (n : ℕ). IsBadRoot (base.pages n) n sizes.usable page r) is.root_is bad))
 
 -- the walk stays where cursors go down
 abbrev pub KeepsWalk : Sizes → Paged → Cursor → Cursor → Type 0

@@ -13,11 +13,10 @@ use Rattle.tree_walk.specs.declared.place.Place.{Place}
 use Rattle.tree_walk.specs.declared.path.Cursor.{Cursor}
 use Rattle.tree_walk.specs.declared.cursor.Row.{Row}
 use Rattle.tree_walk.specs.Payloads.{ReadsPayload}
-use Rattle.tree_walk.specs.Pages.{has_dividers, is_leaf}
+use Rattle.tree_walk.specs.Pages.{view_of, has_dividers, is_leaf}
 use Rattle.tree_walk.specs.Places.{child_at, most_above, IsBadStep, IsChild}
-use Rattle.tree_walk.specs.Walks.{IsPast}
-use Rattle.tree_walk.specs.Courses.{Spot, Course, ends, stops, behind_first, spots_from, cells_left, cells_then, cell_then, next_of, OnLeaf, Enters, Behind, FromPlace, From, Below, FromCell, IsLater, IsOn, GoesFrom, StandsOn, IsFirstOf, IsBadFirst}
-use Rattle.tree_walk.proofs.Steps.{reverse-more, not_empty}
+use Rattle.tree_walk.specs.Courses.{IsPast, Spot, Course, ends, stops, behind_first, spots_from, cells_left, cells_then, cell_then, next_of, OnLeaf, Enters, Behind, FromPlace, From, Below, FromCell, IsLater, IsOn, GoesFrom, StandsOn, IsFirstOf, IsBadFirst}
+use Rattle.tree_walk.proofs.Lists.{reverse-more, not_empty}
 
 leaf_no_dividers : (kind : PageKind) → is_leaf kind ≡ true → has_dividers kind ≡ false
 leaf_no_dividers TableLeaf leaf = refl
@@ -37,7 +36,7 @@ pub to_leaf : (leaf : Bool) (A B : Type 0) → leaf ≡ true → A → OnLeaf le
 to_leaf true A B is a = a
 to_leaf false A B is a = absurd (let e : false ≡ true = is in cc)
 
-to_inner : (leaf : Bool) (A B : Type 0) → leaf ≡ false → B → OnLeaf leaf A B
+pub to_inner : (leaf : Bool) (A B : Type 0) → leaf ≡ false → B → OnLeaf leaf A B
 to_inner true A B is b = absurd (let e : true ≡ false = is in cc)
 to_inner false A B is b = b
 
@@ -45,23 +44,23 @@ to_inner false A B is b = b
 cells-past : (place : Place) (later : Course) → length place.page.views ≤ place.at → cells_then place later ≡ later
 cells-past place later past =
     let none : cells_left place ≡ 0 = omega arith in
-    ap (λ (left : ℕ). let c : Course = record { spots = spots_from place.page place.at left ++ later.spots; damage = later.damage } in c) none
+    ap (λ (left : ℕ). let c : Course = record { spots = spots_from (view_of place.page) place.at left ++ later.spots; damage = later.damage } in c) none
 
 cells-next : (place : Place) (later : Course) → place.at < length place.page.views → behind_first (cells_then place later) ≡ cells_then (next_of place) later
 cells-next place later less =
     let one : cells_left place ≡ suc (cells_left (next_of place)) = omega arith in
     let at : suc place.at ≡ place.at + 1 = omega arith in
-    ap (λ (left : ℕ). behind_first (record { spots = spots_from place.page place.at left ++ later.spots; damage = later.damage })) one
-    ∙ ap (λ (k : ℕ). let c : Course = record { spots = spots_from place.page k (cells_left (next_of place)) ++ later.spots; damage = later.damage } in c) at
+    ap (λ (left : ℕ). behind_first (record { spots = spots_from (view_of place.page) place.at left ++ later.spots; damage = later.damage })) one
+    ∙ ap (λ (k : ℕ). let c : Course = record { spots = spots_from (view_of place.page) k (cells_left (next_of place)) ++ later.spots; damage = later.damage } in c) at
 
 -- the cell of an interior page
-cell-divider : (place : Place) (later : Course) → has_dividers place.page.kind ≡ true → cell_then place later ≡ later
+pub cell-divider : (place : Place) (later : Course) → has_dividers place.page.kind ≡ true → cell_then place later ≡ later
 cell-divider place later divider =
-    ap (λ (b : Bool). cond b later (record { spots = record { page = place.page; at = place.at } ∷ later.spots; damage = later.damage })) divider
+    ap (λ (b : Bool). cond b later (record { spots = record { page = view_of place.page; at = place.at } ∷ later.spots; damage = later.damage })) divider
 
 cell-entry : (place : Place) (later : Course) → has_dividers place.page.kind ≡ false → behind_first (cell_then place later) ≡ later
 cell-entry place later entry =
-    ap (λ (b : Bool). behind_first (cond b later (record { spots = record { page = place.page; at = place.at } ∷ later.spots; damage = later.damage }))) entry
+    ap (λ (b : Bool). behind_first (cond b later (record { spots = record { page = view_of place.page; at = place.at } ∷ later.spots; damage = later.damage }))) entry
 
 module _ (sizes : Sizes) (base : Paged) where
   -- the walk from a place on, by the room below it
@@ -69,7 +68,7 @@ module _ (sizes : Sizes) (base : Paged) where
   from_place zero place later course from = from
   from_place (suc room) place later course from = from
 
-  to_place : (room : ℕ) (place : Place) (later course : Course) → FromPlace sizes base (Below sizes base room) (most_above - room) place later course → From sizes base room place later course
+  pub to_place : (room : ℕ) (place : Place) (later course : Course) → FromPlace sizes base (Below sizes base room) (most_above - room) place later course → From sizes base room place later course
   to_place zero place later course from = from
   to_place (suc room) place later course from = from
 
@@ -284,17 +283,17 @@ module _ (sizes : Sizes) (base : Paged) where
 
   -- a cursor that is not past the last cell stands at the first of its course
   pub stands-first : (course : Course) (cursor : Cursor) → ¬ IsPast cursor → StandsOn sizes base course cursor
-      → (rest : List Spot) × (course.spots ≡ record { page = cursor.here.page; at = cursor.here.at } ∷ rest)
+      → (rest : List Spot) × (course.spots ≡ record { page = view_of cursor.here.page; at = cursor.here.at } ∷ rest)
   stands-first course cursor not_past stands = by (is_leaf cursor.here.page.kind) (has_dividers cursor.here.page.kind) (λ divider. not_past (stands.cell divider)) refl stands.is_on.from_here
     where
       by : (leaf divider : Bool) → (divider ≡ true → ⊥) → has_dividers cursor.here.page.kind ≡ divider
           → OnLeaf leaf (course ≡ cells_then cursor.here stands.is_on.later)
           (Behind sizes base (Below sizes base stands.is_on.room) (most_above - stands.is_on.room) (cells_left cursor.here) cursor.here stands.is_on.later course)
-          → (rest : List Spot) × (course.spots ≡ record { page = cursor.here.page; at = cursor.here.at } ∷ rest)
+          → (rest : List Spot) × (course.spots ≡ record { page = view_of cursor.here.page; at = cursor.here.at } ∷ rest)
       by true divider none is here =
           let one : cells_left cursor.here ≡ suc (cells_left (next_of cursor.here)) = omega (arith, not_past) in (
-            spots_from cursor.here.page (suc cursor.here.at) (cells_left (next_of cursor.here)) ++ stands.is_on.later.spots,
-            ap (λ (c : Course). c.spots) here ∙ ap (λ (left : ℕ). spots_from cursor.here.page cursor.here.at left ++ stands.is_on.later.spots) one,
+            spots_from (view_of cursor.here.page) (suc cursor.here.at) (cells_left (next_of cursor.here)) ++ stands.is_on.later.spots,
+            ap (λ (c : Course). c.spots) here ∙ ap (λ (left : ℕ). spots_from (view_of cursor.here.page) cursor.here.at left ++ stands.is_on.later.spots) one,
           )
       by false true none is here = absurd (none refl)
       by false false none is here =
@@ -302,7 +301,7 @@ module _ (sizes : Sizes) (base : Paged) where
           let parts = subst (λ (left : ℕ). Behind sizes base (Below sizes base stands.is_on.room) (most_above - stands.is_on.room) left cursor.here stands.is_on.later course) one here in (
             parts.0.spots,
             ap (λ (c : Course). c.spots) parts.2
-                ∙ ap (λ (b : Bool). let c : Course = cond b parts.0 (record { spots = record { page = cursor.here.page; at = cursor.here.at } ∷ parts.0.spots; damage = parts.0.damage }) in c.spots) is,
+                ∙ ap (λ (b : Bool). let c : Course = cond b parts.0 (record { spots = record { page = view_of cursor.here.page; at = cursor.here.at } ∷ parts.0.spots; damage = parts.0.damage }) in c.spots) is,
           )
 
   pub row-first : (F : Type 0) (course : Course) (cursor : Cursor) → ¬ IsPast cursor → StandsOn sizes base course cursor → (row : Row)

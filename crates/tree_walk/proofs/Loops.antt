@@ -40,7 +40,7 @@ rise-ends low high views i A B past within same =
       λ a. within.1 (subst (λ (vs : List CellView). RisesIn low high (rowids vs)) none (same.1 a)),
     )
 
-not_le : (a b : ℤ) → (a ≤ℤ b → ⊥) → b <ℤ a
+pub not_le : (a b : ℤ) → (a ≤ℤ b → ⊥) → b <ℤ a
 not_le a b out = by (int_lt b a) refl
   where
     by : (less : Bool) → int_lt b a ≡ less → b <ℤ a

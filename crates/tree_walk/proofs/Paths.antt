@@ -17,15 +17,15 @@ use Rattle.tree_walk.specs.declared.path.Cursor.{Cursor}
 use Rattle.tree_walk.specs.Pages.{has_dividers, is_leaf, tree_kind}
 use Rattle.tree_walk.specs.Places.{low_bound, rowids, Rises, rowid_or, low_in, low_at, high_at}
 use Rattle.tree_walk.specs.Paths.{IsKept, IsUnder, IsPath, IsFirstUnder}
-use Rattle.tree_walk.specs.Walks.{IsPast}
+use Rattle.tree_walk.specs.Courses.{IsPast}
 use Rattle.tree_walk.specs.Rising.{kind_of, rowid_at, KeepsLow, KeepsHigh, ComesUp, MovesUp}
 use Rattle.tree_walk.proofs.TreeFacts.{low-next}
-use Rattle.tree_walk.proofs.Steps.{reverse-more}
+use Rattle.tree_walk.proofs.Lists.{reverse-more}
 
 -- Views.
 
 -- each rowid is above the one before it
-cell_above : (low : Option ℤ) (high : ℤ) (views : List CellView) (at : ℕ) → RisesIn (low_bound low) high (rowids views) → at < length views
+pub cell_above : (low : Option ℤ) (high : ℤ) (views : List CellView) (at : ℕ) → RisesIn (low_bound low) high (rowids views) → at < length views
     → low_bound (low_in low views at) <ℤ rowid_or high (slice_get views at)
 cell_above low high [] at rises less = absurd (omega arith)
 cell_above low high (v ∷ views) zero rises less = rises.0
@@ -33,13 +33,13 @@ cell_above low high (v ∷ views) (suc at) rises less =
     subst (λ (b : Option ℤ). low_bound b <ℤ rowid_or high (slice_get views at)) (low-next low v views at (omega arith)) (cell_above (Some v.rowid) high views at rises.1 (omega arith))
 
 -- and none is above the upper bound
-cell_within : (low high : ℤ) (views : List CellView) (at : ℕ) → RisesIn low high (rowids views) → rowid_or high (slice_get views at) ≤ℤ high
+pub cell_within : (low high : ℤ) (views : List CellView) (at : ℕ) → RisesIn low high (rowids views) → rowid_or high (slice_get views at) ≤ℤ high
 cell_within low high [] at rises = subst⁻¹ (λ (v : Option CellView). rowid_or high v ≤ℤ high) (slice_get_past {X = CellView} [] at (omega arith)) (omega (arith, ints))
 cell_within low high (v ∷ views) zero rises = rises-bounds v.rowid high (rowids views) rises.1
 cell_within low high (v ∷ views) (suc at) rises = cell_within v.rowid high views at rises.1
 
 -- behind a cell its rowid is the lower bound
-low_behind : (low : Option ℤ) (high : ℤ) (views : List CellView) (at : ℕ) → at < length views → low_in low views (suc at) ≡ Some (rowid_or high (slice_get views at))
+pub low_behind : (low : Option ℤ) (high : ℤ) (views : List CellView) (at : ℕ) → at < length views → low_in low views (suc at) ≡ Some (rowid_or high (slice_get views at))
 low_behind low high [] at less = absurd (omega arith)
 low_behind low high (v ∷ views) zero less = refl
 low_behind low high (v ∷ views) (suc at) less = low_behind low high views at (omega arith)
@@ -88,7 +88,7 @@ path-up above higher parent place is path =
 
 -- Rowids of a table.
 
-table-rises : (place : Place) → tree_kind place.page.kind ≡ Table → IsKept place → RisesIn (low_bound place.low) place.high (rowids place.page.views)
+pub table-rises : (place : Place) → tree_kind place.page.kind ≡ Table → IsKept place → RisesIn (low_bound place.low) place.high (rowids place.page.views)
 table-rises place table kept = subst (λ (k : TreeKind). Rises k place.low place.high place.page.views) table kept
 
 -- a cell is above the bound below it
@@ -141,7 +141,7 @@ landed-up old higher next new (Ok moved) high not_past is_moved at_is low stands
     (omega (arith, ints, strict), λ past. strict)
 landed-up old higher next new (Err error) high not_past is_moved at_is low stands = tt
 
-table_inner : (kind : PageKind) → tree_kind kind ≡ Table → is_leaf kind ≡ false → has_dividers kind ≡ true
+pub table_inner : (kind : PageKind) → tree_kind kind ≡ Table → is_leaf kind ≡ false → has_dividers kind ≡ true
 table_inner TableLeaf table inner = absurd (let e : true ≡ false = inner in cc)
 table_inner TableInterior table inner = refl
 table_inner IndexLeaf table inner = absurd (let e : true ≡ false = inner in cc)

@@ -1,5 +1,5 @@
 -- How a cursor comes to where a rowid belongs, whatever the store holds.
-use Rattle.std.proofs.Common.{◌≡◌, ℕ, ℤ, zero, suc, ◌+◌, ◌-◌, ◌<◌, true, false, List, [], ◌∷◌, ◌++◌, length, reverse, Option, Result, Ok, Err, refl, sym, ap, ap₂, ◌∙◌, subst, arith, length-append}
+use Rattle.std.proofs.Common.{◌≡◌, ℕ, ℤ, zero, suc, ◌+◌, ◌-◌, ◌<◌, true, false, List, [], ◌∷◌, ◌++◌, length, reverse, Option, refl, ap, ap₂, ◌∙◌, subst, arith, length-append}
 use Rattle.std.proofs.Math.Path.{subst⁻¹}
 use Rattle.page_spec.specs.Pages.{IsInRange}
 use Rattle.tree_spec.specs.declared.fault.TreeFault.{TreeFault}
@@ -12,10 +12,10 @@ use Rattle.tree_walk.specs.declared.path.Cursor.{Cursor}
 use Rattle.tree_walk.specs.Pages.{is_leaf}
 use Rattle.tree_walk.specs.Places.{child_at, most_above, rowids, IsBadStep, IsChild}
 use Rattle.tree_walk.specs.Seeks.{IsAimed, IsIndexOf}
-use Rattle.tree_walk.specs.Courses.{Course, ends, stops, cells_left, cells_then, OnLeaf, Enters, Behind, Below, FromCell, IsLater, IsOn}
+use Rattle.tree_walk.specs.Courses.{Course, ends, stops, cells_left, cells_then, Enters, Behind, Below, FromCell, IsLater, IsOn}
 use Rattle.tree_walk.specs.SoughtCourses.{place_at, FromAimed, FromSought, Deeper}
 use Rattle.tree_walk.proofs.Courses.{on_leaf, on_inner, to_leaf}
-use Rattle.tree_walk.proofs.Steps.{reverse-more}
+use Rattle.tree_walk.proofs.Lists.{reverse-more}
 
 module _ (sizes : Sizes) (base : Paged) (x : ℤ) where
   -- the walk from the child or the cell at which a cursor was set

@@ -1,7 +1,6 @@
 -- What a standing tree says of the pages that are read of it.
-use Rattle.std.proofs.Common.{◌≡◌, ℕ, ℤ, zero, suc, ◌<◌, ◌≤◌, ◌<ℤ◌, true, false, List, [], ◌∷◌, ◌++◌, length, map, drop, slice_get, slice_index_or, Option, Some, refl, sym, ap, ap₂, ◌∙◌, subst, arith, length-append, append_assoc}
+use Rattle.std.proofs.Common.{◌≡◌, ℕ, ℤ, zero, suc, ◌<◌, ◌≤◌, true, false, List, [], ◌∷◌, ◌++◌, length, map, drop, slice_get, slice_index_or, Option, Some, refl, sym, ap, ap₂, ◌∙◌, subst, arith, append_assoc}
 use Rattle.std.specs.List.{flat_map, AllByRecursion}
-use Rattle.std.proofs.lemmas.Int.{ints}
 use Rattle.std.proofs.lemmas.List.{length-map, append-nil}
 use Rattle.std.proofs.lemmas.Option.{slice_get_past}
 use Rattle.format_spec.specs.declared.PageKind.{PageKind}
@@ -16,15 +15,31 @@ use Rattle.refusal.specs.declared.Rule.{Rule}
 use Rattle.refusal.specs.declared.Rule.TheVariants as broken
 use Rattle.tree_spec.specs.declared.TreeKind.{TreeKind}
 use Rattle.tree_spec.specs.declared.TreeKind.TheVariants.{Table, Index}
-use Rattle.tree_spec.specs.Trees.{TreeCell, TreeOf, Member, member, between, interior_kind, kind_at, page_of, cells_behind, own_cells, own_right, list_of, list_beside, IsFull, IsFullBelow}
+use Rattle.tree_spec.specs.Trees.{TreeCell, TreeOf, Member, between, interior_kind, kind_at, page_of, cells_behind, own_cells, own_right, list_of, list_beside, IsFull, IsFullBelow}
 use Rattle.tree_spec.specs.Bounds.{RisesIn, BesideIn, InOrder}
-use Rattle.tree_spec.specs.BoundsLaws.{rises-bounds, InOrder-rises, rowids as member_rowids}
+use Rattle.tree_spec.specs.BoundsLaws.{own_cells-rise}
 use Rattle.tree_spec.specs.Standing.{Sizes, Paged, IsHeld, HasBelow, Stands, StandsBefore, StandsLast}
 use Rattle.tree_spec.specs.PagesLaws.{page-same}
 use Rattle.tree_walk.specs.declared.page.TreePage.{TreePage}
 use Rattle.tree_walk.specs.Pages.{IsDecoded, is_leaf, tree_kind}
 use Rattle.tree_walk.specs.Places.{rowids, low_bound, Rises, child_or, rowid_or, bound_or, low_in}
-use Rattle.tree_walk.specs.Walks.{from_child, behind_child, from_place, IsWithin}
+
+-- the members from a child on
+abbrev pub from_child : TreeKind → (levels : ℕ) → List (TreeOf levels × TreeCell) → TreeOf levels → ℕ → List Member
+from_child kind levels [] last at = list_of kind levels last
+from_child kind levels (child ∷ children) last zero = list_beside kind levels (child ∷ children) last
+from_child kind levels (child ∷ children) last (suc at) = from_child kind levels children last at
+
+-- the members behind a child: the entry of the cell behind it, and those from the next child on
+abbrev pub behind_child : TreeKind → (levels : ℕ) → List (TreeOf levels × TreeCell) → TreeOf levels → ℕ → List Member
+behind_child kind levels [] last at = []
+behind_child kind levels (child ∷ children) last zero = between kind child.1 ++ from_child kind levels children last 0
+behind_child kind levels (child ∷ children) last (suc at) = behind_child kind levels children last at
+
+-- a table's tree is in order within the bounds of a place
+abbrev pub IsWithin : TreeKind → (levels : ℕ) → Option ℤ → ℤ → TreeOf levels → Type 0
+IsWithin Table levels low high tree = InOrder levels (low_bound low) high tree
+IsWithin Index levels low high tree = Unit {0}
 
 abbrev pub views_of : List TreeCell → List CellView
 views_of cells = map (λ cell. cell.view) cells
@@ -81,7 +96,7 @@ each_view sizes base kind [] held k d low = absurd (omega arith)
 each_view sizes base kind (c ∷ cells) held zero d low = held.0.is_cell
 each_view sizes base kind (c ∷ cells) held (suc k) d low = each_view sizes base kind cells held.1 k d (omega arith)
 
-right-one : (kind : PageKind) (page : List ℕ) (header right other : ℕ) → RightChild kind page header right → RightChild kind page header other → right ≡ other
+pub right-one : (kind : PageKind) (page : List ℕ) (header right other : ℕ) → RightChild kind page header right → RightChild kind page header other → right ≡ other
 right-one TableLeaf page header right other one two = one ∙ sym two
 right-one TableInterior page header right other one two = one ∙ sym two
 right-one IndexLeaf page header right other one two = one ∙ sym two
@@ -140,36 +155,14 @@ module _ (sizes : Sizes) (base : Paged) (kind : TreeKind) where
 
 -- Order.
 
--- a tree whose pages have cells has members
-some-members : (levels : ℕ) (tree : TreeOf levels) → IsFull levels tree → 0 < length (list_of Table levels tree)
-some-members zero tree full = omega (arith, length-map tree.cells member, full.0)
-some-members (suc levels) tree full =
-    let front = flat_map (λ (child : TreeOf levels × TreeCell). list_of Table levels child.0 ++ between Table child.1) tree.children in
-    omega (arith, length-append front (list_of Table levels tree.last), some-members levels tree.last full.1.1)
-
-rises-strict : (low high : ℤ) (xs : List ℤ) → 0 < length xs → RisesIn low high xs → low <ℤ high
-rises-strict low high [] some rises = absurd (omega arith)
-rises-strict low high (x ∷ xs) some rises = omega (arith, ints, rises.0, rises-bounds x high xs rises.1)
-
-leaf-rises : (low high : ℤ) (cells : List TreeCell) → RisesIn low high (map (λ (c : TreeCell). c.view.rowid) cells) → RisesIn low high (rowids (views_of cells))
-leaf-rises low high [] rises = rises
-leaf-rises low high (c ∷ cells) rises = (rises.0, leaf-rises c.view.rowid high cells rises.1)
-
-dividers-rise : (levels : ℕ) (low high : ℤ) (children : List (TreeOf levels × TreeCell)) (last : TreeOf levels) → AllByRecursion (λ child. IsFull levels child.0) children
-    → BesideIn (InOrder levels) low high children last → RisesIn low high (rowids (views_of (cells_behind children)))
-dividers-rise levels low high [] last full beside = rises-bounds low high (member_rowids (list_of Table levels last)) (InOrder-rises levels low high last beside)
-dividers-rise levels low high (child ∷ children) last full beside =
-    let members = list_of Table levels child.0 in
-    let rowid = child.1.view.rowid in (
-      rises-strict low rowid (member_rowids members) (omega (arith, length-map members (λ (m : Member). m.rowid), some-members levels child.0 full.0)) (InOrder-rises levels low rowid child.0 beside.0),
-      dividers-rise levels rowid high children last full.1 beside.1,
-    )
+views-rise : (low high : ℤ) (cells : List TreeCell) → RisesIn low high (map (λ (c : TreeCell). c.view.rowid) cells) → RisesIn low high (rowids (views_of cells))
+views-rise low high [] rises = rises
+views-rise low high (c ∷ cells) rises = (rises.0, views-rise c.view.rowid high cells rises.1)
 
 -- the rowids of a tree's own page keep its bounds
 pub tree-rises : (kind : TreeKind) (levels : ℕ) (low : Option ℤ) (high : ℤ) (tree : TreeOf levels) → IsFullBelow levels tree → IsWithin kind levels low high tree
     → Rises kind low high (views_of (own_cells levels tree))
-tree-rises Table zero low high tree full within = leaf-rises (low_bound low) high tree.cells within
-tree-rises Table (suc levels) low high tree full within = dividers-rise levels (low_bound low) high tree.children tree.last full.0 within
+tree-rises Table levels low high tree full within = views-rise (low_bound low) high (own_cells levels tree) (own_cells-rise levels (low_bound low) high tree full within)
 tree-rises Index levels low high tree full within = tt
 
 -- Children.
@@ -190,10 +183,6 @@ from_child-cut kind levels (child ∷ children) last zero =
     ∙ append_assoc here entry (rest ++ list_of kind levels last)
     ∙ ap (λ (r : List Member). here ++ (entry ++ r)) (sym (from_child-all kind levels children last))
 from_child-cut kind levels (child ∷ children) last (suc at) = from_child-cut kind levels children last at
-
-pub from_place-all : (kind : TreeKind) (levels : ℕ) (tree : TreeOf levels) → from_place kind levels tree 0 ≡ list_of kind levels tree
-from_place-all kind zero tree = refl
-from_place-all kind (suc levels) tree = from_child-all kind levels tree.children tree.last
 
 pub behind-past : (kind : TreeKind) (levels : ℕ) (children : List (TreeOf levels × TreeCell)) (last : TreeOf levels) (at : ℕ) → length children ≤ at → behind_child kind levels children last at ≡ []
 behind-past kind levels [] last at past = refl

@@ -1,5 +1,5 @@
 -- What a walk over a tree comes to, whatever the store holds: the cells in their order, and the damage that it meets behind them.
-use Rattle.std.specs.Prelude.{◌≡◌, ℕ, zero, suc, ◌+◌, ◌-◌, ◌<◌, Bool, true, false, cond, List, [], ◌∷◌, ◌++◌, length, drop, reverse, Option, Some, None, Result, Ok, Err, slice_index_or}
+use Rattle.std.specs.Prelude.{◌≡◌, ℕ, zero, suc, ◌+◌, ◌-◌, ◌<◌, ◌≤◌, Bool, true, false, cond, List, [], ◌∷◌, ◌++◌, length, drop, reverse, Option, Some, None, Result, Ok, Err, slice_index_or}
 use Rattle.common_spec.specs.Reading.{OrFault}
 use Rattle.format_spec.specs.declared.CellView.{CellView}
 use Rattle.page_spec.specs.Pages.{IsInRange}
@@ -8,18 +8,20 @@ use Rattle.tree_spec.specs.Bounds.{greatest_rowid}
 use Rattle.tree_spec.specs.declared.fault.TreeFault.{TreeFault}
 use Rattle.tree_spec.specs.Faults.{IsDamageOrOther}
 use Rattle.tree_spec.specs.Standing.{Sizes, Paged}
-use Rattle.tree_walk.specs.declared.page.TreePage.{TreePage}
 use Rattle.tree_walk.specs.declared.place.Place.{Place}
 use Rattle.tree_walk.specs.declared.path.Cursor.{Cursor}
 use Rattle.tree_walk.specs.declared.cursor.Row.{Row}
-use Rattle.tree_walk.specs.Pages.{has_dividers, is_leaf}
+use Rattle.tree_walk.specs.Pages.{PageView, view_of, has_dividers, is_leaf}
 use Rattle.tree_walk.specs.Payloads.{IsBadPayload, IsPayload}
 use Rattle.tree_walk.specs.Places.{child_at, most_above, IsBadRoot, IsBadStep, IsChild, IsEntered}
-use Rattle.tree_walk.specs.Walks.{IsPast}
 
--- a cell of a page
+-- the cursor stands past all cells of its page, and so past the last member
+abbrev pub IsPast : Cursor → Type 0
+IsPast cursor = length cursor.here.page.views ≤ cursor.here.at
+
+-- a cell of a page, by its index
 pub record Spot : Type 0 where
-  pub page : TreePage
+  pub page : PageView
   pub at : ℕ
 
 -- the page that holds what is wrong, and the rule that it breaks
@@ -43,7 +45,7 @@ abbrev pub behind_first : Course → Course
 behind_first course = record { spots = drop 1 course.spots; damage = course.damage }
 
 -- so many cells of a page, from an index on
-abbrev pub spots_from : TreePage → ℕ → ℕ → List Spot
+abbrev pub spots_from : PageView → ℕ → ℕ → List Spot
 spots_from page at zero = []
 spots_from page at (suc more) = record { page = page; at = at } ∷ spots_from page (suc at) more
 
@@ -53,11 +55,11 @@ cells_left place = length place.page.views - place.at
 
 -- the cells of a leaf from a place on, and then what is behind the leaf
 abbrev pub cells_then : Place → Course → Course
-cells_then place later = record { spots = spots_from place.page place.at (cells_left place) ++ later.spots; damage = later.damage }
+cells_then place later = record { spots = spots_from (view_of place.page) place.at (cells_left place) ++ later.spots; damage = later.damage }
 
 -- the cell of an interior page, which is an entry of an index and a divider of a table, and then what is behind it
 abbrev pub cell_then : Place → Course → Course
-cell_then place later = cond (has_dividers place.page.kind) later (record { spots = record { page = place.page; at = place.at } ∷ later.spots; damage = later.damage })
+cell_then place later = cond (has_dividers place.page.kind) later (record { spots = record { page = view_of place.page; at = place.at } ∷ later.spots; damage = later.damage })
 
 -- the next cell or child of a page
 abbrev pub next_of : Place → Place

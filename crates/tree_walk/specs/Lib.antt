@@ -1,3 +1,4 @@
+pub mod Stores
 pub mod Pages
 pub mod Places
 pub mod Paths
@@ -8,3 +9,4 @@ pub mod Rising
 pub mod Courses
 pub mod Seeks
 pub mod SoughtCourses
+pub mod Lengths

@@ -3,6 +3,7 @@ use Rattle.std.specs.Prelude.{◌≡◌, ℕ, Bool, true, false, List, Result}
 use Rattle.common_spec.specs.Reading.{OrFault}
 use Rattle.format_spec.specs.declared.PageKind.{PageKind}
 use Rattle.format_spec.specs.declared.PageKind.TheVariants.{IndexInterior, TableInterior, IndexLeaf, TableLeaf}
+use Rattle.format_spec.specs.declared.CellView.{CellView}
 use Rattle.format_spec.specs.Page.{RightChild, header_place}
 use Rattle.page_spec.specs.Pages.{Pages}
 use Rattle.page_layout.specs.Views.{HasKind, HasViews, IsRefused}
@@ -33,6 +34,16 @@ has_dividers TableLeaf = false
 has_dividers TableInterior = true
 has_dividers IndexLeaf = false
 has_dividers IndexInterior = false
+
+-- a page as a walk sees it: its number, its kind, its bytes, and what its cells say
+pub record PageView : Type 0 where
+  pub number : ℕ
+  pub kind : PageKind
+  pub bytes : List ℕ
+  pub views : List CellView
+
+abbrev pub view_of : TreePage → PageView
+view_of page = record { number = page.number; kind = page.kind; bytes = page.bytes; views = page.views }
 
 -- the page was read from these bytes
 pub record IsDecoded (bytes : List ℕ) (number usable : ℕ) (page : TreePage) : Type 0 where

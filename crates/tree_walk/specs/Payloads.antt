@@ -14,6 +14,7 @@ use Rattle.tree_spec.specs.declared.fault.TreeFault.{TreeFault}
 use Rattle.tree_spec.specs.declared.fault.TreeFault.TheVariants.{TreeDamaged, Store, Memory}
 use Rattle.tree_spec.specs.Faults.{IsDamageOrOther}
 use Rattle.tree_walk.specs.declared.page.TreePage.{TreePage}
+use Rattle.tree_walk.specs.Pages.{PageView, view_of}
 
 -- a chain that breaks is damage of its tree
 abbrev pub tree_fault : {F : Type 0} → ChainFault F → TreeFault F
@@ -22,7 +23,7 @@ tree_fault (chain.Store fault) = Store fault
 tree_fault (chain.Memory error) = Memory error
 
 -- the part of a payload that lies in the page, by the view of its cell
-abbrev pub part_at : TreePage → ℕ → CellView → List ℕ
+abbrev pub part_at : PageView → ℕ → CellView → List ℕ
 part_at page at view = part_of page.bytes (cell_place page.bytes page.number page.kind at + view.local_at) view.local
 
 module _ (pages : Pages) (size usable count : ℕ) where
@@ -36,16 +37,16 @@ module _ (pages : Pages) (size usable count : ℕ) where
   ReadsRest number first bytes (Err fault) = IsDamageOrOther (IsBadChain number first bytes) fault
 
   -- a payload lies in its cell whole, or an overflow chain holds the rest
-  abbrev pub IsPayload : TreePage → ℕ → CellView → List ℕ → Type 0
+  abbrev pub IsPayload : PageView → ℕ → CellView → List ℕ → Type 0
   IsPayload page at view payload =
       ((view.payload - view.local ≡ 0) × (payload ≡ part_at page at view))
       ⊎ ((rest : List ℕ) × HoldsBytes pages size usable count view.overflow (view.payload - view.local) rest × (payload ≡ part_at page at view ++ rest))
 
   -- the payload of a cell has a broken chain
-  abbrev pub IsBadPayload : TreePage → ℕ → ℕ → Rule → Type 0
+  abbrev pub IsBadPayload : PageView → ℕ → ℕ → Rule → Type 0
   IsBadPayload page at number rule = (d : CellView) → let view = slice_index_or page.views at d in
       (0 < view.payload - view.local) × IsBadChain page.number view.overflow (view.payload - view.local) number rule
 
   abbrev pub ReadsPayload : {F : Type 0} → TreePage → ℕ → Result (List ℕ) (TreeFault F) → Type 0
-  ReadsPayload page at (Ok payload) = (d : CellView) → IsPayload page at (slice_index_or page.views at d) payload
-  ReadsPayload page at (Err fault) = IsDamageOrOther (IsBadPayload page at) fault
+  ReadsPayload page at (Ok payload) = (d : CellView) → IsPayload (view_of page) at (slice_index_or page.views at d) payload
+  ReadsPayload page at (Err fault) = IsDamageOrOther (IsBadPayload (view_of page) at) fault

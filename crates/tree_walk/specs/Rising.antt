@@ -5,7 +5,7 @@ use Rattle.tree_spec.specs.declared.TreeKind.TheVariants.{Table}
 use Rattle.tree_walk.specs.declared.path.Cursor.{Cursor}
 use Rattle.tree_walk.specs.Pages.{tree_kind}
 use Rattle.tree_walk.specs.Places.{low_at, high_at}
-use Rattle.tree_walk.specs.Walks.{IsPast}
+use Rattle.tree_walk.specs.Courses.{IsPast}
 
 -- the kind of the tree in which a cursor is
 abbrev pub kind_of : Cursor → TreeKind

@@ -5,12 +5,11 @@ use Rattle.common_spec.specs.Reading.{OrFault}
 use Rattle.tree_spec.specs.declared.TreeKind.TheVariants.{Table}
 use Rattle.tree_spec.specs.declared.fault.TreeFault.{TreeFault}
 use Rattle.tree_spec.specs.Faults.{IsOther}
-use Rattle.tree_spec.specs.Trees.{Member, list_of}
+use Rattle.tree_spec.specs.Trees.{Member}
 use Rattle.tree_spec.specs.Standing.{Sizes, Paged, IsTree}
-use Rattle.tree_walk.specs.declared.place.Place.{Place}
 use Rattle.tree_walk.specs.declared.path.Cursor.{Cursor}
 use Rattle.tree_walk.specs.Places.{rowids}
-use Rattle.tree_walk.specs.Walks.{IsIn, IsAtCell, Leaves, StandsAt}
+use Rattle.tree_walk.specs.Walks.{StandsAt}
 
 -- the members whose rowid is not less than another
 abbrev pub not_less : ℤ → List Member → List Member
@@ -30,24 +29,7 @@ pub record IsAimed (rowid : ℤ) (old new : Cursor) : Type 0 where
   pub high_is : new.here.high ≡ old.here.high
   pub index : IsIndexOf rowid (rowids new.here.page.views) new.here.at
 
--- the cursor is in the page of a standing table, and these are its members from there on that are not less
-abbrev pub IsSought : Sizes → Paged → ℤ → List Member → Cursor → Type 0
-IsSought sizes base rowid rest cursor = IsIn sizes base Table (λ levels tree at. not_less rowid (list_of Table levels tree)) rest cursor
-
--- a cursor goes down to the leaf in which a rowid belongs
-abbrev pub SeeksDown : {F : Type 0} → Sizes → Paged → ℤ → Cursor → Cursor → Result Unit (TreeFault F) → Type 0
-SeeksDown sizes base rowid old new result = (rest : List Member) → IsSought sizes base rowid rest old → Leaves (IsAtCell sizes base Table rest) new result
-
--- a cursor comes to the first member that is not less
-abbrev pub ComesTo : {F : Type 0} → Sizes → Paged → ℤ → Cursor → Cursor → Result Unit (TreeFault F) → Type 0
-ComesTo sizes base rowid old new result = (rest : List Member) → IsSought sizes base rowid rest old → Leaves (StandsAt sizes base Table rest) new result
-
 -- the cursor stands at the first member of the table at a root whose rowid is not less, and so those are left that are not less
 abbrev pub StandsFrom : {F : Type 0} → Sizes → Paged → ℕ → ℤ → Result Cursor (TreeFault F) → Type 0
 StandsFrom sizes base root rowid result = (depth : ℕ) (members : List Member) (numbers : List ℕ) → IsTree sizes base root Table depth members numbers
     → OrFault (StandsAt sizes base Table (not_less rowid members)) IsOther result
-
--- the same of the table that has the place in its root
-abbrev pub SeeksFrom : {F : Type 0} → Sizes → Paged → ℤ → Place → Result Cursor (TreeFault F) → Type 0
-SeeksFrom sizes base rowid place result = (rest : List Member) → ((cursor : Cursor) → cursor.above.items ≡ [] → cursor.here ≡ place → IsSought sizes base rowid rest cursor)
-    → OrFault (StandsAt sizes base Table rest) IsOther result

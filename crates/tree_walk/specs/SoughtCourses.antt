@@ -1,5 +1,5 @@
 -- What a walk comes to that begins where a rowid belongs, whatever the store holds.
-use Rattle.std.specs.Prelude.{◌≡◌, ℕ, ℤ, zero, suc, ◌-◌, List, Option, None, Result, Ok, Err}
+use Rattle.std.specs.Prelude.{◌≡◌, ℕ, ℤ, zero, suc, ◌-◌, None, Result}
 use Rattle.common_spec.specs.Reading.{OrFault}
 use Rattle.refusal.specs.declared.Rule.{Rule}
 use Rattle.tree_spec.specs.Bounds.{greatest_rowid}

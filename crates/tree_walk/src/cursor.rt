@@ -1,18 +1,18 @@
 // Cursors over a tree.
-ghost use Rattle.std.specs.Prelude.{◌≡◌, ◌+◌, ◌<◌, ◌≤◌, ◌↔◌, List, [], false, true, IfOk, IfSome, IsNone, IsTrue, OnOk};
+ghost use Rattle.std.specs.Prelude.{◌≡◌, ◌+◌, ◌<◌, ◌≤◌, ◌↔◌, [], false, true, IfOk, IfSome, IsNone, IsTrue, OnOk};
 ghost use Rattle.arrayvec.specs.ArrayVec.{array_vec_len};
-ghost use Rattle.page_store.specs.Store.{HasSizes, OwesBy, Sees};
-ghost use Rattle.tree_spec.specs.declared.TreeKind.{TreeKind};
-ghost use Rattle.tree_spec.specs.Trees.{Member};
+ghost use Rattle.page_store.specs.Store.{HasSizes, OwesBy};
 ghost use Rattle.tree_spec.specs.Standing.{Paged, Sizes};
 ghost use Rattle.tree_spec.specs.Faults.{fault_in};
-ghost use Rattle.tree_walk.specs.Pages.{is_leaf as is_leaf_of};
+ghost use Rattle.tree_walk.specs.Lengths.{OneFewer, StartsShort};
+ghost use Rattle.tree_walk.specs.Pages.{is_leaf as is_leaf_of, tree_kind};
 ghost use Rattle.page_spec.specs.Pages.{IsInRange};
-ghost use Rattle.tree_walk.specs.Courses.{Course, FromCell, GoesOn, IsOn, LandsOn, MovesOver, ReadsFirst, SettlesOn, StartsAt, StartsWalk};
+ghost use Rattle.tree_walk.specs.Courses.{IsPast, Course, FromCell, GoesOn, IsOn, LandsOn, MovesOver, ReadsFirst, SettlesOn, StartsAt, StartsWalk};
 ghost use Rattle.tree_walk.specs.Paths.{IsKept};
 ghost use Rattle.tree_walk.specs.Places.{child_at};
 ghost use Rattle.tree_walk.specs.Rising.{ComesUp, KeepsHigh, KeepsLow, MovesUp, kind_of, rowid_at};
-ghost use Rattle.tree_walk.specs.Walks.{GoesDown, IsAtCell, IsPast, Lands, MovesOn, ReadsRow, Settles, StandsBelow, StandsFirst, StepsDown};
+ghost use Rattle.tree_walk.specs.Stores.{SeesTree};
+ghost use Rattle.tree_walk.specs.Walks.{MovesOn, ReadsRow, StandsFirst, StepsDown};
 
 use crate::entering::{enter_child, enter_root};
 use crate::path::Cursor;
@@ -49,7 +49,7 @@ impl Cursor {
     ) -> Result<(), TreeFault<S::Fault>>
         requires sizes { HasSizes S.PageRead store.old }
         requires inner { is_leaf_of self.old.here.page.kind ≡ false }
-        ensures pages { Sees S.PageRead store.old store.new (λ m. StepsDown (record { size = S.size store.old; usable = S.usable store.old }) (record { count = S.count store.old; pages = m }) self.old self.new result) }
+        ensures pages { SeesTree S.PageRead store.old store.new (λ sizes base. StepsDown sizes base self.old self.new result) }
         ensures named { OnOk result (IsInRange (S.size store.old) (S.count store.old) (child_at self.old.here)) }
         ensures room { OnOk result (array_vec_len self.old.above < 24) }
         ensures bound { OnOk result (KeepsLow self.old self.new) }
@@ -73,8 +73,7 @@ impl Cursor {
         store: &mut S,
     ) -> Result<(), TreeFault<S::Fault>>
         requires { HasSizes S.PageRead store.old }
-        ensures pages { Sees S.PageRead store.old store.new (λ m. GoesDown (record { size = S.size store.old; usable = S.usable store.old }) (record { count = S.count store.old; pages = m }) self.old self.new result) }
-        ensures walk { Sees S.PageRead store.old store.new (λ m. GoesOn (record { size = S.size store.old; usable = S.usable store.old }) (record { count = S.count store.old; pages = m }) self.old self.new result) }
+        ensures walk { SeesTree S.PageRead store.old store.new (λ sizes base. GoesOn sizes base self.old self.new result) }
         ensures leaf { OnOk result (is_leaf_of self.new.here.page.kind ≡ true) }
         ensures bound { OnOk result (KeepsLow self.old self.new) }
         ensures owes { OwesBy S.PageRead fault_in store.old store.new result }
@@ -95,8 +94,7 @@ impl Cursor {
         store: &mut S,
     ) -> Result<bool, TreeFault<S::Fault>>
         requires { HasSizes S.PageRead store.old }
-        ensures pages { Sees S.PageRead store.old store.new (λ m. Lands (record { size = S.size store.old; usable = S.usable store.old }) (record { count = S.count store.old; pages = m }) self.old self.new result) }
-        ensures walk { Sees S.PageRead store.old store.new (λ m. LandsOn (record { size = S.size store.old; usable = S.usable store.old }) (record { count = S.count store.old; pages = m }) self.old self.new result) }
+        ensures walk { SeesTree S.PageRead store.old store.new (λ sizes base. LandsOn sizes base self.old self.new result) }
         ensures bound { OnOk result (KeepsLow self.old self.new) }
         ensures moved { IfOk result (λ moved. IsTrue moved ↔ ¬ IsPast self.new) }
         ensures owes { OwesBy S.PageRead fault_in store.old store.new result }
@@ -109,7 +107,6 @@ impl Cursor {
 
     // Leaves the pages of which nothing is left.
     fn climb(&mut self)
-        ensures left { (sizes : Sizes) (base : Paged) (kind : TreeKind) (rest : List Member) → IsAtCell sizes base kind rest self.old → IsAtCell sizes base kind rest self.new }
         ensures walk { (sizes : Sizes) (base : Paged) (course : Course) → IsOn sizes base (FromCell sizes base) course self.old → IsOn sizes base (FromCell sizes base) course self.new }
         ensures bound { KeepsHigh self.old self.new }
         ensures inner { IsPast self.old → ¬ IsPast self.new → is_leaf_of self.new.here.page.kind ≡ false }
@@ -130,8 +127,7 @@ impl Cursor {
         store: &mut S,
     ) -> Result<bool, TreeFault<S::Fault>>
         requires { HasSizes S.PageRead store.old }
-        ensures pages { Sees S.PageRead store.old store.new (λ m. Settles (record { size = S.size store.old; usable = S.usable store.old }) (record { count = S.count store.old; pages = m }) self.old self.new result) }
-        ensures walk { Sees S.PageRead store.old store.new (λ m. SettlesOn (record { size = S.size store.old; usable = S.usable store.old }) (record { count = S.count store.old; pages = m }) self.old self.new result) }
+        ensures walk { SeesTree S.PageRead store.old store.new (λ sizes base. SettlesOn sizes base self.old self.new result) }
         ensures kind { OnOk result (kind_of self.new ≡ kind_of self.old) }
         ensures rises { IfOk result (ComesUp self.old self.new) }
         ensures moved { IfOk result (λ moved. IsTrue moved ↔ ¬ IsPast self.new) }
@@ -156,8 +152,8 @@ impl Cursor {
     ) -> Result<Cursor, TreeFault<S::Fault>>
         requires sizes { HasSizes S.PageRead store.old }
         requires kept { IsKept here }
-        ensures pages { Sees S.PageRead store.old store.new (λ m. StandsBelow (record { size = S.size store.old; usable = S.usable store.old }) (record { count = S.count store.old; pages = m }) here result) }
-        ensures walk { Sees S.PageRead store.old store.new (λ m. StartsAt (record { size = S.size store.old; usable = S.usable store.old }) (record { count = S.count store.old; pages = m }) here result) }
+        ensures walk { SeesTree S.PageRead store.old store.new (λ sizes base. StartsAt sizes base here result) }
+        ensures kind { IfOk result (λ cursor. kind_of cursor ≡ tree_kind here.page.kind) }
         ensures owes { OwesBy S.PageRead fault_in store.old store.new result }
     {
         let mut cursor = Cursor {
@@ -179,8 +175,9 @@ impl Cursor {
         requires sizes { HasSizes S.PageRead store.old }
         requires first { 1 ≤ root }
         requires within { root ≤ S.count store.old }
-        ensures pages { Sees S.PageRead store.old store.new (λ m. StandsFirst (record { size = S.size store.old; usable = S.usable store.old }) (record { count = S.count store.old; pages = m }) root result) }
-        ensures walk { Sees S.PageRead store.old store.new (λ m. StartsWalk (record { size = S.size store.old; usable = S.usable store.old }) (record { count = S.count store.old; pages = m }) root result) }
+        ensures pages { SeesTree S.PageRead store.old store.new (λ sizes base. StandsFirst sizes base root result) }
+        ensures walk { SeesTree S.PageRead store.old store.new (λ sizes base. StartsWalk sizes base root result) }
+        ensures few { SeesTree S.PageRead store.old store.new (λ sizes base. StartsShort sizes base result) }
         ensures owes { OwesBy S.PageRead fault_in store.old store.new result }
     {
         match enter_root(alloc, store, root) {
@@ -196,8 +193,9 @@ impl Cursor {
         store: &mut S,
     ) -> Result<bool, TreeFault<S::Fault>>
         requires { HasSizes S.PageRead store.old }
-        ensures pages { Sees S.PageRead store.old store.new (λ m. MovesOn (record { size = S.size store.old; usable = S.usable store.old }) (record { count = S.count store.old; pages = m }) self.old self.new result) }
-        ensures walk { Sees S.PageRead store.old store.new (λ m. MovesOver (record { size = S.size store.old; usable = S.usable store.old }) (record { count = S.count store.old; pages = m }) self.old self.new result) }
+        ensures pages { SeesTree S.PageRead store.old store.new (λ sizes base. MovesOn sizes base self.old self.new result) }
+        ensures walk { SeesTree S.PageRead store.old store.new (λ sizes base. MovesOver sizes base self.old self.new result) }
+        ensures few { SeesTree S.PageRead store.old store.new (λ sizes base. OnOk result (OneFewer sizes base self.old self.new)) }
         ensures kind { OnOk result (kind_of self.new ≡ kind_of self.old) }
         ensures rises { IfOk result (MovesUp self.old self.new) }
         ensures moved { IfOk result (λ moved. IsTrue moved ↔ ¬ IsPast self.new) }
@@ -220,8 +218,8 @@ impl Cursor {
         store: &mut S,
     ) -> Result<Option<Row>, TreeFault<S::Fault>>
         requires { HasSizes S.PageRead store.old }
-        ensures pages { Sees S.PageRead store.old store.new (λ m. ReadsRow (record { size = S.size store.old; usable = S.usable store.old }) (record { count = S.count store.old; pages = m }) self.now result) }
-        ensures walk { Sees S.PageRead store.old store.new (λ m. ReadsFirst (record { size = S.size store.old; usable = S.usable store.old }) (record { count = S.count store.old; pages = m }) self.now result) }
+        ensures pages { SeesTree S.PageRead store.old store.new (λ sizes base. ReadsRow sizes base self.now result) }
+        ensures walk { SeesTree S.PageRead store.old store.new (λ sizes base. ReadsFirst sizes base self.now result) }
         ensures none { IfOk result (λ row. IsNone row ↔ IsPast self.now) }
         ensures rowid { IfOk result (λ row. IfSome row (λ row. row.rowid ≡ rowid_at self.now)) }
         ensures owes { OwesBy S.PageRead fault_in store.old store.new result }

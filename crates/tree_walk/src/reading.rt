@@ -112,6 +112,8 @@ pub fn read_page<S: PageRead>(
     requires first { 1 ≤ number }
     requires within { number ≤ S.count store.old }
     ensures pages { Sees S.PageRead store.old store.new (λ m. ReadsPage m (S.usable store.old) number result) }
+    ensures read { IfOk result (λ page. IsDecoded page.bytes number (S.usable store.old) page) }
+    ensures whole { IfOk result (λ page. length page.bytes ≡ S.size store.old) }
     ensures owes { OwesBy S.PageRead fault_in store.old store.new result }
 {
     let bytes = load(alloc, store, number)?;

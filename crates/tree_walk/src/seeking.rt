@@ -1,12 +1,15 @@
 // Seeks a rowid in a table's tree.
-ghost use Rattle.std.specs.Prelude.{◌≡◌, ◌≤◌, ◌≤ℤ◌, ◌↔◌, true, IsTrue, OnOk};
-ghost use Rattle.page_store.specs.Store.{HasSizes, OwesBy, Sees};
+ghost use Rattle.std.specs.Prelude.{◌≡◌, ◌≤◌, ◌≤ℤ◌, ◌↔◌, true, IfOk, IsTrue, OnOk};
+ghost use Rattle.page_store.specs.Store.{HasSizes, OwesBy};
 ghost use Rattle.tree_spec.specs.Faults.{fault_in};
-ghost use Rattle.tree_walk.specs.Pages.{is_leaf as is_leaf_of};
+ghost use Rattle.tree_walk.specs.Lengths.{StartsShort};
+ghost use Rattle.tree_walk.specs.Pages.{is_leaf as is_leaf_of, tree_kind};
+ghost use Rattle.tree_walk.specs.Rising.{kind_of};
 ghost use Rattle.tree_walk.specs.Paths.{IsKept};
 ghost use Rattle.tree_walk.specs.Places.{rowids};
+ghost use Rattle.tree_walk.specs.Stores.{SeesTree};
 ghost use Rattle.tree_walk.specs.SoughtCourses.{ComesOn, SeeksOn, SeeksWalk, SoughtAt};
-ghost use Rattle.tree_walk.specs.Seeks.{ComesTo, IsAimed, IsIndexOf, SeeksDown, SeeksFrom, StandsFrom};
+ghost use Rattle.tree_walk.specs.Seeks.{IsAimed, IsIndexOf, StandsFrom};
 
 use crate::entering::enter_root;
 use crate::path::Cursor;
@@ -25,8 +28,8 @@ fn is_not_less(view: &CellView, rowid: i64) -> bool
     rowid <= view.rowid
 }
 
-// The index of the first cell whose rowid is not less than another, or the number of cells.
-fn index_of(views: &[CellView], rowid: i64) -> usize
+/// The index of the first cell whose rowid is not less than another, or the number of cells.
+pub fn index_of(views: &[CellView], rowid: i64) -> usize
     ensures { IsIndexOf rowid (rowids views.now) result }
 {
     for at in 0..views.len() {
@@ -53,8 +56,8 @@ impl Cursor {
         rowid: i64,
     ) -> Result<(), TreeFault<S::Fault>>
         requires { HasSizes S.PageRead store.old }
-        ensures pages { Sees S.PageRead store.old store.new (λ m. SeeksDown (record { size = S.size store.old; usable = S.usable store.old }) (record { count = S.count store.old; pages = m }) rowid self.old self.new result) }
-        ensures walk { Sees S.PageRead store.old store.new (λ m. SeeksOn (record { size = S.size store.old; usable = S.usable store.old }) (record { count = S.count store.old; pages = m }) rowid self.old self.new result) }
+        ensures walk { SeesTree S.PageRead store.old store.new (λ sizes base. SeeksOn sizes base rowid self.old self.new result) }
+        ensures kind { OnOk result (kind_of self.new ≡ kind_of self.old) }
         ensures owes { OwesBy S.PageRead fault_in store.old store.new result }
     {
         self.aim(rowid);
@@ -75,8 +78,8 @@ impl Cursor {
         rowid: i64,
     ) -> Result<(), TreeFault<S::Fault>>
         requires { HasSizes S.PageRead store.old }
-        ensures pages { Sees S.PageRead store.old store.new (λ m. ComesTo (record { size = S.size store.old; usable = S.usable store.old }) (record { count = S.count store.old; pages = m }) rowid self.old self.new result) }
-        ensures walk { Sees S.PageRead store.old store.new (λ m. ComesOn (record { size = S.size store.old; usable = S.usable store.old }) (record { count = S.count store.old; pages = m }) rowid self.old self.new result) }
+        ensures walk { SeesTree S.PageRead store.old store.new (λ sizes base. ComesOn sizes base rowid self.old self.new result) }
+        ensures kind { OnOk result (kind_of self.new ≡ kind_of self.old) }
         ensures owes { OwesBy S.PageRead fault_in store.old store.new result }
     {
         match self.seek_down(alloc, store, rowid) {
@@ -98,8 +101,8 @@ impl Cursor {
     ) -> Result<Cursor, TreeFault<S::Fault>>
         requires sizes { HasSizes S.PageRead store.old }
         requires kept { IsKept here }
-        ensures pages { Sees S.PageRead store.old store.new (λ m. SeeksFrom (record { size = S.size store.old; usable = S.usable store.old }) (record { count = S.count store.old; pages = m }) rowid here result) }
-        ensures walk { Sees S.PageRead store.old store.new (λ m. SoughtAt (record { size = S.size store.old; usable = S.usable store.old }) (record { count = S.count store.old; pages = m }) rowid here result) }
+        ensures walk { SeesTree S.PageRead store.old store.new (λ sizes base. SoughtAt sizes base rowid here result) }
+        ensures kind { IfOk result (λ cursor. kind_of cursor ≡ tree_kind here.page.kind) }
         ensures owes { OwesBy S.PageRead fault_in store.old store.new result }
     {
         let mut cursor = Cursor {
@@ -122,8 +125,9 @@ impl Cursor {
         requires sizes { HasSizes S.PageRead store.old }
         requires first { 1 ≤ root }
         requires within { root ≤ S.count store.old }
-        ensures pages { Sees S.PageRead store.old store.new (λ m. StandsFrom (record { size = S.size store.old; usable = S.usable store.old }) (record { count = S.count store.old; pages = m }) root rowid result) }
-        ensures walk { Sees S.PageRead store.old store.new (λ m. SeeksWalk (record { size = S.size store.old; usable = S.usable store.old }) (record { count = S.count store.old; pages = m }) root rowid result) }
+        ensures pages { SeesTree S.PageRead store.old store.new (λ sizes base. StandsFrom sizes base root rowid result) }
+        ensures walk { SeesTree S.PageRead store.old store.new (λ sizes base. SeeksWalk sizes base root rowid result) }
+        ensures few { SeesTree S.PageRead store.old store.new (λ sizes base. StartsShort sizes base result) }
         ensures owes { OwesBy S.PageRead fault_in store.old store.new result }
     {
         match enter_root(alloc, store, root) {

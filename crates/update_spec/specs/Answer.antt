@@ -6,7 +6,7 @@ use Rattle.refusal.specs.declared.Part.TheVariants as part
 use Rattle.refusal.specs.declared.Refusal.TheVariants.{NotYet}
 use Rattle.update_spec.specs.declared.Outcome.TheVariants.{Refused}
 use Rattle.update_spec.specs.declared.Answer.{Answer}
-use Rattle.update_spec.specs.declared.Answer.TheVariants.{Usage, Ended, Fault, NoMemory}
+use Rattle.update_spec.specs.declared.Answer.TheVariants.{Usage, Ended, Printed, Fault, NoMemory}
 use Rattle.update_spec.specs.Update.{Update, AfterOutcome, AfterFault}
 use Rattle.update_spec.specs.Words.{IsUsage, AsksUpdate, AsksMore}
 
@@ -14,6 +14,7 @@ use Rattle.update_spec.specs.Words.{IsUsage, AsksUpdate, AsksMore}
 abbrev pub IsUpdateAnswer : Update → Option Files → Option Files → Answer → Type 0
 IsUpdateAnswer update before after Usage = ⊥
 IsUpdateAnswer update before after (Ended outcome) = Leads (AfterOutcome update outcome) before after
+IsUpdateAnswer update before after (Printed text) = ⊥
 IsUpdateAnswer update before after (Fault file call) = Leads (AfterFault update call) before after
 IsUpdateAnswer update before after NoMemory = after ≡ before
 

@@ -1,4 +1,4 @@
--- The lines and the statuses of the program.
+-- The texts and the statuses of the program.
 use Rattle.std.specs.Prelude.{ℕ, List, [], ◌∷◌, ◌++◌, codes}
 use Rattle.std.specs.Fmt.{signed_decimal}
 use Rattle.file_spec.specs.Names.{file_word, call_word}
@@ -6,7 +6,7 @@ use Rattle.refusal.specs.Refusal.{refusal_text}
 use Rattle.update_spec.specs.declared.Outcome.{Outcome}
 use Rattle.update_spec.specs.declared.Outcome.TheVariants.{Done, KeyPresent, Refused}
 use Rattle.update_spec.specs.declared.Answer.{Answer}
-use Rattle.update_spec.specs.declared.Answer.TheVariants.{Usage, Ended, Fault, NoMemory}
+use Rattle.update_spec.specs.declared.Answer.TheVariants.{Usage, Ended, Printed, Fault, NoMemory}
 
 -- what the program says of an outcome
 abbrev pub outcome_text : Outcome → List ℕ
@@ -14,16 +14,17 @@ outcome_text Done = codes "done"
 outcome_text (KeyPresent table data_rowid) = codes "constraint key-present " ++ (table ++ (codes " " ++ signed_decimal data_rowid))
 outcome_text (Refused refusal) = codes "refused " ++ refusal_text refusal
 
--- what the program says of an answer
-abbrev pub answer_text : Answer → List ℕ
-answer_text Usage = codes "usage"
-answer_text (Ended outcome) = outcome_text outcome
-answer_text (Fault file call) = codes "fault " ++ (file_word file ++ (codes " " ++ call_word call))
-answer_text NoMemory = codes "no memory"
+-- a line, which ends with a line feed
+abbrev pub line : List ℕ → List ℕ
+line text = text ++ 10 ∷ []
 
--- the line of an answer, which ends with a line feed
-abbrev pub answer_line : Answer → List ℕ
-answer_line answer = answer_text answer ++ 10 ∷ []
+-- what the program writes of an answer: one line, or the lines that the command prints
+abbrev pub answer_text : Answer → List ℕ
+answer_text Usage = line (codes "usage")
+answer_text (Ended outcome) = line (outcome_text outcome)
+answer_text (Printed text) = text
+answer_text (Fault file call) = line (codes "fault " ++ (file_word file ++ (codes " " ++ call_word call)))
+answer_text NoMemory = line (codes "no memory")
 
 -- the status of an outcome
 abbrev pub outcome_status : Outcome → ℕ
@@ -35,6 +36,7 @@ outcome_status (Refused refusal) = 4
 abbrev pub answer_status : Answer → ℕ
 answer_status Usage = 2
 answer_status (Ended outcome) = outcome_status outcome
+answer_status (Printed text) = 0
 answer_status (Fault file call) = 6
 answer_status NoMemory = 7
 

@@ -1,5 +1,5 @@
 -- A reader of the files sees one list of pages: crates above cite these facts in their proofs.
-use Rattle.std.proofs.Common.{◌≡◌, ◌↔◌, ℕ, List, Option, Some, None, [], sym, subst, unwrap_or}
+use Rattle.std.proofs.Common.{◌≡◌, ℕ, List, Option, Some, None, [], sym, subst, unwrap_or}
 use Rattle.file_spec.specs.declared.FileName.TheVariants.{Target, Wal}
 use Rattle.file_spec.specs.Files.{Files, content}
 use Rattle.format_spec.specs.PageMap.{PageMap, SamePages, file_pages}

@@ -8,7 +8,7 @@
 //!   disks show one database whatever a crash leaves;
 //! - `ViewLaws`: those are one list of pages, as `view_is_one` promises;
 //! - `Answer`: which answer the files and words have;
-//! - `Words` and `Text`: the words of each command, and the line of each answer.
+//! - `Words` and `Text`: the words of each command, and the text of each answer.
 #![tactic(auto)]
 
 use file_spec::{DiskCall, FileName};
@@ -52,6 +52,8 @@ pub enum Answer {
     Usage,
     /// The command ended by itself.
     Ended { outcome: Outcome },
+    /// The command did its work, which is to print these lines.
+    Printed { text: Bytes },
     /// A call on the disk failed.
     Fault { file: FileName, call: DiskCall },
     /// Memory ran out.

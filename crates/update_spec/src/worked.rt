@@ -6,28 +6,34 @@ ghost use Rattle.file_spec.specs.Files.{with_file};
 ghost use Rattle.file_spec.specs.declared.DiskCall.TheVariants.{Rename};
 ghost use Rattle.refusal.specs.declared.Part.TheVariants as part;
 ghost use Rattle.refusal.specs.declared.Rule.TheVariants as rule;
-ghost use Rattle.refusal.specs.declared.Refusal.TheVariants.{NotYet, BadPage, ChainBroken, TrunkDamaged, TargetFull};
-ghost use Rattle.update_spec.specs.declared.Answer.TheVariants.{Usage, Ended, Fault, NoMemory};
+ghost use Rattle.refusal.specs.declared.Measure.TheVariants as measure;
+ghost use Rattle.refusal.specs.declared.Refusal.TheVariants.{NotYet, NotADatabase, BadPage, ChainBroken, TargetFull, TreeDamaged, OutsideProfile, ControlLength, TooMuch};
+ghost use Rattle.update_spec.specs.declared.Answer.TheVariants.{Usage, Ended, Printed, Fault, NoMemory};
 ghost use Rattle.update_spec.specs.declared.Outcome.TheVariants.{Done, KeyPresent, Refused};
-ghost use Rattle.update_spec.specs.Text.{answer_line, answer_status};
+ghost use Rattle.update_spec.specs.Text.{answer_text, answer_status};
 ghost use Rattle.update_spec.specs.View.{IsView, KeepsView};
 ghost use Rattle.format_spec.specs.PageMap.{pages_of};
 ghost use Rattle.format_spec.specs.LittleLog.{little_page, little_log};
 
 use format_spec::worked_log;
 
-/// The lines of answers.
+/// The texts of answers.
 pub fn worked_lines()
-    ensures done { answer_line (Ended Done) ≡ codes "done" ++ 10 ∷ [] }
-    ensures refused { answer_line (Ended (Refused (NotYet part.Target))) ≡ codes "refused 1 NotYet target" ++ 10 ∷ [] }
-    ensures page { answer_line (Ended (Refused (BadPage rule.Cells))) ≡ codes "refused 40 BadPage cells" ++ 10 ∷ [] }
-    ensures chain { answer_line (Ended (Refused (ChainBroken 7))) ≡ codes "refused 45 ChainBroken 7" ++ 10 ∷ [] }
-    ensures trunk { answer_line (Ended (Refused (TrunkDamaged 1))) ≡ codes "refused 50 TrunkDamaged 1" ++ 10 ∷ [] }
-    ensures full { answer_line (Ended (Refused (TargetFull 3 4))) ≡ codes "refused 51 TargetFull 3 4" ++ 10 ∷ [] }
-    ensures constraint { answer_line (Ended (KeyPresent (codes "t1") (negsuc 4))) ≡ codes "constraint key-present t1 -5" ++ 10 ∷ [] }
-    ensures usage { answer_line Usage ≡ codes "usage" ++ 10 ∷ [] }
-    ensures memory { answer_line NoMemory ≡ codes "no memory" ++ 10 ∷ [] }
-    ensures fault { answer_line (Fault Oal Rename) ≡ codes "fault Oal Rename" ++ 10 ∷ [] }
+    ensures done { answer_text (Ended Done) ≡ codes "done\n" }
+    ensures refused { answer_text (Ended (Refused (NotYet part.Target))) ≡ codes "refused 1 NotYet target\n" }
+    ensures plain { answer_text (Ended (Refused NotADatabase)) ≡ codes "refused 30 NotADatabase\n" }
+    ensures page { answer_text (Ended (Refused (BadPage rule.Cells))) ≡ codes "refused 40 BadPage cells\n" }
+    ensures chain { answer_text (Ended (Refused (ChainBroken 7))) ≡ codes "refused 45 ChainBroken 7\n" }
+    ensures full { answer_text (Ended (Refused (TargetFull 3 4))) ≡ codes "refused 51 TargetFull 3 4\n" }
+    ensures tree { answer_text (Ended (Refused (TreeDamaged 2 rule.Depth))) ≡ codes "refused 55 TreeDamaged 2 depth\n" }
+    ensures profile { answer_text (Ended (Refused (OutsideProfile (codes "w") (codes "WITHOUT")))) ≡ codes "refused 61 OutsideProfile w WITHOUT\n" }
+    ensures control { answer_text (Ended (Refused (ControlLength (codes "data_t1") (negsuc 4) 2 3))) ≡ codes "refused 81 ControlLength data_t1 -5 2 3\n" }
+    ensures much { answer_text (Ended (Refused (TooMuch measure.Rows 8 7))) ≡ codes "refused 93 TooMuch rows 8 7\n" }
+    ensures constraint { answer_text (Ended (KeyPresent (codes "t1") (negsuc 4))) ≡ codes "constraint key-present t1 -5\n" }
+    ensures printed { answer_text (Printed (codes "1|NULL\n")) ≡ codes "1|NULL\n" }
+    ensures usage { answer_text Usage ≡ codes "usage\n" }
+    ensures memory { answer_text NoMemory ≡ codes "no memory\n" }
+    ensures fault { answer_text (Fault Oal Rename) ≡ codes "fault Oal Rename\n" }
 {}
 
 /// The statuses of answers.
@@ -38,6 +44,7 @@ pub fn worked_statuses()
     ensures refused { answer_status (Ended (Refused (NotYet part.Room))) ≡ 4 }
     ensures fault { answer_status (Fault Oal Rename) ≡ 6 }
     ensures memory { answer_status NoMemory ≡ 7 }
+    ensures printed { answer_status (Printed []) ≡ 0 }
 {}
 
 /// What a reader sees of a target of one page with a byte behind it, alone, and under a log that SQLite wrote, whose frame is its second page.

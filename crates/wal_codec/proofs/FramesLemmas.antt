@@ -1,21 +1,25 @@
 -- What is read and counted over frames, after one more, and what it comes to in the end.
-use Rattle.std.proofs.Common.{◌≡◌, ℕ, ◌+◌, ◌-◌, ◌*◌, ◌%◌, ◌^◌, ◌<◌, ◌≤◌, ◌==◌, nat_lt, ◌⊎◌, Bool, true, false, cond, List, [], ◌∷◌, ◌++◌, length, map, take, drop, zero, suc, inl, inr, refl, sym, ap, ap₂, ◌∙◌, subst, arith, append_assoc, length-append}
-use Rattle.std.specs.List.{AllByRecursion}
+use Rattle.std.proofs.Common.{◌≡◌, ℕ, ◌+◌, ◌-◌, ◌*◌, ◌%◌, ◌^◌, ◌<◌, ◌≤◌, ◌==◌, nat_lt, Bool, true, false, cond, List, [], ◌∷◌, ◌++◌, length, take, drop, zero, suc, Result, inl, inr, refl, sym, ap, ap₂, ◌∙◌, subst, arith, append_assoc, length-append}
 use Rattle.std.proofs.lemmas.Bool.{cases_lt}
 use Rattle.std.proofs.lemmas.Bool.Decides.{nat_tests}
-use Rattle.std.proofs.lemmas.List.{drop_at, length-map, map-append, take_rest}
+use Rattle.std.proofs.lemmas.List.{drop_at, length-map, map-append}
 use Rattle.std.proofs.lemmas.Nat.{pow-add}
 use Rattle.std.proofs.Math.Nat.{pow-le-pow_right}
 use Rattle.format_spec.specs.Log.{pair_of, Frame, frame_sums, frame_bytes, frames_bytes, sums_behind, IsFrame, AreFrames, IsLog, reading_of, committed, last_commit, log_header, log_sums}
 use Rattle.format_spec.specs.LogLaws.{length-log_header, frames_bytes-one_more, sums_behind-one_more}
 use Rattle.format_spec.specs.Sizes.{IsPageSize}
+use Rattle.common_spec.specs.Reading.{OrFault, Reads}
+use Rattle.common_spec.specs.ReadingLaws.{Reads-one}
+use Rattle.wal_codec.specs.declared.log.Log.{Log}
+use Rattle.wal_codec.specs.declared.log.LogFault.{LogFault}
 use Rattle.wal_codec.specs.declared.frames.Counts.{Counts}
 use Rattle.wal_codec.specs.declared.frames.LogHead.{LogHead}
 use Rattle.wal_codec.specs.declared.frames.FrameHead.{FrameHead}
 use Rattle.wal_codec.specs.declared.frames.ReadFrames.{ReadFrames}
-use Rattle.wal_codec.specs.LogReading.{HasNoFrame, HasLog, HasLackingLog, array_of, log_of}
-use Rattle.wal_codec.specs.LogReadingLaws.{committed-one_more, last_commit-one_more, last_commit-take_same, last_commit-take_one_more}
-use Rattle.wal_codec.specs.FramesRead.{HasReadHead, HasReadFrame, frame_of, counts_after, counts_of, HaveFrames, HaveReadFrames, log_kept}
+use Rattle.wal_codec.specs.LogReading.{HasNoFrame, HasLog, HasFault, HasLackingLog, array_of, log_of}
+use Rattle.wal_codec.specs.LogReadingLaws.{log_answer-one, committed-one_more, last_commit-one_more, last_commit-take_same, last_commit-take_one_more}
+use Rattle.wal_codec.proofs.ReadingLemmas.{frame-front}
+use Rattle.wal_codec.specs.FramesRead.{HasReadHead, HasReadFrame, frame_of, counts_after, counts_of_none, counts_of, HaveFrames, HaveReadFrames, log_kept}
 
 -- powers of two rise
 power-rises : (j k : ℕ) → j ≤ k → 2 ^ j ≤ 2 ^ k
@@ -40,6 +44,11 @@ page_size-whole size is =
 AreFrames-one_more : (page_size : ℕ) (frames : List Frame) (frame : Frame) → AreFrames page_size frames → IsFrame page_size frame → AreFrames page_size (frames ++ frame ∷ [])
 AreFrames-one_more page_size [] frame valid is = (is, tt)
 AreFrames-one_more page_size (other ∷ frames) frame valid is = (valid.0, AreFrames-one_more page_size frames frame valid.1 is)
+
+-- what is counted over no frames
+pub counts-none : (needed : ℕ) → counts_of_none ≡ counts_of needed []
+counts-none zero = refl
+counts-none (suc needed) = refl
 
 -- what is counted goes on
 counts-one_more : (needed : ℕ) (frames : List Frame) (frame : Frame)
@@ -66,21 +75,30 @@ counts-one_more needed frames frame =
     commits true = refl
     commits false = sym (last_commit-one_more frames frame)
 
+-- a frame whose header is read from the first bytes, as many as a frame takes, begins all of them
+pub read_frame-front : {big : Bool} {salt sums : ℕ × ℕ} {page_size : ℕ} {read : FrameHead} (left bytes : List ℕ) → take (24 + page_size) left ≡ bytes
+    → HasReadFrame big salt sums page_size bytes read → HasReadFrame big salt sums page_size left read
+read_frame-front {big} {salt} {sums} {page_size} {read} left bytes front begins = record {
+  page = begins.page;
+  is_frame = begins.is_frame;
+  whole = frame-front big salt sums page_size (frame_of read begins.page) left bytes front begins.is_frame begins.whole;
+  sums = begins.sums;
+}
+
 -- one more frame is read
-pub frames-one_more : (head : LogHead) (bytes : List ℕ) (needed : ℕ) (left : List ℕ) (read next : ReadFrames) (frame : FrameHead)
-    → HaveFrames head bytes needed left read → HasReadFrame head.big (pair_of head.salt) (pair_of read.sums) head.page_size left frame
-    → next.numbers.items ≡ read.numbers.items ++ frame.number ∷ [] → next.counts ≡ counts_after needed (length read.numbers.items) frame.commit read.counts → next.sums ≡ frame.sums
-    → HaveFrames head bytes needed (take (length left - (24 + head.page_size)) (drop (24 + head.page_size) left)) next
-frames-one_more head bytes needed left read next frame have begins numbers counts sums =
+pub frames-one_more : (head : LogHead) (bytes : List ℕ) (needed asked : ℕ) (left : List ℕ) (read next : ReadFrames) (frame : FrameHead)
+    → asked ≡ needed → HaveFrames head bytes needed left read → HasReadFrame head.big (pair_of head.salt) (pair_of read.sums) head.page_size left frame
+    → next.numbers.items ≡ read.numbers.items ++ frame.number ∷ [] → next.counts ≡ counts_after asked (length read.numbers.items) frame.commit read.counts → next.sums ≡ frame.sums
+    → HaveFrames head bytes needed (drop (24 + head.page_size) left) next
+frames-one_more head bytes needed asked left read next frame asked_is have begins numbers counts sums =
     let big : Bool = head.big in
     let salt : ℕ × ℕ = pair_of head.salt in
     let before : ℕ × ℕ = pair_of head.sums in
     let one : Frame = frame_of frame begins.page in
-    let rest : List ℕ = take (length left - (24 + head.page_size)) (drop (24 + head.page_size) left) in
-    let rest_is : rest ≡ drop (24 + head.page_size) left = take_rest left (24 + head.page_size) in
+    let rest : List ℕ = drop (24 + head.page_size) left in
     let long : length read.numbers.items ≡ length have.frames = ap length have.numbers ∙ length-map have.frames (λ f. f.number) in
     let here : left ≡ frame_bytes big salt (sums_behind big before have.frames) one ++ rest =
-    begins.whole ∙ ap₂ (λ (s : ℕ × ℕ) (b : List ℕ). frame_bytes big salt s one ++ b) have.sums (sym rest_is) in
+    begins.whole ∙ ap (λ (s : ℕ × ℕ). frame_bytes big salt s one ++ rest) have.sums in
     record {
       frames = have.frames ++ one ∷ [];
       whole = have.whole ∙ ap (λ (b : List ℕ). frames_bytes big salt before have.frames ++ b) here
@@ -88,7 +106,7 @@ frames-one_more head bytes needed left read next frame have begins numbers count
           ∙ ap (λ (b : List ℕ). b ++ rest) (sym (frames_bytes-one_more big salt before have.frames one));
       valid = AreFrames-one_more head.page_size have.frames one have.valid begins.is_frame;
       numbers = numbers ∙ ap (λ (ns : List ℕ). ns ++ frame.number ∷ []) have.numbers ∙ sym (map-append (λ f. f.number) have.frames (one ∷ []));
-      counts = counts ∙ ap₂ (λ (n : ℕ) (cs : _). counts_after needed n frame.commit cs) long have.counts ∙ counts-one_more needed have.frames one;
+      counts = counts ∙ ap (λ (a : ℕ). counts_after a (length read.numbers.items) frame.commit read.counts) asked_is ∙ ap₂ (λ (n : ℕ) (cs : _). counts_after needed n frame.commit cs) long have.counts ∙ counts-one_more needed have.frames one;
       sums = ap pair_of sums ∙ begins.sums ∙ ap (λ (s : ℕ × ℕ). frame_sums big s frame.number frame.commit begins.page) have.sums
           ∙ sym (sums_behind-one_more big before have.frames one);
     }
@@ -102,7 +120,7 @@ pub record HasReadLog (bytes : List ℕ) (needed : ℕ) (head : LogHead) (read :
   pub kept : log_kept head read ≡ log_of (reading_of is_log)
 
 pub log-read : (bytes : List ℕ) (needed : ℕ) (head : LogHead) (read : ReadFrames) → HasReadHead bytes head
-    → HaveReadFrames head (take (length bytes - 32) (drop 32 bytes)) needed read → HasReadLog bytes needed head read
+    → HaveReadFrames head (drop 32 bytes) needed read → HasReadLog bytes needed head read
 log-read bytes needed head read has_head have =
     let big : Bool = head.big in
     let salt : ℕ × ℕ = pair_of head.salt in
@@ -110,8 +128,8 @@ log-read bytes needed head read has_head have =
     let header : List ℕ = log_header big head.page_size has_head.sequence salt in
     let start : ℕ × ℕ = log_sums big head.page_size has_head.sequence salt in
     let f = have.have_frames in
-    let behind : take (length bytes - 32) (drop 32 bytes) ≡ h.rest =
-    take_rest bytes 32 ∙ ap (drop 32) h.whole ∙ drop_at header h.rest 32 (length-log_header big head.page_size has_head.sequence salt) in
+    let behind : drop 32 bytes ≡ h.rest =
+    ap (drop 32) h.whole ∙ drop_at header h.rest 32 (length-log_header big head.page_size has_head.sequence salt) in
     let sums : pair_of read.sums ≡ sums_behind big start f.frames =
     f.sums ∙ ap (λ (s : ℕ × ℕ). sums_behind big s f.frames) has_head.sums in
     let is_log : IsLog bytes head.page_size f.frames = record {
@@ -178,3 +196,13 @@ log-no_commit bytes needed head read r sized enough some none = record {
   sized = sized;
   lacks = inr (omega (arith, r.long), some, sym (ap (λ (cs : Counts). cs.last_needed) r.counts) ∙ none, refl);
 }
+
+-- one answer that bytes have is the only one
+pub log-answers : (bytes : List ℕ) (needed : ℕ) (answer : Result Log LogFault) → OrFault (HasLog bytes needed) (HasFault bytes needed) answer
+    → Reads (OrFault (HasLog bytes needed) (HasFault bytes needed)) answer
+log-answers bytes needed answer = Reads-one (OrFault (HasLog bytes needed) (HasFault bytes needed)) answer (log_answer-one bytes needed)
+
+-- where one more frame ends
+pub place-one_more : (before now : List ℕ) (number size : ℕ) → now ≡ before ++ number ∷ [] → 32 + length now * size ≡ 32 + length before * size + size
+place-one_more before now number size one_more =
+    ap (λ (ns : List ℕ). 32 + length ns * size) one_more ∙ ap (λ (n : ℕ). 32 + n * size) (length-append before (number ∷ [])) ∙ omega arith

@@ -1,13 +1,12 @@
 -- Bytes that begin with a header of a log or of a frame are told by what is read and written again.
-use Rattle.std.proofs.Common.{◌≡◌, ℕ, ◌+◌, ◌-◌, ◌*◌, ◌^◌, ◌<◌, ◌≤◌, ◌==◌, Bool, true, false, List, [], ◌∷◌, ◌++◌, length, take, drop, refl, sym, ap, ap₂, ◌∙◌, arith, append_assoc, length-append, length-drop, lit<}
+use Rattle.std.proofs.Common.{◌≡◌, ℕ, ◌+◌, ◌^◌, ◌<◌, ◌==◌, Bool, true, false, List, [], ◌++◌, length, take, drop, sym, ap, ap₂, ◌∙◌, arith, append_assoc, length-append, length-take, lit<}
 use Rattle.std.proofs.lemmas.Bool.{eq-eqb}
-use Rattle.std.proofs.lemmas.List.{drop_at, take_at, drop-drop, take-append-drop, append-nil}
-use Rattle.byteorder.specs.Endian.{big_number, big_bytes}
+use Rattle.std.proofs.lemmas.List.{drop_at, drop_all, take_at, drop-drop, take-append-drop, append-nil}
 use Rattle.byteorder.specs.Numbers.{big_number-reads_back}
 use Rattle.byte_fields.specs.Numbers.{number_at}
 use Rattle.format_spec.specs.Log.{magic, log_header, frame_header, frame_bytes, Frame, IsFrame}
-use Rattle.format_spec.specs.LogLaws.{length-frame_header}
-use Rattle.wal_codec.specs.LogReading.{Head, HasHead}
+use Rattle.format_spec.specs.LogLaws.{length-log_header, length-frame_header}
+use Rattle.wal_codec.specs.LogReading.{Head, HasHead, HasNoFrame}
 
 -- the byte order that a magic number says
 order-magic : (big : Bool) (number : ℕ) → number ≡ magic big → (number == magic true) ≡ big
@@ -91,3 +90,49 @@ frame-parts page_size size header front bytes long header_is size_is is =
     ap (λ (n : ℕ). drop n bytes) long ∙ sym (take-append-drop size (drop 24 bytes))
     ∙ ap (λ (b : List ℕ). page ++ b) (drop-drop size 24 bytes ∙ ap (λ (n : ℕ). drop (24 + n) bytes) size_is) in
     is ∙ ap₂ (λ (a b : List ℕ). a ++ b) header_is rest ∙ sym (append_assoc front page (drop (24 + page_size) bytes))
+
+-- a header in the first bytes is that of all
+pub head-front : (bytes header : List ℕ) (head : Head) → take 32 bytes ≡ header → HasHead header head → HasHead bytes head
+head-front bytes header head front has = record {
+  rest = has.rest ++ drop 32 bytes;
+  page_size_fits = has.page_size_fits;
+  sequence_fits = has.sequence_fits;
+  salt_fits = has.salt_fits;
+  whole = sym (take-append-drop 32 bytes) ∙ ap (λ (b : List ℕ). b ++ drop 32 bytes) (front ∙ has.whole)
+      ∙ append_assoc (log_header head.big head.page_size head.sequence head.salt) has.rest (drop 32 bytes);
+}
+
+-- and stands in these
+pub head-within : (bytes header : List ℕ) (head : Head) → take 32 bytes ≡ header → HasHead bytes head → HasHead header head
+head-within bytes header head front has =
+    let written : List ℕ = log_header head.big head.page_size head.sequence head.salt in
+    record {
+      rest = [];
+      page_size_fits = has.page_size_fits;
+      sequence_fits = has.sequence_fits;
+      salt_fits = has.salt_fits;
+      whole = sym front ∙ ap (take 32) has.whole ∙ take_at written has.rest 32 (length-log_header head.big head.page_size head.sequence head.salt) ∙ sym (append-nil written);
+    }
+
+-- how many bytes a frame takes
+length-frame : (big : Bool) (salt sums : ℕ × ℕ) (page_size : ℕ) (frame : Frame) → IsFrame page_size frame → length (frame_bytes big salt sums frame) ≡ 24 + page_size
+length-frame big salt sums page_size frame is =
+    let header : List ℕ = frame_header big salt sums frame.number frame.commit frame.page in
+    omega (arith, length-append header frame.page, length-frame_header big salt sums frame.number frame.commit frame.page, is.whole)
+
+-- where the first bytes, as many as a frame takes, are a frame, all begin with it
+pub frame-front : (big : Bool) (salt sums : ℕ × ℕ) (page_size : ℕ) (frame : Frame) (left bytes : List ℕ) → take (24 + page_size) left ≡ bytes → IsFrame page_size frame
+    → bytes ≡ frame_bytes big salt sums frame ++ drop (24 + page_size) bytes → left ≡ frame_bytes big salt sums frame ++ drop (24 + page_size) left
+frame-front big salt sums page_size frame left bytes front is whole =
+    let size : ℕ = 24 + page_size in
+    let written : List ℕ = frame_bytes big salt sums frame in
+    let behind : drop size bytes ≡ [] = drop_all size bytes (omega (arith, length-take size left, ap length front)) in
+    let all : bytes ≡ written = whole ∙ ap (λ (b : List ℕ). written ++ b) behind ∙ append-nil written in
+    sym (take-append-drop size left) ∙ ap (λ (b : List ℕ). b ++ drop size left) (front ∙ all)
+
+-- and where they are none, neither do all
+pub no_frame-front : (big : Bool) (salt sums : ℕ × ℕ) (page_size : ℕ) (left bytes : List ℕ) → take (24 + page_size) left ≡ bytes
+    → HasNoFrame big salt sums page_size bytes → HasNoFrame big salt sums page_size left
+no_frame-front big salt sums page_size left bytes front none frame more is e =
+    let written : List ℕ = frame_bytes big salt sums frame in
+    none frame [] is (sym front ∙ ap (take (24 + page_size)) e ∙ take_at written more (24 + page_size) (length-frame big salt sums page_size frame is) ∙ sym (append-nil written))

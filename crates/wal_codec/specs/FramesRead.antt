@@ -1,11 +1,13 @@
 -- What the reader of a log has read of it.
-use Rattle.std.specs.Prelude.{◌≡◌, ℕ, ◌+◌, ◌==◌, nat_lt, if◌then◌else◌, Bool, List, ◌++◌, length, map, take, drop}
+use Rattle.std.specs.Prelude.{◌≡◌, ℕ, ◌+◌, ◌*◌, ◌==◌, nat_lt, true, false, if◌then◌else◌, Bool, List, ◌++◌, length, map, take, drop}
 use Rattle.format_spec.specs.Log.{pair_of, log_sums, Frame, frame_sums, frame_bytes, frames_bytes, sums_behind, IsFrame, AreFrames, committed, last_commit}
+use Rattle.format_spec.specs.Sizes.{IsPageSize}
 use Rattle.wal_codec.specs.declared.frames.LogHead.{LogHead}
 use Rattle.wal_codec.specs.declared.frames.FrameHead.{FrameHead}
 use Rattle.wal_codec.specs.declared.frames.Counts.{Counts}
 use Rattle.wal_codec.specs.declared.frames.ReadFrames.{ReadFrames}
 use Rattle.wal_codec.specs.declared.log.Log.{Log}
+use Rattle.wal_codec.specs.declared.reader.LogReader.{LogReader}
 use Rattle.wal_codec.specs.LogReading.{HasHead, HasNoFrame, array_of}
 
 -- the bytes begin with the header that was read
@@ -32,6 +34,10 @@ counts_after needed frames commit counts = record {
   commit_pages = if commit == 0 then counts.commit_pages else commit;
   last_needed = if nat_lt frames needed then commit else counts.last_needed;
 }
+
+-- what is counted over no frames
+abbrev pub counts_of_none : Counts
+counts_of_none = record { committed = 0; commit_pages = 0; last_needed = 0 }
 
 -- what is counted over frames of which the first are needed
 abbrev pub counts_of : ℕ → List Frame → Counts
@@ -66,3 +72,27 @@ log_kept head read = record {
   frames = read.numbers.items;
   sums = array_of (pair_of read.sums);
 }
+
+-- how many bytes each frame of the log takes
+abbrev pub frame_size : LogReader → ℕ
+frame_size reader = 24 + reader.head.page_size
+
+-- where in the log the frames that were read end
+abbrev pub place_behind : LogReader → ℕ
+place_behind reader = 32 + length reader.read.numbers.items * frame_size reader
+
+-- of these bytes, of which so many first frames are needed, a log's header and valid frames were read, and this is left
+pub record IsReading (bytes : List ℕ) (needed : ℕ) (left : List ℕ) (reader : LogReader) : Type 0 where
+  pub needs : reader.needed ≡ needed
+  pub sized : IsPageSize reader.head.page_size
+  pub has_head : HasReadHead bytes reader.head
+  pub have_frames : HaveFrames reader.head (drop 32 bytes) needed left reader.read
+
+-- what is left does not begin with a valid frame
+abbrev pub IsEnd : List ℕ → LogReader → Type 0
+IsEnd left reader = HasNoFrame reader.head.big (pair_of reader.head.salt) (pair_of reader.read.sums) reader.head.page_size left
+
+-- what is left begins with a valid frame, which was read too, or it does not
+abbrev pub TakesFrame : List ℕ → ℕ → List ℕ → LogReader → LogReader → Bool → Type 0
+TakesFrame bytes needed left before after true = IsReading bytes needed (drop (frame_size before) left) after
+TakesFrame bytes needed left before after false = IsReading bytes needed left after × IsEnd left after

@@ -1,16 +1,17 @@
 -- Bytes say one log or have one fault, and what one more frame changes: crates above cite these facts in their proofs.
-use Rattle.std.specs.Prelude.{◌≡◌, ℕ, ◌+◌, ◌<◌, ◌≤◌, ◌==◌, ◌&&◌, Bool, true, false, if◌then◌else◌, List, [], ◌∷◌, ◌++◌, length, take, refl}
+use Rattle.std.specs.Prelude.{◌≡◌, ℕ, ◌<◌, ◌≤◌, ◌==◌, ◌&&◌, Bool, true, false, if◌then◌else◌, List, [], ◌∷◌, ◌++◌, length, take, refl}
 use Rattle.std.proofs.Common.{sym, ap, ◌∙◌, subst, arith, inl, inr, take_all, length-append}
 use Rattle.std.proofs.Math.Dec.{eqb-suc-zero}
+use Rattle.std.proofs.lemmas.Bool.{ne_eqb}
 use Rattle.std.proofs.lemmas.List.{take-append-le}
 use Rattle.common_spec.specs.Reading.{OrFault}
 use Rattle.common_spec.specs.ReadingLaws.{IsOne, OrFault-one}
-use Rattle.format_spec.specs.Log.{Frame, IsLog, reading_of, committed, last_commit}
+use Rattle.format_spec.specs.Log.{Frame, IsLog, committed, last_commit, count_after}
 use Rattle.format_spec.specs.LogLaws.{log-same, log-same_reading}
 use Rattle.wal_codec.specs.declared.log.Log.{Log}
 use Rattle.wal_codec.specs.declared.log.LogFault.{LogFault}
 use Rattle.wal_codec.specs.declared.log.LogFault.TheVariants.{LogHeader, LogFrame, Memory}
-use Rattle.wal_codec.specs.LogReading.{Head, HasHead, log_of, HasNeeded, LacksFrame, HasLog, HasLackingLog, HasFault}
+use Rattle.wal_codec.specs.LogReading.{HasHead, log_of, HasNeeded, LacksFrame, HasLog, HasFault}
 
 -- a log has a header
 pub log-head : {bytes : List ℕ} {page_size : ℕ} {frames : List Frame} (log : IsLog bytes page_size frames)
@@ -104,3 +105,34 @@ last_commit-take_same count frames frame within = ap last_commit (take-append-le
 pub last_commit-take_one_more : (count : ℕ) (frames : List Frame) (frame : Frame) → length frames < count → last_commit (take count (frames ++ frame ∷ [])) ≡ frame.commit
 last_commit-take_one_more count frames frame more =
     ap last_commit (take_all count (frames ++ frame ∷ []) (omega (arith, length-append frames (frame ∷ [])))) ∙ last_commit-one_more frames frame
+
+-- frames of which the last is a commit are all up to the last commit
+pub committed-ended : (frames : List Frame) → 0 < last_commit frames → committed frames ≡ frames
+committed-ended [] ended = absurd (omega arith)
+committed-ended (frame ∷ []) ended =
+    let commits : (frame.commit == 0) ≡ false = ne_eqb frame.commit 0 (λ e. omega (arith, e, ended)) in
+    ap (λ (b : Bool). if b && true then [] else frame ∷ []) commits
+committed-ended (frame ∷ other ∷ frames) ended =
+    let rest = committed-ended (other ∷ frames) ended in
+    ap (λ (fs : List Frame). if (frame.commit == 0) && (length fs == 0) then [] else frame ∷ fs) rest
+    ∙ ap (λ (b : Bool). if (frame.commit == 0) && b then [] else frame ∷ (other ∷ frames)) (eqb-suc-zero (length frames))
+    ∙ never (frame.commit == 0)
+  where
+    never : (b : Bool) → (if b && false then [] else frame ∷ (other ∷ frames)) ≡ frame ∷ (other ∷ frames)
+    never true = refl
+    never false = refl
+
+-- and there are as many pages as the last says
+pub count-ended : (count : ℕ) (frames : List Frame) → 0 < last_commit frames → count_after count frames ≡ last_commit frames
+count-ended count [] ended = absurd (omega arith)
+count-ended count (frame ∷ frames) ended = refl
+
+-- the frames up to the last commit are the first ones
+pub committed-front : (frames : List Frame) → committed frames ≡ take (length (committed frames)) frames
+committed-front [] = refl
+committed-front (frame ∷ frames) = front ((frame.commit == 0) && (length (committed frames) == 0)) (committed-front frames)
+  where
+    front : (b : Bool) → committed frames ≡ take (length (committed frames)) frames
+        → (if b then [] else frame ∷ committed frames) ≡ take (length (if b then [] else frame ∷ committed frames)) (frame ∷ frames)
+    front true same = refl
+    front false same = ap (λ (fs : List Frame). frame ∷ fs) same

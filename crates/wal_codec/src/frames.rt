@@ -1,10 +1,9 @@
 // Reads a log's header and its frames.
-ghost use Rattle.std.specs.Prelude.{◌≡◌, ℕ, ◌+◌, ◌%◌, ◌^◌, ◌<◌, ◌≤◌, ◌++◌, List, length, drop, true, false, IfSome, IfNone, IfOk};
+ghost use Rattle.std.specs.Prelude.{◌≡◌, ℕ, ◌+◌, ◌%◌, ◌^◌, ◌<◌, ◌≤◌, ◌++◌, List, [], ◌∷◌, length, drop, true, false, IfSome, IfNone, OnOk};
 ghost use Rattle.std.specs.Bool.{OnTrue, OnFalse};
-ghost use Rattle.format_spec.specs.Sizes.{IsPageSize};
 ghost use Rattle.format_spec.specs.Log.{pair_of};
 ghost use Rattle.wal_codec.specs.LogReading.{Head, HasHead, HasNoFrame};
-ghost use Rattle.wal_codec.specs.FramesRead.{HasReadHead, HasReadFrame, HaveReadFrames, counts_after};
+ghost use Rattle.wal_codec.specs.FramesRead.{HasReadHead, HasReadFrame, counts_after, counts_of_none};
 
 use crate::headers::{MAGIC, write_frame_header, write_log_header};
 use byte_fields::u32_at;
@@ -81,7 +80,7 @@ pub(crate) fn read_head(bytes: &[u8]) -> Option<LogHead>
 }
 
 // The frame at the beginning of the bytes, which lie behind the sums.
-fn read_frame(head: &LogHead, sums: [u32; 2], bytes: &[u8]) -> Option<FrameHead>
+pub(crate) fn read_frame(head: &LogHead, sums: [u32; 2], bytes: &[u8]) -> Option<FrameHead>
     requires { head.now.page_size % 8 ≡ 0 }
     ensures found { IfSome result (HasReadFrame head.now.big (pair_of head.now.salt) (pair_of sums) head.now.page_size bytes.now) }
     ensures none { IfNone result (HasNoFrame head.now.big (pair_of head.now.salt) (pair_of sums) head.now.page_size bytes.now) }
@@ -132,35 +131,36 @@ impl Counts {
     }
 }
 
-// All valid frames from the beginning of the bytes, which lie behind the header.
-pub(crate) fn read_frames(
-    alloc: Global,
-    head: &LogHead,
-    bytes: &[u8],
-    needed: u64,
-) -> Result<ReadFrames, AllocError>
-    requires { IsPageSize head.now.page_size }
-    ensures { IfOk result (HaveReadFrames head.now bytes.now needed) }
-{
-    let size = 24 + head.page_size as usize;
-    let mut read = ReadFrames {
-        numbers: Vec::with_capacity(alloc, bytes.len() / size)?,
-        counts: Counts {
-            committed: 0,
-            commit_pages: 0,
-            last_needed: 0,
-        },
-        sums: head.sums,
-    };
-    let mut left = bytes;
-    while let Some(frame) = read_frame(head, read.sums, left) {
-        read.counts = read
-            .counts
-            .after(read.numbers.len() as u64, frame.commit, needed);
-        read.numbers.push(frame.number)?;
-        let sums = frame.sums;
-        read.sums = sums;
-        left = &left[size..];
+impl ReadFrames {
+    // None of frames that lie behind these sums.
+    pub(crate) fn none(alloc: Global, sums: [u32; 2]) -> ReadFrames
+        ensures numbers { result.numbers.items ≡ [] }
+        ensures counts { result.counts ≡ counts_of_none }
+        ensures sums { result.sums ≡ sums }
+    {
+        ReadFrames {
+            numbers: Vec::new(alloc),
+            counts: Counts {
+                committed: 0,
+                commit_pages: 0,
+                last_needed: 0,
+            },
+            sums,
+        }
     }
-    Ok(read)
+
+    // Keeps one more frame, as long as there is memory.
+    pub(crate) fn keep(&mut self, frame: &FrameHead, needed: u64) -> Result<(), AllocError>
+        ensures numbers { OnOk result (self.new.numbers.items ≡ self.old.numbers.items ++ frame.now.number ∷ []) }
+        ensures counts { OnOk result (self.new.counts ≡ counts_after needed (length self.old.numbers.items) frame.now.commit self.old.counts) }
+        ensures sums { OnOk result (self.new.sums ≡ frame.now.sums) }
+    {
+        self.counts = self
+            .counts
+            .after(self.numbers.len() as u64, frame.commit, needed);
+        self.numbers.push(frame.number)?;
+        let sums = frame.sums;
+        self.sums = sums;
+        Ok(())
+    }
 }

@@ -48,8 +48,9 @@ pub(crate) fn write_log_header(
     sums
 }
 
-// Writes a frame's header, and returns the checksum at the frame.
-pub(crate) fn write_frame_header(
+/// Writes the 24 bytes of a frame's header (Database File Format, section 4.1) into a log whose checksums take their words with the most
+/// significant byte first where `big` is true, and last where it is not, and returns the checksum at the frame. Else as `frame_bytes`.
+pub fn write_frame_header(
     big: bool,
     number: u32,
     commit: u32,

@@ -1,7 +1,8 @@
 //! Spells and reads SQLite's write-ahead log (Database File Format, section 4).
 //!
 //! The layer above writes a whole log by `header_bytes`, and then for each page `frame_bytes` and the page itself. Each call gives
-//! the checksum that the next one takes, as `checksum` does. It reads a whole log by `read_log`, which keeps a `Log`.
+//! the checksum that the next one takes, as `checksum` does; `write_frame_header` does so in either byte order. It reads a whole log by
+//! `read_log`, which keeps a `Log`, or frame by frame by a `LogReader`, so that no more of a log than a frame is in memory.
 //!
 //! What bytes say as a log of which the first frames are needed, and why they say nothing, is said by `LogReading`; `LogReadingLaws` has
 //! that bytes are one log or have one fault, and what one more frame changes.
@@ -16,9 +17,11 @@ mod frames;
 mod headers;
 mod laws;
 mod log;
+mod reader;
 mod sums;
 
-pub use headers::{frame_bytes, header_bytes};
+pub use headers::{frame_bytes, header_bytes, write_frame_header};
 pub use laws::{checksum_goes_on, written_log_is_a_log};
 pub use log::{Log, LogFault, read_log};
+pub use reader::LogReader;
 pub use sums::checksum;

@@ -1,12 +1,12 @@
 // Reads a log.
-ghost use Rattle.std.specs.Prelude.{◌≡◌};
+ghost use Rattle.std.specs.Prelude.{◌≡◌, ◌≤◌, length, take};
 ghost use Rattle.wal_codec.specs.declared.log.LogFault.{LogFault};
 ghost use Rattle.common_spec.specs.Reading.{OrFault, ReadsOrWants};
 ghost use Rattle.wal_codec.specs.LogReading.{HasLog, HasFault, IsMemory};
 ghost use Rattle.wal_codec.specs.FramesRead.{log_kept};
 
-use crate::frames::{LogHead, ReadFrames, read_frames, read_head};
-use db_header::is_page_size;
+use crate::frames::{LogHead, ReadFrames};
+use crate::reader::LogReader;
 use owned_list::OwnedList;
 use std::alloc::{AllocError, Global};
 
@@ -46,7 +46,7 @@ impl From<AllocError> for LogFault {
 }
 
 // What is kept of the header and the frames that were read.
-fn kept(head: &LogHead, frames: ReadFrames) -> Log
+pub(crate) fn kept(head: &LogHead, frames: ReadFrames) -> Log
     ensures { result ≡ log_kept head.now frames }
 {
     let salt = head.salt;
@@ -65,24 +65,26 @@ fn kept(head: &LogHead, frames: ReadFrames) -> Log
     }
 }
 
+// The first bytes, so many, or all where there are fewer.
+fn front(bytes: &[u8], size: usize) -> &[u8]
+    ensures bytes { result.now ≡ take size bytes.now }
+    ensures within { length result.now ≤ length bytes.now }
+{
+    &bytes[..bytes.len().min(size)]
+}
+
 /// Reads a log whole: its header, and the longest list of valid frames. So many first frames are needed, the last of them a commit;
 /// a part of a frame counts as one to whoever needs it.
 pub fn read_log(alloc: Global, bytes: &[u8], needed: u64) -> Result<Log, LogFault>
     ensures { ReadsOrWants (λ log. log) IsMemory (OrFault (HasLog bytes.now needed) (HasFault bytes.now needed)) result }
 {
-    let Some(head) = read_head(bytes) else {
+    let Some(mut reader) = LogReader::begin(alloc, front(bytes, 32), needed) else {
         return Err(LogFault::LogHeader);
     };
-    if !is_page_size(head.page_size) {
-        return Err(LogFault::LogHeader);
+    let size = reader.frame_size();
+    let mut left = &bytes[32..];
+    while reader.next_frame(front(left, size))? {
+        left = &left[size..];
     }
-    let frames = read_frames(alloc, &head, &bytes[32..], needed)?;
-    let count = frames.numbers.len() as u64;
-    if count < needed {
-        return Err(LogFault::LogFrame { number: count + 1 });
-    }
-    if needed > 0 && frames.counts.last_needed == 0 {
-        return Err(LogFault::LogFrame { number: needed });
-    }
-    Ok(kept(&head, frames))
+    reader.finish()
 }

@@ -1,5 +1,5 @@
 -- The index of a log's frames, and the last frame of a page at or below a read mark (WAL-mode File Format, section 2).
-use Rattle.std.specs.Prelude.{◌≡◌, ◌≢◌, ℕ, ◌-◌, ◌<◌, ◌≤◌, List, length, slice_index}
+use Rattle.std.specs.Prelude.{◌≡◌, ℕ, ◌-◌, ◌<◌, ◌≤◌, List, length, slice_index}
 
 -- the pages of the log's valid frames, how many pages there are after the last commit, and how many frames were copied into the database file
 pub record FrameIndex : Type 0 where

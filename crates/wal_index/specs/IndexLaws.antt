@@ -1,5 +1,5 @@
 -- A page has one last frame: crates above cite this fact in their proofs.
-use Rattle.std.specs.Prelude.{◌≡◌, ℕ, List}
+use Rattle.std.specs.Prelude.{ℕ, List}
 use Rattle.std.proofs.Common.{arith, inl, inr}
 use Rattle.std.proofs.lemmas.Bool.{cases_lt}
 use Rattle.common_spec.specs.ReadingLaws.{IsOne}

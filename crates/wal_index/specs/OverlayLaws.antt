@@ -1,8 +1,11 @@
 -- The last frame of a page by its number is the one that the overlay takes the page from: crates above cite these facts in their proofs.
-use Rattle.std.specs.Prelude.{◌≡◌, ℕ, zero, suc, ◌-◌, ◌<◌, ◌≤◌, ◌==◌, ◌||◌, not, is_some, Bool, true, false, if◌then◌else◌, List, [], ◌∷◌, length, map, slice_index, slice_index_or, Option, Some, None, refl}
-use Rattle.std.proofs.Common.{sym, ap, ◌∙◌, arith}
+use Rattle.std.specs.Prelude.{◌≡◌, ℕ, zero, suc, ◌-◌, ◌<◌, ◌≤◌, ◌==◌, ◌||◌, not, is_some, Bool, true, false, if◌then◌else◌, List, [], ◌∷◌, length, map, take, slice_index, slice_index_or, Option, Some, None, unwrap_or, refl}
+use Rattle.std.proofs.Common.{sym, ap, ◌∙◌, subst, arith, length-take}
 use Rattle.std.proofs.lemmas.Bool.{eq-eqb, ne_eqb}
-use Rattle.format_spec.specs.Log.{Frame, last_frame_of}
+use Rattle.std.proofs.lemmas.List.{get_or-take, take-map}
+use Rattle.format_spec.specs.PageMap.{PageMap}
+use Rattle.format_spec.specs.Log.{Frame, last_frame_of, last_commit, count_after, overlay}
+use Rattle.wal_codec.specs.LogReadingLaws.{committed-ended, count-ended}
 use Rattle.wal_index.specs.FrameIndex.{IsFrameOf, IsLastFrame}
 
 -- the pages' numbers of frames
@@ -77,3 +80,58 @@ last_frame-page (frame ∷ frames) page (suc (suc k)) d last =
     later : (j : ℕ) → suc k < j → j ≤ length frames → ¬ IsFrameOf (numbers frames) page j
     later zero behind within is = absurd (omega arith)
     later (suc j) behind within is = last.last (suc (suc j)) (omega arith) (omega arith) (frame-behind frame frames page j is)
+
+-- a frame that is one of the first is one of them all
+frame-all : (frames : List ℕ) (page mark k : ℕ) → IsFrameOf (take mark frames) page k → IsFrameOf frames page k
+frame-all frames page mark k is = record {
+  counts = is.counts;
+  there = omega (arith, length-take mark frames, is.there);
+  of_page = sym (get_or-take mark frames (k - 1) 0 (omega (arith, length-take mark frames, is.counts, is.there))) ∙ is.of_page;
+}
+
+-- a frame up to the mark is one of the first
+frame-first_ones : (frames : List ℕ) (page mark k : ℕ) → k ≤ mark → IsFrameOf frames page k → IsFrameOf (take mark frames) page k
+frame-first_ones frames page mark k below is = record {
+  counts = is.counts;
+  there = omega (arith, length-take mark frames, is.there);
+  of_page = get_or-take mark frames (k - 1) 0 (omega (arith, is.counts)) ∙ is.of_page;
+}
+
+-- no frame of a page up to the mark: with the first frames alone the page is as it was
+pub marked_frame-none : (frames : List Frame) (page mark : ℕ) → ((k : ℕ) → k ≤ mark → ¬ IsFrameOf (numbers frames) page k) → last_frame_of page (take mark frames) ≡ None
+marked_frame-none frames page mark none =
+    last_frame-none (take mark frames) page (λ k is.
+    let among : IsFrameOf (take mark (numbers frames)) page k = subst (λ (ns : List ℕ). IsFrameOf ns page k) (sym (take-map (λ (frame : Frame). frame.number) mark frames)) is in
+    none k (omega (arith, length-take mark (numbers frames), among.there)) (frame-all (numbers frames) page mark k among))
+
+-- the last frame of a page up to the mark: with the first frames alone the page is as that frame has it
+pub marked_frame-page : (frames : List Frame) (page mark k : ℕ) (d : Frame) → IsLastFrame (numbers frames) page mark k → last_frame_of page (take mark frames) ≡ Some (slice_index_or frames (k - 1) d).page
+marked_frame-page frames page mark k d last =
+    let firsts : take mark (numbers frames) ≡ numbers (take mark frames) = take-map (λ (frame : Frame). frame.number) mark frames in
+    let among : IsLastFrame (numbers (take mark frames)) page (length (take mark frames)) k = record {
+      is_frame = subst (λ (ns : List ℕ). IsFrameOf ns page k) firsts (frame-first_ones (numbers frames) page mark k last.below last.is_frame);
+      below = omega (arith, length-take mark frames, last.below, last.is_frame.there, length-numbers frames);
+      last = λ later behind within is.
+          last.last later behind (omega (arith, length-take mark frames)) (frame-all (numbers frames) page mark later (subst (λ (ns : List ℕ). IsFrameOf ns page later) (sym firsts) is));
+    } in
+    last_frame-page (take mark frames) page k d among
+    ∙ ap (λ (frame : Frame). Some frame.page) (get_or-take mark frames (k - 1) d (omega (arith, last.below, last.is_frame.counts)))
+
+-- with the frames up to a mark, the last of which is a commit, a page comes from its last frame up to the mark
+pub mark-page : (base : PageMap) (frames : List Frame) (page mark k : ℕ) (d : Frame) → 0 < last_commit (take mark frames) → IsLastFrame (numbers frames) page mark k
+    → (overlay base (take mark frames)).page page ≡ (slice_index_or frames (k - 1) d).page
+mark-page base frames page mark k d ended last =
+    ap (λ (fs : List Frame). unwrap_or (last_frame_of page fs) (base.page page)) (committed-ended (take mark frames) ended)
+    ∙ ap (λ (p : Option (List ℕ)). unwrap_or p (base.page page)) (marked_frame-page frames page mark k d last)
+
+-- and is as it was where it has none
+pub mark-none : (base : PageMap) (frames : List Frame) (page mark : ℕ) → 0 < last_commit (take mark frames) → ((k : ℕ) → k ≤ mark → ¬ IsFrameOf (numbers frames) page k)
+    → (overlay base (take mark frames)).page page ≡ base.page page
+mark-none base frames page mark ended none =
+    ap (λ (fs : List Frame). unwrap_or (last_frame_of page fs) (base.page page)) (committed-ended (take mark frames) ended)
+    ∙ ap (λ (p : Option (List ℕ)). unwrap_or p (base.page page)) (marked_frame-none frames page mark none)
+
+-- and there are as many as the frame at the mark says
+pub mark-count : (base : PageMap) (frames : List Frame) (mark : ℕ) → 0 < last_commit (take mark frames) → (overlay base (take mark frames)).count ≡ last_commit (take mark frames)
+mark-count base frames mark ended =
+    ap (count_after base.count) (committed-ended (take mark frames) ended) ∙ count-ended base.count (take mark frames) ended

@@ -1,10 +1,27 @@
 // The index of a log.
-ghost use Rattle.std.specs.Prelude.{◌≡◌, IfOk, length};
+ghost use Rattle.std.specs.Prelude.{◌≡◌, ◌≤◌, ℕ, IfNone, IfOk, length};
 ghost use Rattle.common_spec.specs.Reading.{OrNone, Reads};
+ghost use Rattle.wal_index.specs.FrameIndex.{IsFrameOf, IsLastFrame};
 
 use std::alloc::{AllocError, Global};
 use std::marker::Model;
 use wal_codec::Log;
+
+/// The last frame of the page at or below the mark, where the frames of a log have these pages. Frames count from 1.
+pub fn last_frame(frames: &[u32], page: u32, mark: u64) -> Option<u64>
+    ensures last { Reads (OrNone (IsLastFrame frames.now page mark)) result }
+    ensures none { IfNone result ((frame : ℕ) → frame ≤ mark → ¬ IsFrameOf frames.now page frame) }
+{
+    let within = mark.min(frames.len() as u64) as usize;
+    let mut left = &frames[..within];
+    while let [front @ .., last] = left {
+        if *last == page {
+            return Some(left.len() as u64);
+        }
+        left = front;
+    }
+    None
+}
 
 /// The frames of a log by the numbers of their pages.
 #[derive(Drop)]
@@ -23,8 +40,6 @@ impl Model for WalIndex {
 }
 
 impl WalIndex {
-    ghost use Rattle.wal_index.specs.FrameIndex.{IsLastFrame};
-
     /// The index of all valid frames of a log, of which none was copied yet.
     pub fn of_log(alloc: Global, log: &Log) -> Result<WalIndex, AllocError>
         ensures { IfOk result (λ index. index ≡ record { frames = log.now.frames; pages = log.now.commit_pages; backfilled = 0 }) }
@@ -39,17 +54,10 @@ impl WalIndex {
 
     /// The last frame of the page at or below the mark. Frames count from 1.
     pub fn find(&self, page: u32, mark: u64) -> Option<u64>
-        ensures { Reads (OrNone (IsLastFrame self.now.frames page mark)) result }
+        ensures last { Reads (OrNone (IsLastFrame self.now.frames page mark)) result }
+        ensures none { IfNone result ((frame : ℕ) → frame ≤ mark → ¬ IsFrameOf self.now.frames page frame) }
     {
-        let within = mark.min(self.frames.len() as u64) as usize;
-        let mut left = &self.frames[..within];
-        while let [front @ .., last] = left {
-            if *last == page {
-                return Some(left.len() as u64);
-            }
-            left = front;
-        }
-        None
+        last_frame(self.frames.as_slice(), page, mark)
     }
 
     /// The number of the last valid frame.

@@ -322,9 +322,8 @@ catalog means = record {
       (
         record {
           table = table_row;
-          stands = ([], index_row ∷ [], refl);
+          stands = refl;
           is_real = refl;
-          its_table = refl;
           root = (in_range 3 (omega arith) (omega arith), refl);
           meaning = Ok target_table;
           means = means;

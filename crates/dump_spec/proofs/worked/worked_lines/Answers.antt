@@ -1,4 +1,4 @@
-use Rattle.std.proofs.Common.{ℕ, List, [], ◌∷◌, ◌++◌, codes, refl, ap, arith}
+use Rattle.std.proofs.Common.{ℕ, List, ◌∷◌, ◌++◌, codes, refl, ap, arith}
 use Rattle.std.proofs.lemmas.Fmt.{decimal_digit}
 use Rattle.hex.specs.Hex.{encode_with}
 use Rattle.dump_spec.proofs.worked.worked_lines.Goals as goal

@@ -47,14 +47,14 @@ returns-clause-images g c =
 
 pub returns-clause-names : goal.returns-clause-names
 returns-clause-names g c asks ended =
-    crash.survives-names c.args.out.now c.write_line-status.new.out c.tellable-answer.result.0 c.write_line-status.result c.write_line-status.ensures ((crashes g c).survives asks) ended
+    crash.survives-names c.args.out.now c.write_text-status.new.out c.tellable-answer.result.0 c.write_text-status.result c.write_text-status.ensures ((crashes g c).survives asks) ended
 
 pub returns-clause-target : goal.returns-clause-target
 returns-clause-target g c zero =
     let asks : AsksUpdate (map string_bytes c.args.words.now) =
     (answering.told-done (pair_of c.args.salt) (map string_bytes c.args.words.now) (g.D.Disk.shown c.args.disk) (g.D.Disk.shown c.answer_of-answer.new.disk)
-    c.args.out.now c.write_line-status.new.out c.tellable-answer.result.0 c.write_line-status.result (settled g c) c.write_line-status.ensures zero).0 in
-    crash.survives-target c.args.out.now c.write_line-status.new.out c.tellable-answer.result.0 c.write_line-status.result c.write_line-status.ensures ((crashes g c).survives asks) zero
+    c.args.out.now c.write_text-status.new.out c.tellable-answer.result.0 c.write_text-status.result (settled g c) c.write_text-status.ensures zero).0 in
+    crash.survives-target c.args.out.now c.write_text-status.new.out c.tellable-answer.result.0 c.write_text-status.result c.write_text-status.ensures ((crashes g c).survives asks) zero
 
 pub returns-clause-headline : goal.returns-clause-headline
 returns-clause-headline g c =
@@ -74,64 +74,64 @@ returns-clause-log g c =
 pub returns-clause-finished : goal.returns-clause-finished
 returns-clause-finished g c =
     answering.told-done (pair_of c.args.salt) (map string_bytes c.args.words.now) (g.D.Disk.shown c.args.disk) (g.D.Disk.shown c.answer_of-answer.new.disk)
-    c.args.out.now c.write_line-status.new.out c.tellable-answer.result.0 c.write_line-status.result (settled g c) c.write_line-status.ensures
+    c.args.out.now c.write_text-status.new.out c.tellable-answer.result.0 c.write_text-status.result (settled g c) c.write_text-status.ensures
 
 pub returns-clause-constraint : goal.returns-clause-constraint
 returns-clause-constraint g c =
     answering.told-constraint (pair_of c.args.salt) (map string_bytes c.args.words.now) (g.D.Disk.shown c.args.disk) (g.D.Disk.shown c.answer_of-answer.new.disk)
-    c.args.out.now c.write_line-status.new.out c.tellable-answer.result.0 c.write_line-status.result (settled g c) c.write_line-status.ensures
+    c.args.out.now c.write_text-status.new.out c.tellable-answer.result.0 c.write_text-status.result (settled g c) c.write_text-status.ensures
 
 pub returns-clause-refused : goal.returns-clause-refused
 returns-clause-refused g c =
     answering.told-refused (pair_of c.args.salt) (map string_bytes c.args.words.now) (g.D.Disk.shown c.args.disk) (g.D.Disk.shown c.answer_of-answer.new.disk)
-    c.args.out.now c.write_line-status.new.out c.tellable-answer.result.0 c.write_line-status.result (settled g c) c.write_line-status.ensures
+    c.args.out.now c.write_text-status.new.out c.tellable-answer.result.0 c.write_text-status.result (settled g c) c.write_text-status.ensures
 
 pub returns-clause-memory : goal.returns-clause-memory
 returns-clause-memory g c =
     answering.told-memory (pair_of c.args.salt) (map string_bytes c.args.words.now) (g.D.Disk.shown c.args.disk) (g.D.Disk.shown c.answer_of-answer.new.disk)
-    c.args.out.now c.write_line-status.new.out c.tellable-answer.result.0 c.write_line-status.result (settled g c) c.write_line-status.ensures
+    c.args.out.now c.write_text-status.new.out c.tellable-answer.result.0 c.write_text-status.result (settled g c) c.write_text-status.ensures
 
 pub returns-clause-usage : goal.returns-clause-usage
 returns-clause-usage g c =
     answering.told-usage (pair_of c.args.salt) (map string_bytes c.args.words.now) (g.D.Disk.shown c.args.disk) (g.D.Disk.shown c.answer_of-answer.new.disk)
-    c.args.out.now c.write_line-status.new.out c.tellable-answer.result.0 c.write_line-status.result (settled g c) c.write_line-status.ensures
+    c.args.out.now c.write_text-status.new.out c.tellable-answer.result.0 c.write_text-status.result (settled g c) c.write_text-status.ensures
 
 pub returns-clause-not_built : goal.returns-clause-not_built
 returns-clause-not_built g c =
     answering.told-not_built (pair_of c.args.salt) (map string_bytes c.args.words.now) (g.D.Disk.shown c.args.disk) (g.D.Disk.shown c.answer_of-answer.new.disk)
-    c.args.out.now c.write_line-status.new.out c.tellable-answer.result.0 c.write_line-status.result (settled g c) c.write_line-status.ensures
+    c.args.out.now c.write_text-status.new.out c.tellable-answer.result.0 c.write_text-status.result (settled g c) c.write_text-status.ensures
 
 pub returns-clause-usage_only : goal.returns-clause-usage_only
 returns-clause-usage_only g c =
     answering.told-usage_only (pair_of c.args.salt) (map string_bytes c.args.words.now) (g.D.Disk.shown c.args.disk) (g.D.Disk.shown c.answer_of-answer.new.disk)
-    c.args.out.now c.write_line-status.new.out c.tellable-answer.result.0 c.write_line-status.result (settled g c) c.write_line-status.ensures
+    c.args.out.now c.write_text-status.new.out c.tellable-answer.result.0 c.write_text-status.result (settled g c) c.write_text-status.ensures
 
 pub returns-clause-complete : goal.returns-clause-complete
 returns-clause-complete g c =
     answering.told-complete (pair_of c.args.salt) (map string_bytes c.args.words.now) (g.D.Disk.shown c.args.disk) (g.D.Disk.shown c.answer_of-answer.new.disk)
-    c.args.out.now c.write_line-status.new.out c.tellable-answer.result.0 c.write_line-status.result (settled g c) c.write_line-status.ensures
+    c.args.out.now c.write_text-status.new.out c.tellable-answer.result.0 c.write_text-status.result (settled g c) c.write_text-status.ensures
 
 pub returns-clause-told : goal.returns-clause-told
 returns-clause-told g c = (
   c.tellable-answer.result.0,
   settled-owed (pair_of c.args.salt) (map string_bytes c.args.words.now) c.args.disk c.answer_of-answer.new.disk c.tellable-answer.result.0 (settled g c) (counted g c),
-  c.write_line-status.ensures,
+  c.write_text-status.ensures,
 )
 
 pub returns-clause-fault : goal.returns-clause-fault
 returns-clause-fault g c =
     answering.told-fault (pair_of c.args.salt) (map string_bytes c.args.words.now) c.args.disk c.answer_of-answer.new.disk
-    c.args.out.now c.write_line-status.new.out c.tellable-answer.result.0 c.write_line-status.result (settled g c) (counted g c) c.write_line-status.ensures
+    c.args.out.now c.write_text-status.new.out c.tellable-answer.result.0 c.write_text-status.result (settled g c) (counted g c) c.write_text-status.ensures
 
 pub returns-clause-calls : goal.returns-clause-calls
 returns-clause-calls g c =
     answering.told-counts_calls (pair_of c.args.salt) (map string_bytes c.args.words.now) c.args.disk c.answer_of-answer.new.disk
-    c.args.out.now c.write_line-status.new.out c.tellable-answer.result.0 c.write_line-status.result (counted g c) c.write_line-status.ensures
+    c.args.out.now c.write_text-status.new.out c.tellable-answer.result.0 c.write_text-status.result (counted g c) c.write_text-status.ensures
 
 pub returns-clause-writes : goal.returns-clause-writes
 returns-clause-writes g c =
-    answering.told-counts_writes c.args.out.now c.write_line-status.new.out c.tellable-answer.result.0 c.write_line-status.result c.write_line-status.ensures
+    answering.told-counts_writes c.args.out.now c.write_text-status.new.out c.tellable-answer.result.0 c.write_text-status.result c.write_text-status.ensures
 
 pub returns-clause-status : goal.returns-clause-status
 returns-clause-status g c =
-    answering.status-told c.args.out.now c.write_line-status.new.out c.tellable-answer.result.0 c.write_line-status.result c.write_line-status.ensures
+    answering.status-told c.args.out.now c.write_text-status.new.out c.tellable-answer.result.0 c.write_text-status.result c.write_text-status.ensures

@@ -1,13 +1,14 @@
-use Rattle.std.proofs.Common.{Ok, rules}
+use Rattle.std.proofs.Common.{Ok, refl, rules}
 use Rattle.common_spec.specs.Told.{Leads}
-use Rattle.common_spec.specs.ToldLaws.{Leads-known}
+use Rattle.common_spec.specs.ToldLaws.{Leads-known, Leads-same}
 use Rattle.format_spec.specs.Log.{pair_of}
 use Rattle.rbu_run.specs.Ending.{Ends}
 use Rattle.file_spec.specs.Records.{shown_files}
 use Rattle.refusal.specs.declared.Refusal.TheVariants.{NotYet}
 use Rattle.update_spec.specs.declared.Outcome.TheVariants.{Refused}
 use Rattle.rbu_run.specs.Crash.{HasFirmNames, IsStableEnd, Survives}
-use Rattle.rbu_run.specs.Inspection.{IsSmallWith}
+use Rattle.small_spec.specs.SmallUpdate.{NeedsPart}
+use Rattle.rbu_run.specs.Inspection.{HasOnly, IsSmallWith}
 use Rattle.rbu_run.proofs.Moments.{records-have}
 use Rattle.rbu_run.proofs.Survivals.{failed-kept, halted-end, settled-kept, settled-names-end, settled-then}
 use Rattle.rbu_run.proofs.update.update.Goals as goal
@@ -22,6 +23,12 @@ returns-in-Small-clause-calls g c = record {
   cause = search rules;
   allows = λ all. c.finish.ensures.calls.allows (c.inspect.ensures.calls.allows (c.sync_folder.ensures.test.every all));
 }
+
+pub returns-in-Missing-clause-files : goal.returns-in-Missing-clause-files
+returns-in-Missing-clause-files g c =
+    let stays : Leads (λ f h. NeedsPart f c.in-Missing.part × HasOnly f (Refused (NotYet c.in-Missing.part)) → Ends (pair_of c.args.salt) (Ok (Refused (NotYet c.in-Missing.part))) f h)
+    (g.D.Disk.shown c.sync_folder.new.self) (g.D.Disk.shown c.inspect.new.disk) = Leads-same c.inspect.ensures.files.same (λ f needs. (((c.in-Missing.part, refl, needs.0), refl), needs.1)) in
+    rw (c.not_yet.ensures, ← c.sync_folder.ensures.same) (Leads-known (rw c.in-Missing.is at c.in_ok-part.ensures.files.answer) stays)
 
 pub returns-in-Small-clause-files : goal.returns-in-Small-clause-files
 returns-in-Small-clause-files g c =

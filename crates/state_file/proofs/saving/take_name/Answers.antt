@@ -1,5 +1,6 @@
 use Rattle.file_spec.specs.Steps.{AfterFolderSync, AfterFailedFolderSync}
-use Rattle.state_file.proofs.StateCalls.{led-then, takes-renamed, takes-then, taking-folder, taken}
+use Rattle.rbu_disk.specs.DiskLaws.{led-then}
+use Rattle.state_file.proofs.StateCalls.{takes-renamed, takes-then, taking-folder, taken}
 use Rattle.state_file.proofs.saving.take_name.Goals as goal
 
 pub returns-in_err-rename-clause-moments : goal.returns-in_err-rename-clause-moments

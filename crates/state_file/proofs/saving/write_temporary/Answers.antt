@@ -6,7 +6,8 @@ use Rattle.file_spec.specs.Files.{Files, with_file}
 use Rattle.file_spec.specs.OnlyChangesLaws.{only-same, only-written, only-torn, only-then}
 use Rattle.file_spec.specs.Records.{shown_files}
 use Rattle.file_spec.specs.Steps.{AfterSync, AfterFailedSync}
-use Rattle.state_file.proofs.StateCalls.{led-then, records-go, only-length, only-cut, Wrote, writing-then, writing-written, writing-length, writing-stable, temporary-stable, on-ok}
+use Rattle.rbu_disk.specs.DiskLaws.{led-then, records-go}
+use Rattle.state_file.proofs.StateCalls.{only-length, only-cut, Wrote, writing-then, writing-written, writing-length, writing-stable, temporary-stable, on-ok}
 use Rattle.state_file.proofs.saving.write_temporary.Given as given
 use Rattle.state_file.proofs.saving.write_temporary.Goals as goal
 

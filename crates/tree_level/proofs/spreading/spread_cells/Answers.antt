@@ -51,6 +51,7 @@ loop-alloc-preserved g c =
       };
       faults = f.owes.faults.still ∙ inv.faults;
       grows = omega (arith, inv.grows, f.count);
+      limited = omega (arith, inv.limited, f.most);
       whole = c.write_front.auto.page ∙ inv.whole;
       left = omega (arith, inv.left, left, c.saturating_sub-at.ensures);
       over = λ none. absurd (omega (arith, none, many));

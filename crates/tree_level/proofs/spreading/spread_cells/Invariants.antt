@@ -1,4 +1,4 @@
-use Rattle.std.proofs.Common.{◌≡◌, ◌≤◌, ◌<◌, ◌+◌, ◌*◌, length, drop, ◌-◌}
+use Rattle.std.proofs.Common.{◌≡◌, ◌≤◌, ◌<◌, ◌+◌, ◌*◌, length, drop, ◌-◌, max}
 use Rattle.std.specs.List.{All}
 use Rattle.page_spec.specs.Rooms.{IsOneCell, needs}
 use Rattle.page_store.specs.Store.{Stays}
@@ -13,6 +13,7 @@ invariant-loop-alloc g l = record {
   stays : Stays g.S.PageRead l.fn.store l.store;
   faults : g.S.PageRead.faults l.store ≡ g.S.PageRead.faults l.fn.store;
   grows : g.S.PageRead.count l.fn.store ≤ g.S.PageRead.count l.store;
+  limited : g.S.PageRead.count l.store ≤ max l.limit (g.S.PageRead.count l.fn.store);
   whole : length l.page ≡ g.S.PageRead.size l.fn.store;
   left : l.start + l.at < length l.cells;
   over : length l.dividers.items ≡ 0 → l.start ≡ 0;

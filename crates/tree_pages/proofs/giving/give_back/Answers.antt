@@ -1,7 +1,8 @@
 use Rattle.std.proofs.Common.{◌≡◌, ◌+◌, ◌-◌, ℕ, suc, ap, ◌∙◌, subst, arith}
 use Rattle.page_spec.specs.Chains.{pages_for}
 use Rattle.tree_spec.specs.Standing.{Sizes}
-use Rattle.tree_pages.specs.Writers.{Releases, paged, sizes_of}
+use Rattle.put_spec.specs.Steps.{Releases}
+use Rattle.tree_pages.specs.Writers.{paged, sizes_of}
 use Rattle.tree_pages.specs.WritersLaws.{sizes-same}
 use Rattle.tree_pages.proofs.Given.{Giving, one-given, all-given}
 use Rattle.tree_pages.proofs.giving.give_back.Goals as goal

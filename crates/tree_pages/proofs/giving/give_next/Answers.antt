@@ -2,9 +2,8 @@ use Rattle.std.proofs.Common.{◌≡◌, ℕ, ap, ap₂, sym, ◌∙◌}
 use Rattle.page_spec.specs.Pages.{next_page}
 use Rattle.page_store.specs.StoreLaws.{IfSome-told}
 use Rattle.tree_spec.specs.Standing.{Sizes, Paged}
-use Rattle.tree_pages.specs.Writers.{Releases, sizes_of}
+use Rattle.put_spec.specs.Steps.{Releases}
 use Rattle.tree_pages.specs.WritersLaws.{becomes-read}
-use Rattle.tree_pages.proofs.Given.{released}
 use Rattle.tree_pages.proofs.giving.give_next.Goals as goal
 
 pub returns-in-Ok-clause-released : goal.returns-in-Ok-clause-released
@@ -13,12 +12,11 @@ returns-in-Ok-clause-released g c =
     let a = c.args.store.now in
     let read = c.in_default.ensures in
     let b = c.page.new.self in
-    let e = c.in-Ok.ensures in
     let number = c.args.number in
     let R : Sizes → Paged → Paged → Type 0 = λ s x y. (c.u32_at.result ≡ next_page (x.pages number)) × Releases s number x y in
-    becomes-read S R a b c.release.new.store
+    becomes-read S R a b c.give_page.new.store
     (ap₂ (λ (size usable : ℕ). let s : Sizes = record { size = size; usable = usable } in s) read.size read.usable) read.count read.pages.same
     (λ old told.
     let is : c.page.new.into ≡ old number = IfSome-told (λ m. c.page.new.into ≡ m number) old (sym read.pages.same ∙ told) read.pages.answer in
-    let r = released (sizes_of S b) number (S.count b) (S.count c.release.new.store) old (S.pages c.release.new.store) e.count (e.changes old told) (λ trunks free apart. e.gives old trunks 0 told free apart) in
+    let r = c.in-Ok.ensures.released old told in
     (r.0, r.1, (c.u32_at.ensures ∙ ap next_page is, r.2)))

@@ -21,6 +21,7 @@ loop-left-init g c =
       stays = record { size = refl; usable = refl; fixed = refl };
       faults = refl;
       grows = omega arith;
+      limited = omega arith;
       whole = ap length c.as_mut_slice-page.ensures.value ∙ c.in_ok-buffer.ensures ∙ c.page_size.ensures;
       most = omega (arith, all);
       none = λ _. refl;
@@ -63,6 +64,7 @@ loop-left-preserved g c =
       };
       faults = w.owes.faults.still ∙ t.owes.faults.still ∙ inv.faults;
       grows = omega (arith, inv.grows, t.count, w.pages.count);
+      limited = omega (arith, inv.limited, t.most, w.pages.count);
       whole = c.write_page.auto.page ∙ inv.whole;
       most = omega (arith, inv.most);
       none = λ full. absurd (omega (arith, inv.most, full, one_more));

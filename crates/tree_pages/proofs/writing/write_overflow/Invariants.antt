@@ -1,4 +1,4 @@
-use Rattle.std.proofs.Common.{◌≡◌, ◌≤◌, length}
+use Rattle.std.proofs.Common.{◌≡◌, ◌≤◌, length, max}
 use Rattle.page_spec.specs.Chains.{pages_for}
 use Rattle.page_store.specs.Store.{Stays}
 use Rattle.tree_pages.specs.Writers.{Becomes, sizes_of}
@@ -10,6 +10,7 @@ invariant-loop-left g l = record {
   stays : Stays g.S.PageRead l.fn.store l.store;
   faults : g.S.PageRead.faults l.store ≡ g.S.PageRead.faults l.fn.store;
   grows : g.S.PageRead.count l.fn.store ≤ g.S.PageRead.count l.store;
+  limited : g.S.PageRead.count l.store ≤ max l.limit (g.S.PageRead.count l.fn.store);
   whole : length l.page ≡ g.S.PageRead.size l.fn.store;
   most : l.left ≤ pages_for (g.S.PageRead.usable l.fn.store) (length l.bytes);
   none : l.left ≡ pages_for (g.S.PageRead.usable l.fn.store) (length l.bytes) → l.next ≡ 0;

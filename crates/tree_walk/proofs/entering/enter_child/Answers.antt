@@ -4,7 +4,8 @@ use Rattle.std.proofs.lemmas.Option.{IfSome_then}
 use Rattle.tree_spec.specs.Faults.{IsDamageOrOther}
 use Rattle.page_spec.specs.Pages.{IsInRange}
 use Rattle.tree_walk.specs.Places.{IsBadStep}
-use Rattle.tree_walk.proofs.Calls.{owes-free, some-all, bad_number-step, page-child, ok-so}
+use Rattle.page_store.specs.StoreLaws.{some-all}
+use Rattle.tree_walk.proofs.Calls.{owes-free, bad_number-step, page-child, ok-so}
 use Rattle.tree_walk.proofs.entering.enter_child.Goals as goal
 
 pub returns-in-Err-clause-pages : goal.returns-in-Err-clause-pages

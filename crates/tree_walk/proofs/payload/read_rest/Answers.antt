@@ -5,7 +5,8 @@ use Rattle.page_spec.specs.Pages.{IsInRange}
 use Rattle.overflow_chain.specs.Chain.{HoldsBytes}
 use Rattle.tree_spec.specs.Faults.{IsDamageOrOther}
 use Rattle.tree_walk.specs.Payloads.{IsBadChain}
-use Rattle.tree_walk.proofs.Calls.{owes-free, owes-chain, some-all}
+use Rattle.page_store.specs.StoreLaws.{some-all}
+use Rattle.tree_walk.proofs.Calls.{owes-free, owes-chain}
 use Rattle.tree_walk.proofs.Rows.{rest-fault, bad-first}
 use Rattle.tree_walk.proofs.payload.read_rest.Goals as goal
 

@@ -1,4 +1,4 @@
-use Rattle.std.proofs.Common.{◌≡◌, ◌+◌, ◌++◌, List, ℕ, length, take, drop, refl, ap, ◌-◌, arith, length-append, length-drop, length-take}
+use Rattle.std.proofs.Common.{◌+◌, ◌++◌, List, ℕ, length, take, drop, refl, ap, ◌-◌, arith, length-append, length-drop, length-take}
 use Rattle.format_spec.specs.Log.{pair_of, frame_header}
 use Rattle.format_spec.specs.LogLaws.{length-frame_header}
 use Rattle.wal_codec.proofs.ReadingLemmas.{frame-again, frame-parts}

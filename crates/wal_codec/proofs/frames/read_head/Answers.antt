@@ -1,4 +1,4 @@
-use Rattle.std.proofs.Common.{◌≡◌, drop, length, refl, ap, ◌∙◌, ◌++◌, List, ℕ, arith, length-append}
+use Rattle.std.proofs.Common.{drop, length, ap, ◌∙◌, ◌++◌, List, ℕ, arith, length-append}
 use Rattle.format_spec.specs.LogLaws.{length-log_header}
 use Rattle.format_spec.specs.Log.{log_header}
 use Rattle.wal_codec.proofs.ReadingLemmas.{head-again}

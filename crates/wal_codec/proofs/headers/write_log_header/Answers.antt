@@ -1,5 +1,4 @@
-use Rattle.std.proofs.Common.{◌≡◌, ℕ, arith}
-use borrow.Rule.Slice.PartMut.{put_mid}
+use Rattle.std.proofs.Common.{arith}
 use Rattle.wal_codec.proofs.HeadersLemmas.{log_header-written}
 use Rattle.wal_codec.proofs.headers.write_log_header.Goals as goal
 

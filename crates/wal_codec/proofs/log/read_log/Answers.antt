@@ -1,57 +1,59 @@
-use Rattle.std.proofs.Common.{◌≡◌, ◌+◌, ◌<◌, Result, Ok, Err, List, ℕ, length, inr, sym, ◌∙◌, subst, arith}
-use Rattle.std.proofs.lemmas.Bool.{true≢false}
-use Rattle.common_spec.specs.Reading.{OrFault, Reads}
-use Rattle.common_spec.specs.ReadingLaws.{Reads-one}
+use Rattle.std.proofs.Common.{◌≡◌, ℕ, ◌-◌, ◌<◌, ◌≤◌, List, length, take, drop, Result, Ok, Err, inr, sym, ap, ◌∙◌, subst, arith, length-drop}
+use Rattle.std.proofs.lemmas.List.{take_rest}
+use Rattle.common_spec.specs.Reading.{OrFault, Reads, ReadsOrWants}
 use Rattle.wal_codec.specs.declared.log.Log.{Log}
 use Rattle.wal_codec.specs.declared.log.LogFault.{LogFault}
-use Rattle.wal_codec.specs.declared.log.LogFault.TheVariants.{LogHeader, LogFrame}
-use Rattle.wal_codec.specs.LogReading.{HasLog, HasFault}
-use Rattle.wal_codec.specs.LogReadingLaws.{log_answer-one}
-use Rattle.format_spec.specs.Sizes.{IsPageSize}
-use Rattle.wal_codec.proofs.ReadingLemmas.{head-page_size}
-use Rattle.wal_codec.proofs.FramesLemmas.{log-read, log-found, log-short, log-no_commit}
+use Rattle.wal_codec.specs.declared.log.LogFault.TheVariants.{LogHeader}
+use Rattle.wal_codec.specs.LogReading.{HasLog, HasFault, IsMemory}
+use Rattle.wal_codec.specs.FramesRead.{IsReading, TakesFrame, frame_size}
+use Rattle.wal_codec.proofs.FramesLemmas.{log-answers}
 use Rattle.wal_codec.proofs.log.read_log.Goals as goal
-use Rattle.wal_codec.proofs.log.read_log.Goals.{else-needed-gt0-via-then-needed-gt0+else-frames-eq0, else-needed-gt0-via-else-needed-gt0}
 
--- the one answer
-answers : (bytes : List ℕ) (needed : ℕ) (answer : Result Log LogFault) → OrFault (HasLog bytes needed) (HasFault bytes needed) answer
-    → Reads (OrFault (HasLog bytes needed) (HasFault bytes needed)) answer
-answers bytes needed answer = Reads-one (OrFault (HasLog bytes needed) (HasFault bytes needed)) answer (log_answer-one bytes needed)
+-- an answer that is not want of memory
+not_wanting : (P : Result Log LogFault → Type 0) (answer : Result Log LogFault) → Reads P answer → ReadsOrWants (λ log. log) IsMemory P answer
+not_wanting P (Ok log) reads = reads
+not_wanting P (Err fault) reads = inr reads
 
 pub returns-in_default : goal.returns-in_default
-returns-in_default c = inr (answers c.args.bytes.now c.args.needed (Err LogHeader) (λ head has sized. c.in_default.ensures.none head has))
+returns-in_default c = inr (log-answers c.args.bytes.now c.args.needed (Err LogHeader) (c.in_default.ensures.none c.args.bytes.now (sym c.front.ensures.bytes)))
 
-pub returns-then-not-is_page_size : goal.returns-then-not-is_page_size
-returns-then-not-is_page_size c = inr (answers c.args.bytes.now c.args.needed (Err LogHeader) (λ head has sized.
-    let same = head-page_size c.args.bytes.now head _ has c.in-Some.ensures.found.has_head in
-    true≢false (sym (c.is_page_size.ensures.1 (subst IsPageSize same sized)) ∙ c.if-not-is_page_size.true)))
+pub loop-reader-init : goal.loop-reader-init
+loop-reader-init c =
+    let bytes = c.args.bytes.now in
+    record {
+      reading = subst (λ (left : List ℕ). IsReading bytes c.args.needed left c.in-Some.reader) (sym (take_rest bytes 32)) (c.in-Some.ensures.begun bytes (sym c.front.ensures.bytes));
+      size = c.frame_size-size.ensures.size;
+    }
 
-pub returns-then-count-needed : goal.returns-then-count-needed
-returns-then-count-needed c =
-    let frames = c.in_ok-frames.frames in
-    let read = log-read c.args.bytes.now c.args.needed c.in-Some.head frames c.in-Some.ensures.found c.in_ok-frames.ensures in
-    let count : c.len-count.result ≡ length frames.numbers.items = omega arith in
-    inr (answers c.args.bytes.now c.args.needed (Err (LogFrame (c.len-count.result + 1)))
-    (subst (λ n. HasFault c.args.bytes.now c.args.needed (LogFrame (n + 1))) (sym count)
-    (log-short c.args.bytes.now c.args.needed c.in-Some.head frames read (c.is_page_size.ensures.0 c.if-not-is_page_size.false) (omega arith))))
+pub loop-reader-preserved : goal.loop-reader-preserved
+loop-reader-preserved c =
+    let bytes = c.args.bytes.now in
+    let left = c.loop-reader.left.now in
+    let size = c.frame_size-size.result in
+    let here = c.loop-reader.invariant in
+    let next = c.in_ok-next_frame.ensures in
+    let begins : take (frame_size c.loop-reader.reader) left ≡ c.front-in-loop-reader.result.now = sym (c.front-in-loop-reader.ensures.bytes ∙ ap (λ (n : ℕ). take n left) here.size) in
+    let rest : take (length left - size) (drop size left) ≡ drop (frame_size c.loop-reader.reader) left = take_rest left size ∙ ap (λ (n : ℕ). drop n left) here.size in
+    record {
+      reading = subst (λ (behind : List ℕ). IsReading bytes c.args.needed behind c.next_frame.new.self) (sym rest)
+          (subst (TakesFrame bytes c.args.needed left c.loop-reader.reader c.next_frame.new.self) c.if-branch.true (next.frame bytes left c.args.needed begins here.reading));
+      size = here.size ∙ sym next.size;
+    }
 
-pub returns-then-frames-eq0 : goal.returns-then-frames-eq0
-returns-then-frames-eq0 c =
-    let frames = c.in_ok-frames.frames in
-    let read = log-read c.args.bytes.now c.args.needed c.in-Some.head frames c.in-Some.ensures.found c.in_ok-frames.ensures in
-    inr (answers c.args.bytes.now c.args.needed (Err (LogFrame c.args.needed))
-    (log-no_commit c.args.bytes.now c.args.needed c.in-Some.head frames read (c.is_page_size.ensures.0 c.if-not-is_page_size.false)
-    (omega arith) (omega arith) (omega arith)))
+pub loop-reader-smaller : goal.loop-reader-smaller
+loop-reader-smaller c =
+    let left = c.loop-reader.left.now in
+    let size = c.frame_size-size.result in
+    let enough : frame_size c.loop-reader.reader ≤ length c.front-in-loop-reader.result.now = c.in_ok-next_frame.ensures.long c.if-branch.true in
+    let shorter : length (take (length left - size) (drop size left)) < length left =
+    omega (arith, ap length (take_rest left size), length-drop size left, enough, c.loop-reader.invariant.size, c.front-in-loop-reader.ensures.within, c.frame_size-size.ensures.range) in
+    shorter
 
 pub returns : goal.returns
 returns c =
-    let frames = c.in_ok-frames.frames in
-    let read = log-read c.args.bytes.now c.args.needed c.in-Some.head frames c.in-Some.ensures.found c.in_ok-frames.ensures in
-    let commit : 0 < c.args.needed → 0 < frames.counts.last_needed = λ some.
-    elim c.else-needed-gt0.branch [
-      | else-needed-gt0-via-then-needed-gt0+else-frames-eq0 w ↦ let apart = w.if-frames-eq0.false in omega arith
-      | else-needed-gt0-via-else-needed-gt0 w ↦ absurd (omega (arith, w.if-needed-gt0.false))
-    ] in
-    answers c.args.bytes.now c.args.needed (Ok c.kept.result)
-    (subst (HasLog c.args.bytes.now c.args.needed) (sym c.kept.ensures)
-    (log-found c.args.bytes.now c.args.needed c.in-Some.head frames read (c.is_page_size.ensures.0 c.if-not-is_page_size.false) (omega arith) commit))
+    let bytes = c.args.bytes.now in
+    let left = c.loop-reader.left.now in
+    let here = c.loop-reader.invariant in
+    let begins : take (frame_size c.loop-reader.reader) left ≡ c.front-in-loop-reader.result.now = sym (c.front-in-loop-reader.ensures.bytes ∙ ap (λ (n : ℕ). take n left) here.size) in
+    let last = subst (TakesFrame bytes c.args.needed left c.loop-reader.reader c.next_frame.new.self) c.if-branch.false (c.in_ok-next_frame.ensures.frame bytes left c.args.needed begins here.reading) in
+    not_wanting (OrFault (HasLog bytes c.args.needed) (HasFault bytes c.args.needed)) c.finish.result (c.finish.ensures.answer bytes left c.args.needed last.0 last.1)

@@ -1,15 +1,13 @@
 use Rattle.std.proofs.Common.{ap, refl, sym, ◌∙◌, inl, inr}
 use Rattle.arrayvec.specs.ArrayVec.{ArrayVec}
 use Rattle.tree_walk.specs.declared.place.Place.{Place}
-use Rattle.tree_walk.proofs.Calls.{none_popped}
-use Rattle.tree_walk.specs.Walks.{from_cell}
+use Rattle.tree_walk.proofs.Lists.{none_popped}
 use Rattle.tree_walk.proofs.Courses.{left-up, same-on}
 use Rattle.tree_walk.proofs.Paths.{path-up, past-high}
-use Rattle.tree_walk.proofs.Steps.{climbed, same-place}
 use Rattle.tree_walk.proofs.path.Cursor.climb.Goals as goal
 
 pub loop-self-init : goal.loop-self-init
-loop-self-init c = record { left = λ sizes base kind rest at. at; walk = λ sizes base course on. on; bound = record { kind_is = refl; high_is = refl }; inner = inl refl }
+loop-self-init c = record { walk = λ sizes base course on. on; bound = record { kind_is = refl; high_is = refl }; inner = inl refl }
 
 pub loop-self-preserved : goal.loop-self-preserved
 loop-self-preserved c =
@@ -18,15 +16,10 @@ loop-self-preserved c =
     let past = c.is_past.ensures.0 c.loop-self-test.true in
     let up = path-up old.above.items c.pop.new.self.items c.in-Some.parent old.here c.in-Some.ensures.items old.path in
     record {
-      left = λ sizes base kind rest at. climbed sizes base kind rest c.loop-self.self _ c.in-Some.parent past c.in-Some.ensures.items refl (inv.left sizes base kind rest at);
       walk = λ sizes base course on. left-up sizes base course old _ c.in-Some.parent past c.in-Some.ensures.items refl up.0.inner (inv.walk sizes base course on);
       bound = record { kind_is = sym up.0.kind_is ∙ inv.bound.kind_is; high_is = sym up.0.high_is ∙ sym (past-high old.here past) ∙ inv.bound.high_is };
       inner = inr up.0.inner;
     }
-
-pub returns-in-None-clause-left : goal.returns-in-None-clause-left
-returns-in-None-clause-left c = λ sizes base kind rest at.
-    same-place sizes base kind (from_cell kind) rest c.loop-self.self _ (ap (λ (above : ArrayVec Place). above.items) c.in-None.ensures.empty) refl (c.loop-self.invariant.left sizes base kind rest at)
 
 pub returns-in-None-clause-ends : goal.returns-in-None-clause-ends
 returns-in-None-clause-ends c = λ past.

@@ -1,13 +1,13 @@
 use Rattle.std.proofs.Common.{◌≡◌, false, Ok, Err, sym, refl, ◌∙◌}
 use Rattle.std.proofs.lemmas.Option.{IfSome_then}
 use Rattle.common_spec.specs.ToldLaws.{told-both}
+use Rattle.tree_walk.specs.Stores.{paged, sizes_of}
 use Rattle.tree_walk.specs.Pages.{is_leaf}
 use Rattle.page_spec.specs.Pages.{IsInRange}
 use Rattle.tree_walk.specs.Places.{child_at}
 use Rattle.tree_walk.specs.Walks.{StepsDown}
 use Rattle.tree_walk.proofs.Courses.{step-entered, step-refused}
-use Rattle.tree_walk.proofs.Calls.{at-sizes, some-all}
-use Rattle.tree_walk.proofs.Steps.{stepped}
+use Rattle.page_store.specs.StoreLaws.{at-sizes, some-all}
 use Rattle.tree_walk.proofs.path.Cursor.descend.Goals as goal
 
 pub loop-alloc-init : goal.loop-alloc-init
@@ -18,7 +18,6 @@ loop-alloc-init g c = record {
   same = refl;
   walk = some-all (g.S.PageRead.pages c.args.store.now) (λ m course goes. goes);
   bound = record { kind_is = refl; low_is = refl };
-  left = some-all (g.S.PageRead.pages c.args.store.now) (λ m kind rest above. above);
 }
 
 pub loop-alloc-preserved : goal.loop-alloc-preserved
@@ -35,34 +34,9 @@ loop-alloc-preserved g c =
       same = step.pages.same ∙ inv.same;
       walk = told-both (g.S.PageRead.pages first) inv.same inv.walk step.pages.answer (λ m walk down. λ course goes.
           let steps = at-sizes g.S.PageRead inv.stays inv.count (λ s u n. StepsDown {F = g.row.S-Fault.Denot} (record { size = s; usable = u }) (record { count = n; pages = m }) old c.step_down.new.self (Ok tt)) down in
-          step-entered (record { size = g.S.PageRead.size first; usable = g.S.PageRead.usable first }) (record { count = g.S.PageRead.count first; pages = m }) course old c.step_down.new.self inner steps.0 step.room
+          step-entered (sizes_of g.S.PageRead first) (paged g.S.PageRead first m) course old c.step_down.new.self inner steps.0 step.room
           (at-sizes g.S.PageRead inv.stays inv.count (λ s u n. IsInRange s n (child_at old.here)) step.named) steps.1 (walk course goes));
       bound = record { kind_is = step.bound.kind_is ∙ inv.bound.kind_is; low_is = step.bound.low_is ∙ inv.bound.low_is };
-      left = told-both (g.S.PageRead.pages first) inv.same inv.left step.pages.answer (λ m left down. λ kind rest above.
-          stepped (record { size = g.S.PageRead.size first; usable = g.S.PageRead.usable first }) (record { count = g.S.PageRead.count first; pages = m }) kind {F = g.row.S-Fault.Denot} rest old c.step_down.new.self
-          (Ok tt) inner
-          (at-sizes g.S.PageRead inv.stays inv.count (λ s u n. StepsDown {F = g.row.S-Fault.Denot} (record { size = s; usable = u }) (record { count = n; pages = m }) old c.step_down.new.self (Ok tt)) down) (left kind rest above));
-    }
-
-pub returns-clause-pages : goal.returns-clause-pages
-returns-clause-pages g c =
-    let inv = c.loop-alloc.invariant in
-    record { same = inv.same; count = inv.count; answer = IfSome_then (g.S.PageRead.pages c.args.store.now) inv.left (λ m left. λ kind rest above. left kind rest above) }
-
-pub returns-in-Err-clause-pages : goal.returns-in-Err-clause-pages
-returns-in-Err-clause-pages g c =
-    let inv = c.loop-alloc.invariant in
-    let step = c.in-Err.ensures in
-    let first = c.args.store.now in
-    let old = c.loop-alloc.self in
-    let inner : is_leaf old.here.page.kind ≡ false = sym c.is_leaf.ensures ∙ c.loop-alloc-test.true in
-    record {
-      same = step.pages.same ∙ inv.same;
-      count = step.pages.count ∙ inv.count;
-      answer = told-both (g.S.PageRead.pages first) inv.same inv.left step.pages.answer (λ m left down. λ kind rest above.
-          stepped (record { size = g.S.PageRead.size first; usable = g.S.PageRead.usable first }) (record { count = g.S.PageRead.count first; pages = m }) kind {F = g.row.S-Fault.Denot} rest old c.step_down.new.self
-          (Err c.in-Err.fault) inner
-          (at-sizes g.S.PageRead inv.stays inv.count (λ s u n. StepsDown {F = g.row.S-Fault.Denot} (record { size = s; usable = u }) (record { count = n; pages = m }) old c.step_down.new.self (Err c.in-Err.fault)) down) (left kind rest above));
     }
 
 pub returns-clause-walk : goal.returns-clause-walk
@@ -81,7 +55,7 @@ returns-in-Err-clause-walk g c =
       same = step.pages.same ∙ inv.same;
       count = step.pages.count ∙ inv.count;
       answer = told-both (g.S.PageRead.pages first) inv.same inv.walk step.pages.answer (λ m walk down. λ course goes.
-          step-refused (record { size = g.S.PageRead.size first; usable = g.S.PageRead.usable first }) (record { count = g.S.PageRead.count first; pages = m }) course old c.in-Err.fault inner
+          step-refused (sizes_of g.S.PageRead first) (paged g.S.PageRead first m) course old c.in-Err.fault inner
           (at-sizes g.S.PageRead inv.stays inv.count (λ s u n. StepsDown {F = g.row.S-Fault.Denot} (record { size = s; usable = u }) (record { count = n; pages = m }) old c.step_down.new.self (Err c.in-Err.fault)) down)
           (walk course goes));
     }

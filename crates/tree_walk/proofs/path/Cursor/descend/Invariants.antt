@@ -1,7 +1,8 @@
 use Rattle.std.proofs.Common.{◌≡◌, ◌-◌, length, IfSome}
 use Rattle.page_store.specs.Store.{Stays}
+use Rattle.tree_walk.specs.Stores.{paged, sizes_of}
 use Rattle.tree_walk.specs.Rising.{KeepsLow}
-use Rattle.tree_walk.proofs.Calls.{KeepsLeft, KeepsWalk}
+use Rattle.tree_walk.proofs.Calls.{KeepsWalk}
 use Rattle.tree_walk.proofs.path.Cursor.descend.Given as goal
 
 abbrev pub invariant-loop-alloc : goal.invariant-loop-alloc
@@ -11,10 +12,8 @@ invariant-loop-alloc g l = record {
   count : g.S.PageRead.count l.store ≡ g.S.PageRead.count l.fn.store;
   same : g.S.PageRead.pages l.store ≡ g.S.PageRead.pages l.fn.store;
   walk : IfSome (g.S.PageRead.pages l.fn.store) (λ m.
-      KeepsWalk (record { size = g.S.PageRead.size l.fn.store; usable = g.S.PageRead.usable l.fn.store }) (record { count = g.S.PageRead.count l.fn.store; pages = m }) l.fn.self l.self);
+      KeepsWalk (sizes_of g.S.PageRead l.fn.store) (paged g.S.PageRead l.fn.store m) l.fn.self l.self);
   bound : KeepsLow l.fn.self l.self;
-  left : IfSome (g.S.PageRead.pages l.fn.store) (λ m.
-      KeepsLeft (record { size = g.S.PageRead.size l.fn.store; usable = g.S.PageRead.usable l.fn.store }) (record { count = g.S.PageRead.count l.fn.store; pages = m }) l.fn.self l.self);
 }
 
 abbrev pub decreases-loop-alloc : goal.decreases-loop-alloc

@@ -1,38 +1,15 @@
-use Rattle.std.proofs.Common.{◌≡◌, ◌∙◌}
+use Rattle.std.proofs.Common.{◌≡◌, Err, refl, ◌∙◌}
 use Rattle.std.proofs.lemmas.Option.{IfSome_then}
 use Rattle.common_spec.specs.ToldLaws.{told-both}
 use Rattle.tree_spec.specs.FaultsLaws.{damage-then}
+use Rattle.tree_walk.specs.Stores.{paged, sizes_of}
 use Rattle.tree_walk.specs.Courses.{StartsAt, stops}
 use Rattle.tree_walk.specs.Places.{IsBadRoot}
-use Rattle.tree_walk.specs.Walks.{StandsBelow}
-use Rattle.tree_walk.proofs.Calls.{at-sizes, root_first, root_not_bad}
+use Rattle.page_store.specs.StoreLaws.{at-sizes}
+use Rattle.tree_walk.proofs.Calls.{sees-then}
+use Rattle.tree_walk.proofs.Lengths.{first-few}
+use Rattle.tree_walk.proofs.Members.{first-member}
 use Rattle.tree_walk.proofs.path.Cursor.first.Goals as goal
-
-pub returns-in-Ok-clause-pages : goal.returns-in-Ok-clause-pages
-returns-in-Ok-clause-pages g c =
-    let a = c.args in
-    let store = a.store.now in
-    let enters = c.in-Ok.ensures in
-    let from = c.from_root.ensures in
-    record {
-      same = from.pages.same ∙ enters.pages.same;
-      count = from.pages.count ∙ enters.pages.count;
-      answer = told-both (g.S.PageRead.pages store) enters.pages.same enters.pages.answer from.pages.answer (λ m entered below. λ kind depth members numbers is.
-          at-sizes g.S.PageRead enters.owes.stays enters.pages.count (λ s u n. StandsBelow (record { size = s; usable = u }) (record { count = n; pages = m }) c.in-Ok.here c.from_root.result) below
-          kind members (root_first (record { size = g.S.PageRead.size store; usable = g.S.PageRead.usable store }) (record { count = g.S.PageRead.count store; pages = m }) a.root kind depth members numbers is c.in-Ok.here entered));
-    }
-
-pub returns-in-Err-clause-pages : goal.returns-in-Err-clause-pages
-returns-in-Err-clause-pages g c =
-    let a = c.args in
-    let store = a.store.now in
-    let enters = c.in-Err.ensures in
-    record {
-      same = enters.pages.same;
-      count = enters.pages.count;
-      answer = IfSome_then (g.S.PageRead.pages store) enters.pages.answer (λ m bad. λ kind depth members numbers is.
-          root_not_bad (record { size = g.S.PageRead.size store; usable = g.S.PageRead.usable store }) (record { count = g.S.PageRead.count store; pages = m }) a.root kind depth members numbers is c.in-Err.fault bad);
-    }
 
 pub returns-in-Ok-clause-walk : goal.returns-in-Ok-clause-walk
 returns-in-Ok-clause-walk g c =
@@ -57,4 +34,20 @@ returns-in-Err-clause-walk g c =
       count = enters.pages.count;
       answer = IfSome_then (g.S.PageRead.pages store) enters.pages.answer (λ m bad. λ course from_root.
           damage-then (IsBadRoot (m a.root) a.root (g.S.PageRead.usable store)) (λ page rule. course ≡ stops page rule) from_root.refused c.in-Err.fault bad);
+    }
+
+pub returns-in-Ok-clause-pages : goal.returns-in-Ok-clause-pages
+returns-in-Ok-clause-pages g c = sees-then g.S.PageRead (λ m. first-member (sizes_of g.S.PageRead c.args.store.now) (paged g.S.PageRead c.args.store.now m) {F = g.row.S-Fault.Denot} c.args.root c.from_root.result) (returns-in-Ok-clause-walk g c)
+
+pub returns-in-Err-clause-pages : goal.returns-in-Err-clause-pages
+returns-in-Err-clause-pages g c = sees-then g.S.PageRead (λ m. first-member (sizes_of g.S.PageRead c.args.store.now) (paged g.S.PageRead c.args.store.now m) {F = g.row.S-Fault.Denot} c.args.root (Err c.in-Err.fault)) (returns-in-Err-clause-walk g c)
+
+pub returns-in-Ok-clause-few : goal.returns-in-Ok-clause-few
+returns-in-Ok-clause-few g c =
+    let walk = returns-in-Ok-clause-walk g c in
+    record {
+      same = walk.same;
+      count = walk.count;
+      answer = told-both (g.S.PageRead.pages c.args.store.now) refl c.in-Ok.ensures.pages.answer walk.answer (λ m entered starts.
+          first-few (sizes_of g.S.PageRead c.args.store.now) (paged g.S.PageRead c.args.store.now m) {F = g.row.S-Fault.Denot} c.requires.sizes.usable c.args.root c.requires.first c.requires.within c.in-Ok.here entered c.from_root.result starts c.from_root.ensures.kind);
     }

@@ -3,16 +3,16 @@ use Rattle.std.specs.Int.{w64}
 use Rattle.std.proofs.lemmas.Int.{to_z-of_z}
 use Rattle.std.proofs.lemmas.Option.{IfSome_then}
 use Rattle.common_spec.specs.ToldLaws.{told-both}
+use Rattle.tree_walk.specs.Stores.{paged, sizes_of}
 use Rattle.tree_walk.specs.declared.place.Place.{Place}
-use Rattle.tree_walk.specs.Pages.{is_leaf}
+use Rattle.tree_walk.specs.declared.page.TreePage.{TreePage}
+use Rattle.tree_walk.specs.Pages.{is_leaf, tree_kind}
 use Rattle.tree_walk.specs.Walks.{StepsDown}
-use Rattle.tree_walk.specs.Seeks.{SeeksDown}
-use Rattle.tree_walk.proofs.Calls.{at-sizes, some-all}
+use Rattle.page_store.specs.StoreLaws.{at-sizes, some-all}
 use Rattle.page_spec.specs.Pages.{IsInRange}
 use Rattle.tree_walk.specs.Places.{child_at}
-use Rattle.tree_walk.specs.SoughtCourses.{ComesOn, SeeksOn}
+use Rattle.tree_walk.specs.SoughtCourses.{SeeksOn}
 use Rattle.tree_walk.proofs.SoughtCourses.{aimed-set, set-entered, set-refused, set-found}
-use Rattle.tree_walk.proofs.Sought.{aimed-sought, stepped-sought, found}
 use Rattle.tree_walk.proofs.path.Cursor.seek_down.Goals as goal
 
 pub loop-alloc-init : goal.loop-alloc-init
@@ -23,11 +23,8 @@ loop-alloc-init g c =
       faults = refl;
       count = refl;
       same = refl;
-      index = c.aim.ensures.index;
-      walk = some-all (g.S.PageRead.pages store) (λ m. λ course on. aimed-set (record { size = g.S.PageRead.size store; usable = g.S.PageRead.usable store }) (record { count = g.S.PageRead.count store; pages = m }) (to_z w64 (of_z w64 c.args.rowid)) course c.args.self.now c.aim.new.self c.aim.ensures on);
-      sought = some-all (g.S.PageRead.pages store) (λ m rest sought.
-          aimed-sought (record { size = g.S.PageRead.size store; usable = g.S.PageRead.usable store }) (record { count = g.S.PageRead.count store; pages = m }) (to_z w64 (of_z w64 c.args.rowid)) rest
-          c.args.self.now c.aim.new.self c.aim.ensures sought);
+      kind = ap (λ (page : TreePage). tree_kind page.kind) c.aim.ensures.page_is;
+      walk = some-all (g.S.PageRead.pages store) (λ m. λ course on. aimed-set (sizes_of g.S.PageRead store) (paged g.S.PageRead store m) (to_z w64 (of_z w64 c.args.rowid)) course c.args.self.now c.aim.new.self c.aim.ensures on);
     }
 
 pub loop-alloc-smaller : goal.loop-alloc-smaller
@@ -48,53 +45,12 @@ loop-alloc-preserved g c =
       faults = step.owes.faults.still ∙ inv.faults;
       count = step.pages.count ∙ inv.count;
       same = step.pages.same ∙ inv.same;
-      index = c.aim-in-Ok.ensures.index;
+      kind = ap (λ (page : TreePage). tree_kind page.kind) c.aim-in-Ok.ensures.page_is ∙ step.bound.kind_is ∙ inv.kind;
       walk = told-both (g.S.PageRead.pages first) inv.same inv.walk step.pages.answer (λ m walk down. λ course on.
           let steps = at-sizes g.S.PageRead inv.stays inv.count (λ s u n. StepsDown {F = g.row.S-Fault.Denot} (record { size = s; usable = u }) (record { count = n; pages = m }) old c.step_down.new.self (Ok tt)) down in
-          aimed-set (record { size = g.S.PageRead.size first; usable = g.S.PageRead.usable first }) (record { count = g.S.PageRead.count first; pages = m }) x course c.step_down.new.self c.aim-in-Ok.new.self c.aim-in-Ok.ensures
-          (set-entered (record { size = g.S.PageRead.size first; usable = g.S.PageRead.usable first }) (record { count = g.S.PageRead.count first; pages = m }) x course old c.step_down.new.self inner steps.0 step.room
+          aimed-set (sizes_of g.S.PageRead first) (paged g.S.PageRead first m) x course c.step_down.new.self c.aim-in-Ok.new.self c.aim-in-Ok.ensures
+          (set-entered (sizes_of g.S.PageRead first) (paged g.S.PageRead first m) x course old c.step_down.new.self inner steps.0 step.room
           (at-sizes g.S.PageRead inv.stays inv.count (λ s u n. IsInRange s n (child_at old.here)) step.named) steps.1 (walk course on)));
-      sought = told-both (g.S.PageRead.pages first) inv.same inv.sought step.pages.answer (λ m sought down. λ rest from.
-          aimed-sought (record { size = g.S.PageRead.size first; usable = g.S.PageRead.usable first }) (record { count = g.S.PageRead.count first; pages = m }) x rest c.step_down.new.self c.aim-in-Ok.new.self c.aim-in-Ok.ensures
-          (stepped-sought (record { size = g.S.PageRead.size first; usable = g.S.PageRead.usable first }) (record { count = g.S.PageRead.count first; pages = m }) x {F = g.row.S-Fault.Denot} rest old c.step_down.new.self
-          (Ok tt) inner inv.index
-          (at-sizes g.S.PageRead inv.stays inv.count (λ s u n. StepsDown {F = g.row.S-Fault.Denot} (record { size = s; usable = u }) (record { count = n; pages = m }) old c.step_down.new.self (Ok tt)) down) (sought rest from)));
-    }
-
-pub returns-in-Err-clause-pages : goal.returns-in-Err-clause-pages
-returns-in-Err-clause-pages g c =
-    let inv = c.loop-alloc.invariant in
-    let step = c.in-Err.ensures in
-    let first = c.args.store.now in
-    let old = c.loop-alloc.self in
-    let x = to_z w64 (of_z w64 c.args.rowid) in
-    let fits : FitsSigned w64 c.args.rowid = search rules in
-    let inner : is_leaf old.here.page.kind ≡ false = sym c.is_leaf.ensures ∙ c.loop-alloc-test.true in
-    record {
-      same = step.pages.same ∙ inv.same;
-      count = step.pages.count ∙ inv.count;
-      answer = told-both (g.S.PageRead.pages first) inv.same inv.sought step.pages.answer (λ m sought down.
-          subst (λ (z : ℤ). SeeksDown {F = g.row.S-Fault.Denot} (record { size = g.S.PageRead.size first; usable = g.S.PageRead.usable first }) (record { count = g.S.PageRead.count first; pages = m }) z c.args.self.now
-          c.step_down.new.self (Err c.in-Err.fault)) (to_z-of_z w64 c.args.rowid fits) (λ rest from.
-          stepped-sought (record { size = g.S.PageRead.size first; usable = g.S.PageRead.usable first }) (record { count = g.S.PageRead.count first; pages = m }) x {F = g.row.S-Fault.Denot} rest old c.step_down.new.self
-          (Err c.in-Err.fault) inner inv.index
-          (at-sizes g.S.PageRead inv.stays inv.count (λ s u n. StepsDown {F = g.row.S-Fault.Denot} (record { size = s; usable = u }) (record { count = n; pages = m }) old c.step_down.new.self (Err c.in-Err.fault)) down) (sought rest from)));
-    }
-
-pub returns-clause-pages : goal.returns-clause-pages
-returns-clause-pages g c =
-    let inv = c.loop-alloc.invariant in
-    let store = c.args.store.now in
-    let x = to_z w64 (of_z w64 c.args.rowid) in
-    let fits : FitsSigned w64 c.args.rowid = search rules in
-    let leaf : is_leaf c.loop-alloc.self.here.page.kind ≡ true = sym c.is_leaf.ensures ∙ c.loop-alloc-test.false in
-    record {
-      same = inv.same;
-      count = inv.count;
-      answer = IfSome_then (g.S.PageRead.pages store) inv.sought (λ m sought.
-          subst (λ (z : ℤ). SeeksDown {F = g.row.S-Fault.Denot} (record { size = g.S.PageRead.size store; usable = g.S.PageRead.usable store }) (record { count = g.S.PageRead.count store; pages = m }) z c.args.self.now
-          c.loop-alloc.self (Ok tt)) (to_z-of_z w64 c.args.rowid fits) (λ rest from.
-          found (record { size = g.S.PageRead.size store; usable = g.S.PageRead.usable store }) (record { count = g.S.PageRead.count store; pages = m }) x rest c.loop-alloc.self leaf inv.index (sought rest from)));
     }
 
 pub returns-in-Err-clause-walk : goal.returns-in-Err-clause-walk
@@ -110,8 +66,8 @@ returns-in-Err-clause-walk g c =
       same = step.pages.same ∙ inv.same;
       count = step.pages.count ∙ inv.count;
       answer = told-both (g.S.PageRead.pages first) inv.same inv.walk step.pages.answer (λ m walk down.
-          subst (λ (z : ℤ). SeeksOn {T = Unit {0}} {F = g.row.S-Fault.Denot} (record { size = g.S.PageRead.size first; usable = g.S.PageRead.usable first }) (record { count = g.S.PageRead.count first; pages = m }) z c.args.self.now c.step_down.new.self (Err c.in-Err.fault)) (to_z-of_z w64 c.args.rowid fits) (λ course on.
-          set-refused (record { size = g.S.PageRead.size first; usable = g.S.PageRead.usable first }) (record { count = g.S.PageRead.count first; pages = m }) x course old c.in-Err.fault inner
+          subst (λ (z : ℤ). SeeksOn {T = Unit {0}} {F = g.row.S-Fault.Denot} (sizes_of g.S.PageRead first) (paged g.S.PageRead first m) z c.args.self.now c.step_down.new.self (Err c.in-Err.fault)) (to_z-of_z w64 c.args.rowid fits) (λ course on.
+          set-refused (sizes_of g.S.PageRead first) (paged g.S.PageRead first m) x course old c.in-Err.fault inner
           (at-sizes g.S.PageRead inv.stays inv.count (λ s u n. StepsDown {F = g.row.S-Fault.Denot} (record { size = s; usable = u }) (record { count = n; pages = m }) old c.step_down.new.self (Err c.in-Err.fault)) down)
           (walk course on)));
     }
@@ -127,6 +83,6 @@ returns-clause-walk g c =
       same = inv.same;
       count = inv.count;
       answer = IfSome_then (g.S.PageRead.pages store) inv.walk (λ m walk.
-          subst (λ (z : ℤ). SeeksOn {T = Unit {0}} {F = g.row.S-Fault.Denot} (record { size = g.S.PageRead.size store; usable = g.S.PageRead.usable store }) (record { count = g.S.PageRead.count store; pages = m }) z c.args.self.now c.loop-alloc.self (Ok tt)) (to_z-of_z w64 c.args.rowid fits) (λ course on.
-          set-found (record { size = g.S.PageRead.size store; usable = g.S.PageRead.usable store }) (record { count = g.S.PageRead.count store; pages = m }) x course c.loop-alloc.self leaf (walk course on)));
+          subst (λ (z : ℤ). SeeksOn {T = Unit {0}} {F = g.row.S-Fault.Denot} (sizes_of g.S.PageRead store) (paged g.S.PageRead store m) z c.args.self.now c.loop-alloc.self (Ok tt)) (to_z-of_z w64 c.args.rowid fits) (λ course on.
+          set-found (sizes_of g.S.PageRead store) (paged g.S.PageRead store m) x course c.loop-alloc.self leaf (walk course on)));
     }

@@ -1,0 +1,10 @@
+mod GrowingSteps
+mod Appended
+mod FileReads
+mod FramesLaws
+mod PageFrames
+mod Commits
+mod Images
+mod Entries
+mod StoreSteps
+mod Placings

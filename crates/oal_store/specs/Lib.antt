@@ -1,0 +1,8 @@
+pub mod OalLog
+pub mod Appending
+pub mod Growing
+pub mod Changed
+pub mod Committing
+pub mod Stored
+pub mod Faults
+pub mod Lent

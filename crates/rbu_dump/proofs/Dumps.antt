@@ -1,0 +1,85 @@
+-- The answer of a dump, of what was read.
+use Rattle.std.proofs.Common.{◌≡◌, ◌↔◌, ℕ, false, IsTrue, List, Option, Some, None, IsSome, Result, Ok, Err, Vec, Global, length, take, refl, ap, subst, inl, inr}
+use Rattle.std.proofs.lemmas.Bool.{false≢true}
+use Rattle.common_spec.specs.Reading.{OrFault}
+use Rattle.file_spec.specs.declared.FileName.TheVariants.{Target, Wal}
+use Rattle.file_spec.specs.Files.{Files, content}
+use Rattle.db_header.specs.declared.fields.Header.{Header}
+use Rattle.db_header.specs.declared.fields.HeaderFault.{HeaderFault}
+use Rattle.db_header.specs.Reading.{IsFirstFault, IsHeaderOf}
+use Rattle.file_pages.specs.Overlay.{IsStart, file_start}
+use Rattle.page_store.specs.Store.{IsCause}
+use Rattle.refusal.specs.declared.Refusal.{Refusal}
+use Rattle.refusal.specs.declared.Refusal.TheVariants as refusal
+use Rattle.tree_spec.specs.declared.TreeKind.TheVariants.{Table}
+use Rattle.tree_spec.specs.declared.fault.TreeFault.{TreeFault}
+use Rattle.tree_spec.specs.declared.fault.TreeFault.TheVariants as tree
+use Rattle.tree_spec.specs.Faults.{fault_in}
+use Rattle.tree_spec.specs.Standing.{Sizes, Paged}
+use Rattle.tree_spec.specs.Trees.{Member}
+use Rattle.tree_walk.specs.declared.cursor.Row.{Row}
+use Rattle.dump_spec.specs.SchemaRows.{AreLines, IsFirstBad}
+use Rattle.dump_spec.specs.SchemaDumps.{HasJournal, IsSchemaAnswer, IsSchemaDump, header_refusal, pages_by, sizes_by}
+use Rattle.rbu_dump.specs.Dumps.{IsReadHeader, IsRefusedBy, IsSchemaOf}
+use Rattle.rbu_dump.specs.Rows.{ReadsRows}
+
+module _ (F : Type 0) (sizes : Sizes) (base : Paged) where
+  -- the rows of the tree at page 1 were read
+  pub answer-of_rows : (rows : Vec Row Global) (answer : Result (List ℕ) Refusal) → (let read : Result (Vec Row Global) (TreeFault F) = Ok rows in ReadsRows sizes base 1 read)
+      → IsSchemaOf rows.items answer → IsSchemaAnswer sizes base answer
+  answer-of_rows rows answer reads (inl lines) =
+      inl (lines.0, lines.1, λ depth members numbers stands. subst (λ (ms : List Member). AreLines ms lines.0) (reads Table depth members numbers stands) lines.2)
+  answer-of_rows rows answer reads (inr bad) =
+      inr (inl (bad.0, bad.1, λ depth members numbers stands. subst (λ (ms : List Member). IsFirstBad ms bad.0) (reads Table depth members numbers stands) bad.2))
+
+  -- the tree is damaged
+  pub answer-of_damage : (fault : TreeFault F) (refused : Refusal) → (let read : Result (Vec Row Global) (TreeFault F) = Err fault in ReadsRows sizes base 1 read)
+      → IsRefusedBy fault (Ok refused) → IsSchemaAnswer sizes base (Err refused)
+  answer-of_damage (tree.TreeDamaged page rule) refused reads is =
+      let same : refused ≡ refusal.TreeDamaged page rule = cc in
+      inr (inr (page, rule, ap Err same, λ depth members numbers stands. reads Table depth members numbers stands))
+  answer-of_damage (tree.TrunkDamaged page) refused reads is = absurd (cc)
+  answer-of_damage (tree.TargetFull pages limit) refused reads is = absurd (cc)
+  answer-of_damage (tree.Store fault) refused reads is = absurd (cc)
+  answer-of_damage (tree.Memory error) refused reads is = absurd (cc)
+
+-- the store did not fail where the tree is damaged, and else the fault is what it was
+pub damage-still : {S F : Type 0} (Fails : S → S → F → Type 0) (f h : S) (fault : TreeFault F) (refused : Refusal) → IsRefusedBy fault (Ok refused) → IsCause Fails (fault_in fault) f h → h ≡ f
+damage-still Fails f h (tree.TreeDamaged page rule) refused is cause = cause
+damage-still Fails f h (tree.TrunkDamaged page) refused is cause = absurd (cc)
+damage-still Fails f h (tree.TargetFull pages limit) refused is cause = absurd (cc)
+damage-still Fails f h (tree.Store fault) refused is cause = absurd (cc)
+damage-still Fails f h (tree.Memory error) refused is cause = absurd (cc)
+
+pub damage-same : {F : Type 0} (fault other : TreeFault F) → IsRefusedBy fault (Err other) → fault ≡ other
+damage-same (tree.TreeDamaged page rule) other is = absurd (cc)
+damage-same (tree.TrunkDamaged page) other is = cc
+damage-same (tree.TargetFull pages limit) other is = cc
+damage-same (tree.Store fault) other is = cc
+damage-same (tree.Memory error) other is = cc
+
+-- a header that was read is one of some bytes
+pub header-read : (bytes : List ℕ) (len : ℕ) (result : Result Header HeaderFault) → OrFault (IsHeaderOf bytes len) (IsFirstFault bytes len) result → IsReadHeader result
+header-read bytes len (Ok header) is = (bytes, len, is)
+header-read bytes len (Err fault) is = tt
+
+none-there : {X : Type 0} (o : Option X) → IsTrue false ↔ IsSome o → o ≡ None
+none-there None h = refl
+none-there (Some x) h = absurd (false≢true (h.1 refl))
+
+-- the answer of the target is that of the files where there is neither a journal nor a log
+pub answer-of_pages : (f : Files) (header : Header) (answer : Result (List ℕ) Refusal) → IsTrue false ↔ HasJournal f → IsTrue false ↔ IsSome (f Wal)
+    → IsHeaderOf (take 100 (content f Target)) (length (content f Target)) header → IsSchemaAnswer (sizes_by header) (pages_by header (content f Target)) answer → IsSchemaDump f answer
+answer-of_pages f header answer journal log is of_pages = inr (inr (λ there. false≢true (journal.1 there), none-there (f Wal) log, inr (header, is, of_pages)))
+
+pub answer-of_header : (f : Files) (fault : HeaderFault) → IsTrue false ↔ HasJournal f → IsTrue false ↔ IsSome (f Wal)
+    → IsFirstFault (take 100 (content f Target)) (length (content f Target)) fault → IsSchemaDump f (Err (header_refusal fault))
+answer-of_header f fault journal log is = inr (inr (λ there. false≢true (journal.1 there), none-there (f Wal) log, inl (fault, is, refl)))
+
+-- the header of the first bytes is that of the target
+pub header-of_start : (f : Files) (n long : ℕ) (start : List ℕ) (result : Result Header HeaderFault) → IsStart (file_start Target f) n long start
+    → OrFault (IsHeaderOf (take n start) long) (IsFirstFault (take n start) long) result
+    → OrFault (IsHeaderOf (take 100 (content f Target)) (length (content f Target))) (IsFirstFault (take 100 (content f Target)) (length (content f Target))) result
+header-of_start f n long start result is reads =
+    subst (λ (l : ℕ). OrFault (IsHeaderOf (take 100 (content f Target)) l) (IsFirstFault (take 100 (content f Target)) l) result) is.length
+    (subst (λ (bytes : List ℕ). OrFault (IsHeaderOf bytes long) (IsFirstFault bytes long) result) is.first reads)

@@ -1,0 +1,49 @@
+-- The answer of a dump of the schema, and what ends it before.
+use Rattle.std.specs.Prelude.{◌≡◌, ◌⊎◌, ℕ, ℤ, List, Option, Some, None, Result, Ok, Err}
+use Rattle.common_spec.specs.Counts.{CountsFaults}
+use Rattle.db_header.specs.declared.fields.Header.{Header}
+use Rattle.db_header.specs.declared.fields.HeaderFault.{HeaderFault}
+use Rattle.db_header.specs.Reading.{IsHeaderOf}
+use Rattle.rbu_disk.specs.declared.disk.DiskFault.{DiskFault}
+use Rattle.rbu_disk.specs.Call.{Failures}
+use Rattle.rbu_disk.specs.Disk.{IsCause}
+use Rattle.refusal.specs.declared.Refusal.{Refusal}
+use Rattle.refusal.specs.declared.Refusal.TheVariants.{SchemaRow}
+use Rattle.refusal.specs.declared.Refusal.TheVariants as refusal
+use Rattle.tree_spec.specs.declared.fault.TreeFault.{TreeFault}
+use Rattle.tree_spec.specs.declared.fault.TreeFault.TheVariants as tree
+use Rattle.tree_walk.specs.declared.cursor.Row.{Row}
+use Rattle.dump_spec.specs.SchemaRows.{IsFirstBad}
+use Rattle.rbu_dump.specs.declared.halt.Halt.{Halt}
+use Rattle.rbu_dump.specs.declared.halt.Halt.TheVariants.{Fault, Memory}
+use Rattle.rbu_dump.specs.Rows.{members_of, HasLines}
+
+-- the fault of the disk that ends a dump, if one does
+abbrev pub fault_in : Halt → Option DiskFault
+fault_in (Fault fault) = Some fault
+fault_in Memory = None
+
+-- what a dump owes of the calls on a disk that fail: they are counted, and one that ends it is its cause
+abbrev pub Counts : {T : Type 0} → Failures → Failures → Result T Halt → Type 0
+Counts before now result = CountsFaults (λ failures. failures.count) (λ f h halt. IsCause (fault_in halt) f h) before now result
+
+-- the lines of rows, or the first that is no row of the schema
+abbrev pub IsSchemaOf : List Row → Result (List ℕ) Refusal → Type 0
+IsSchemaOf rows answer =
+    ((text : List ℕ) × (answer ≡ Ok text) × HasLines rows text) ⊎ ((rowid : ℤ) × (answer ≡ Err (SchemaRow rowid)) × IsFirstBad (members_of rows) rowid)
+
+-- the header is that of some bytes
+abbrev pub HasHeader : Header → Type 0
+HasHeader header = (bytes : List ℕ) × (len : ℕ) × IsHeaderOf bytes len header
+
+abbrev pub IsReadHeader : Result Header HeaderFault → Type 0
+IsReadHeader (Ok header) = HasHeader header
+IsReadHeader (Err fault) = Unit {0}
+
+-- the refusal of a damaged tree, or the fault, which is another
+abbrev pub IsRefusedBy : {F : Type 0} → TreeFault F → Result Refusal (TreeFault F) → Type 0
+IsRefusedBy (tree.TreeDamaged page rule) result = result ≡ Ok (refusal.TreeDamaged page rule)
+IsRefusedBy (tree.TrunkDamaged page) result = result ≡ Err (tree.TrunkDamaged page)
+IsRefusedBy (tree.TargetFull pages limit) result = result ≡ Err (tree.TargetFull pages limit)
+IsRefusedBy (tree.Store fault) result = result ≡ Err (tree.Store fault)
+IsRefusedBy (tree.Memory error) result = result ≡ Err (tree.Memory error)

@@ -1,0 +1,11 @@
+mod Checking
+mod Faultless
+mod Grouping
+mod Members
+mod Placing
+mod Reading
+mod Records
+mod Rights
+mod Saying
+mod Tables
+mod TextMeanings

@@ -1,0 +1,67 @@
+use Rattle.std.proofs.Common.{ℕ, List, [], length, ap, ◌∙◌, subst, arith}
+use Rattle.std.proofs.Math.Path.{subst⁻¹}
+use Rattle.std.specs.List.{All}
+use Rattle.format_spec.specs.declared.PageKind.{PageKind}
+use Rattle.page_spec.specs.Rooms.{IsOneCell, free_bytes, needs}
+use Rattle.tree_balance.specs.Cuts.{page_room}
+use Rattle.tree_spec.specs.Standing.{Paged}
+use Rattle.tree_pages.specs.Writers.{sizes_of}
+use Rattle.tree_pages.specs.WritersLaws.{Becomes-weaken}
+use Rattle.tree_level.specs.declared.writing.Node.{Node}
+use Rattle.tree_level.specs.Changes.{bytes_changed}
+use Rattle.tree_level.specs.Levels.{MovesOut}
+use Rattle.tree_level.proofs.Fronts.{on-ok_map}
+use Rattle.tree_level.proofs.Changed.{made-cells, made-over, made-twice, readable, some-needed, moves-root}
+use Rattle.tree_level.proofs.changing.move_out_changed.Goals as goal
+
+pub changed_cells-requires-clause-page : goal.changed_cells-requires-clause-page
+changed_cells-requires-clause-page g c = readable (g.S.PageRead.usable c.args.store.now) c.args.page c.requires.page (omega (arith, c.requires.sizes.within, c.requires.whole))
+
+pub move_out-requires-clause-cells : goal.move_out-requires-clause-cells
+move_out-requires-clause-cells g c =
+    let a = c.args in
+    let u = g.S.PageRead.usable a.store.now in
+    let kind = ap (λ (n : Node). n.kind) c.node_of-node.ensures in
+    let made = made-cells (sizes_of g.S.PageRead a.store.now) a.page a.change a.comes.items c.requires.page c.in_ok-cells.cells.items c.in_ok-cells.ensures c.requires.comes in
+    subst⁻¹ (All (IsOneCell c.node_of-node.result.kind u)) c.as_slice.ensures.value (subst⁻¹ (λ (k : PageKind). All (IsOneCell k u) c.in_ok-cells.cells.items) kind made)
+
+pub overflow_sub-len : goal.overflow_sub-len
+overflow_sub-len g c =
+    let a = c.args in
+    let cells = c.in_ok-cells.cells.items in
+    let over = made-over (sizes_of g.S.PageRead a.store.now) a.page a.change a.comes.items c.requires.page cells c.in_ok-cells.ensures c.requires.over in
+    omega (arith, c.len.ensures, some-needed (free_bytes a.page.number (g.S.PageRead.usable a.store.now) a.page.kind []) cells over)
+
+pub move_out-requires-clause-place : goal.move_out-requires-clause-place
+move_out-requires-clause-place g c =
+    let a = c.args in
+    let cells = c.in_ok-cells.cells.items in
+    let over = made-over (sizes_of g.S.PageRead a.store.now) a.page a.change a.comes.items c.requires.page cells c.in_ok-cells.ensures c.requires.over in
+    omega (arith, c.len.ensures, some-needed (free_bytes a.page.number (g.S.PageRead.usable a.store.now) a.page.kind []) cells over, c.min-place.ensures, ap length c.as_slice.ensures.value)
+
+pub move_out-requires-clause-over : goal.move_out-requires-clause-over
+move_out-requires-clause-over g c =
+    let a = c.args in
+    let u = g.S.PageRead.usable a.store.now in
+    let over = made-over (sizes_of g.S.PageRead a.store.now) a.page a.change a.comes.items c.requires.page c.in_ok-cells.cells.items c.in_ok-cells.ensures c.requires.over in
+    omega (arith, over, ap needs c.as_slice.ensures.value, ap (λ (n : Node). free_bytes n.number u n.kind []) c.node_of-node.ensures)
+
+pub move_out-requires-clause-twice : goal.move_out-requires-clause-twice
+move_out-requires-clause-twice g c =
+    let a = c.args in
+    let u = g.S.PageRead.usable a.store.now in
+    let twice = made-twice (sizes_of g.S.PageRead a.store.now) a.page a.change a.comes.items c.requires.page c.in_ok-cells.cells.items c.in_ok-cells.ensures c.requires.sizes.usable c.requires.few in
+    omega (arith, twice, ap needs c.as_slice.ensures.value, ap (λ (n : Node). page_room n.kind u) c.node_of-node.ensures)
+
+pub returns-clause-changed : goal.returns-clause-changed
+returns-clause-changed g c =
+    let S = g.S.PageRead in
+    let a = c.args in
+    let z = sizes_of S a.store.now in
+    let l = c.as_slice.result.now in
+    let node = c.node_of-node.result in
+    on-ok_map c.move_out.result
+    (Becomes-weaken S a.store.now c.move_out.new.store (λ (x y : Paged) (s : MovesOut z node l x y).
+    moves-root z a.page a.change a.comes.items x y (λ cells has.
+    subst (λ (n : Node). MovesOut z n (bytes_changed cells a.change a.comes.items) x y) c.node_of-node.ensures
+    (subst (λ (m : List (List ℕ)). MovesOut z node m x y) (c.as_slice.ensures.value ∙ c.in_ok-cells.ensures z.usable cells has) s)))) c.move_out.ensures.moved

@@ -1,0 +1,4 @@
+pub mod Edits
+pub mod Spelling
+pub mod Unders
+pub mod Worlds

@@ -1,0 +1,44 @@
+use Rattle.std.proofs.Common.{◌≡◌, ◌-◌, ◌^◌, ◌<◌, ℕ, List, length, take, drop, refl, ap, ◌∙◌, subst, arith}
+use Rattle.std.proofs.lemmas.Int.{to_z-of_z}
+use Rattle.std.proofs.lemmas.List.{take_rest}
+use Rattle.std.specs.Int.{w64}
+use Rattle.format_spec.specs.declared.PageKind.TheVariants.{TableLeaf}
+use Rattle.format_spec.specs.Cell.{local_size}
+use Rattle.tree_pages.specs.Writers.{WritesOverflow, paged, sizes_of}
+use Rattle.tree_table.proofs.Spelling.{is-row, makes-row, row-is}
+use Rattle.tree_table.proofs.rows.make_cell.Goals as goal
+
+pub returns-clause-made : goal.returns-clause-made
+returns-clause-made g c = λ old told.
+    let S = g.S.PageRead in
+    let a = c.args.store.now in
+    let z = sizes_of S a in
+    let payload = c.args.payload.now in
+    let first = c.in_ok-overflow.overflow in
+    let cell = c.in_ok-cell.cell in
+    let kept = c.local_size-local.result in
+    let k : kept ≡ local_size TableLeaf z.usable (length payload) = c.local_size-local.ensures.value ∙ ap (λ (u : ℕ). local_size TableLeaf u (length payload)) c.usable.ensures in
+    let rest : take (length payload - kept) (drop kept payload) ≡ drop (local_size TableLeaf z.usable (length payload)) payload = take_rest payload kept ∙ ap (λ (n : ℕ). drop n payload) k in
+    let is = row-is z.usable c.args.rowid payload cell first _ _ c.in_ok-cell.ensures refl (to_z-of_z w64 c.args.rowid c.ranges.rowid) k refl (ap (λ (n : ℕ). take n payload) k) in
+    let small : first < 2 ^ 32 = omega (arith, rw c.in_ok-overflow.was at c.write_overflow.type_inv) in
+    let r = c.in_ok-overflow.ensures.written old told in
+    let x = paged S a old in
+    let y = paged S c.write_overflow.new.store r.0 in (
+      r.0,
+      r.1,
+      makes-row z c.args.rowid payload cell first x y is c.requires.payload c.ranges.rowid small (λ none. c.in_ok-overflow.ensures.none (ap length rest ∙ none))
+          (subst (λ (l : List ℕ). WritesOverflow z first l x y) rest r.2),
+    )
+
+pub returns-clause-row : goal.returns-clause-row
+returns-clause-row g c =
+    let u = g.S.PageRead.usable c.args.store.now in
+    let payload = c.args.payload.now in
+    let first = c.in_ok-overflow.overflow in
+    let cell = c.in_ok-cell.cell in
+    let kept = c.local_size-local.result in
+    let k : kept ≡ local_size TableLeaf u (length payload) = c.local_size-local.ensures.value ∙ ap (λ (u : ℕ). local_size TableLeaf u (length payload)) c.usable.ensures in
+    let rest : take (length payload - kept) (drop kept payload) ≡ drop (local_size TableLeaf u (length payload)) payload = take_rest payload kept ∙ ap (λ (n : ℕ). drop n payload) k in
+    let is = row-is u c.args.rowid payload cell first _ _ c.in_ok-cell.ensures refl (to_z-of_z w64 c.args.rowid c.ranges.rowid) k refl (ap (λ (n : ℕ). take n payload) k) in
+    let small : first < 2 ^ 32 = omega (arith, rw c.in_ok-overflow.was at c.write_overflow.type_inv) in
+    is-row u c.args.rowid payload cell first is c.requires.payload c.ranges.rowid small (λ none. c.in_ok-overflow.ensures.none (ap length rest ∙ none))

@@ -1,0 +1,60 @@
+// Cells of rows.
+ghost use Rattle.std.specs.Prelude.{◌≡◌, ◌≤◌, ◌-◌, IfOk, OnOk, length, max};
+ghost use Rattle.format_spec.specs.declared.PageKind.TheVariants.{TableLeaf};
+ghost use Rattle.format_spec.specs.declared.CellView.{CellView};
+ghost use Rattle.format_spec.specs.Cell.{cell_bytes, local_size as local_bytes, payload_limit};
+ghost use Rattle.format_spec.specs.Sizes.{IsUsable};
+ghost use Rattle.page_store.specs.Store.{HasSizes, OwesBy};
+ghost use Rattle.tree_pages.specs.Writers.{Becomes, sizes_of};
+ghost use Rattle.tree_spec.specs.Faults.{fault_in};
+ghost use Rattle.tree_table.specs.Puts.{IsRow, MakesRow};
+
+use cell_codec::{CellView, PageKind, cell_length, local_size, write_cell};
+use page_store::PageWrite;
+use rbu_value::Bytes;
+use std::alloc::{AllocError, Global};
+use tree_pages::{TreeFault, write_overflow};
+
+// The bytes of a cell, by its view and what it keeps of its payload.
+fn spell(alloc: Global, view: &CellView, local: &[u8]) -> Result<Bytes, AllocError>
+    requires { length local.now ≡ view.now.local }
+    ensures { IfOk result (λ cell. cell ≡ cell_bytes TableLeaf view.now local.now) }
+{
+    let mut bytes = vec![in alloc; 0; cell_length(PageKind::TableLeaf, view)]?;
+    write_cell(PageKind::TableLeaf, view, local, bytes.as_mut_slice());
+    Ok(Bytes::from_vec(bytes))
+}
+
+/// Makes the cell of a row, and writes the overflow chain of what the cell does not keep. Refuses [51] and [50].
+pub fn make_cell<S: PageWrite>(
+    alloc: Global,
+    store: &mut S,
+    rowid: i64,
+    payload: &[u8],
+    limit: u32,
+) -> Result<Bytes, TreeFault<S::Fault>>
+    requires sizes { HasSizes S.PageRead store.old }
+    requires some { 1 ≤ S.count store.old }
+    requires payload { length payload.now ≤ payload_limit }
+    ensures made { IfOk result (λ cell. Becomes S.PageRead store.old store.new (MakesRow (sizes_of S.PageRead store.old) rowid payload.now cell)) }
+    ensures row { IfOk result (IsRow (S.usable store.old) rowid) }
+    ensures count { OnOk result (S.count store.old ≤ S.count store.new) }
+    ensures most { OnOk result (S.count store.new ≤ max limit (S.count store.old)) }
+    ensures owes { OwesBy S.PageRead fault_in store.old store.new result }
+{
+    let size = payload.len() as u64;
+    let local = local_size(PageKind::TableLeaf, store.usable(), size);
+    let kept = local as usize;
+    let overflow = write_overflow(alloc, store, &payload[kept..], limit)?;
+    let view = CellView {
+        size: 0,
+        rowid,
+        child: 0,
+        payload: size,
+        local_at: 0,
+        local,
+        overflow,
+    };
+    let cell = spell(alloc, &view, &payload[..kept])?;
+    Ok(cell)
+}

@@ -131,6 +131,12 @@ pub fn stopped(
     ensure(has_same_files(&left.disk, before), line)
 }
 
+/// The bytes have this SHA-256.
+pub fn has_hash(alloc: Global, bytes: &[u8], sha256: &str) -> Result<bool, AllocError> {
+    let digest = hex::encode(alloc, Sha256::digest(bytes).as_slice())?;
+    Ok(digest.as_str() == sha256)
+}
+
 /// The file has this SHA-256.
 pub fn has_sum(
     alloc: Global,
@@ -141,8 +147,7 @@ pub fn has_sum(
     let Some(bytes) = disk.contents(name) else {
         return Ok(false);
     };
-    let digest = hex::encode(alloc, Sha256::digest(bytes).as_slice())?;
-    Ok(digest.as_str() == sha256)
+    has_hash(alloc, bytes, sha256)
 }
 
 // Neither log nor a state is left.

@@ -1,6 +1,5 @@
 mod Lines
 mod Records
-mod Stores
 mod Walking
 mod Dumps
 mod Loans

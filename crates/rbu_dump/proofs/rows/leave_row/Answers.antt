@@ -1,7 +1,7 @@
 use Rattle.std.proofs.Common.{◌∙◌, Bool, Ok, Err}
 use Rattle.common_spec.specs.ToldLaws.{told-both}
 use Rattle.tree_walk.specs.Walks.{MovesOn}
-use Rattle.rbu_dump.proofs.Stores.{at-sizes}
+use Rattle.page_store.specs.StoreLaws.{at-sizes}
 use Rattle.rbu_dump.proofs.Walking.{leaves-row, leaves-fault}
 use Rattle.rbu_dump.proofs.rows.leave_row.Goals as goal
 

@@ -3,7 +3,7 @@ use Rattle.std.proofs.Math.Path.{subst⁻¹}
 use Rattle.common_spec.specs.ToldLaws.{told-both}
 use Rattle.tree_walk.specs.declared.cursor.Row.{Row}
 use Rattle.rbu_dump.specs.Rows.{LeavesRow}
-use Rattle.rbu_dump.proofs.Stores.{at-sizes, some-all}
+use Rattle.page_store.specs.StoreLaws.{at-sizes, some-all}
 use Rattle.rbu_dump.proofs.Walking.{KeepsRows, rows-none, rows-next, rows-end, rows-fault}
 use Rattle.rbu_dump.proofs.rows.rows_from.Goals as goal
 

@@ -1,7 +1,7 @@
 use Rattle.std.proofs.Common.{◌∙◌}
 use Rattle.common_spec.specs.ToldLaws.{told-both}
 use Rattle.rbu_dump.specs.Rows.{ReadsFrom}
-use Rattle.rbu_dump.proofs.Stores.{at-sizes}
+use Rattle.page_store.specs.StoreLaws.{at-sizes}
 use Rattle.rbu_dump.proofs.Walking.{rows-first}
 use Rattle.rbu_dump.proofs.rows.table_rows.Goals as goal
 

@@ -5,7 +5,7 @@ use Rattle.tree_spec.specs.Standing.{Paged, Sizes}
 use Rattle.tree_walk.specs.declared.cursor.Row.{Row}
 use Rattle.schema_read.specs.Answers.{IsAnswer, SaysOrOther}
 use Rattle.schema_read.specs.Rows.{member_of}
-use Rattle.schema_read.proofs.Reading.{at-sizes}
+use Rattle.page_store.specs.StoreLaws.{at-sizes}
 use Rattle.schema_read.proofs.Saying.{other-refused, reads-answer}
 use Rattle.schema_read.proofs.read.read_known.Goals as goal
 

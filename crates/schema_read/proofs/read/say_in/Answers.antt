@@ -5,7 +5,7 @@ use Rattle.tree_spec.specs.Standing.{Paged, Sizes}
 use Rattle.schema_read.specs.Answers.{IsRefusalOrOther, SayFault}
 use Rattle.schema_read.specs.Rows.{member_of}
 use Rattle.schema_read.specs.declared.read.CatalogFault.{CatalogFault}
-use Rattle.schema_read.proofs.Reading.{some-all}
+use Rattle.page_store.specs.StoreLaws.{some-all}
 use Rattle.schema_read.proofs.Saying.{other-refused, row-refused}
 use Rattle.schema_read.proofs.read.say_in.Goals as goal
 

@@ -1,4 +1,5 @@
 pub mod Edits
+pub mod Needed
 pub mod Spelling
 pub mod Unders
 pub mod Worlds

@@ -61,7 +61,7 @@ none-suc n e = omega arith
 
 module _ (sizes : Sizes) (page : TreePage) (a : Paged) (there : a.pages page.number ≡ page.bytes) (decoded : IsDecoded page.bytes page.number sizes.usable page) where
   -- the cells of the page that was read stand in it
-  has-cells : (kind : PageKind) → page.kind ≡ kind → (cells : List Spelled) → HasSpelled sizes.usable page cells → HasCells sizes a kind page.number cells page.right
+  pub has-cells : (kind : PageKind) → page.kind ≡ kind → (cells : List Spelled) → HasSpelled sizes.usable page cells → HasCells sizes a kind page.number cells page.right
   has-cells kind same cells has = record {
     is_page = subst (λ (k : PageKind). IsPage (a.pages page.number) page.number sizes.usable k (bytes_in cells) page.right) same
         (subst⁻¹ (λ (b : List ℕ). IsPage b page.number sizes.usable page.kind (bytes_in cells) page.right) there has.is_page);

@@ -1,5 +1,5 @@
 // Writes the cells of a page that was read to another page.
-ghost use Rattle.std.specs.Prelude.{◌≡◌, ◌≤◌, ◌<◌, ◌+◌, ◌*◌, [], IfOk, OnOk, length};
+ghost use Rattle.std.specs.Prelude.{◌≡◌, ◌≤◌, ◌<◌, ◌+◌, ◌*◌, [], IfOk, OnOk, length, max};
 ghost use Rattle.std.specs.List.{All};
 ghost use Rattle.page_spec.specs.Rooms.{IsOneCell, needs as bytes_needed};
 ghost use Rattle.page_store.specs.Store.{HasSizes, IsNumber, OwesBy};
@@ -41,6 +41,7 @@ pub fn settle_elsewhere<S: PageWrite>(
     ensures dividers { IfOk result (λ dividers. All (IsOneCell (above_kind page.kind) (S.usable store.old)) dividers.items) }
     ensures few { IfOk result (λ dividers. bytes_needed comes.items ≤ page_room page.kind (S.usable store.old) → length dividers.items ≤ 2) }
     ensures count { OnOk result (S.count store.old ≤ S.count store.new) }
+    ensures most { OnOk result (S.count store.new ≤ max limit (S.count store.old)) }
     ensures owes { OwesBy S.PageRead fault_in store.old store.new result }
 {
     let node = Node {

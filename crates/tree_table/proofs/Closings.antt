@@ -24,7 +24,9 @@ use Rattle.tree_level.specs.Changes.{Changes, ChangesRoot, HasSpelled, MovesTo, 
 use Rattle.tree_level.specs.ChangesLaws.{right-kept_of, spelled-read}
 use Rattle.tree_level.specs.Levels.{AreSpelled, WritesNode}
 use Rattle.tree_table.specs.declared.taking.Taken.{Taken}
-use Rattle.tree_table.specs.Deletes.{IsChildAt, IsOfTable, Opens, gone_of}
+use Rattle.tree_table.specs.declared.taking.Left.{Left}
+use Rattle.tree_table.specs.declared.taking.Left.TheVariants.{Cells, NoCell, OnlyChild}
+use Rattle.tree_table.specs.Deletes.{IsChildAt, IsOfTable, IsStill, Leaves, LeavesRoot, Opens, gone_of}
 use Rattle.tree_table.proofs.Edits.{index-belongs, index-within}
 use Rattle.tree_table.proofs.Takings.{changed-many, none-long, none-spelled, views-many}
 use Rattle.tree_table.proofs.Unders.{has-cells, same-spelled, spelled-all}
@@ -70,15 +72,29 @@ module _ (sizes : Sizes) (page : TreePage) (decoded : IsDecoded page.bytes page.
       grows-there =
           subst (λ (p : ℕ). GrowsUnder sizes (gone_of rowid row) p old mid [] row.old.first row.old.bytes) (named sizes.usable page_cells page_read) (grows [] (record { bytes_are = refl; are_cells = tt }))
 
-      pub still-passes : 0 < length page.views → (up : List Spelled) → AreSpelled TableInterior sizes.usable up [] → GrowsUnder sizes (gone_of rowid row) page.number old mid up row.old.first row.old.bytes
+      still-passes : 0 < length page.views → (up : List Spelled) → AreSpelled TableInterior sizes.usable up [] → GrowsUnder sizes (gone_of rowid row) page.number old mid up row.old.first row.old.bytes
       still-passes some up are =
           subst⁻¹ (λ (l : List Spelled). GrowsUnder sizes (gone_of rowid row) page.number old mid l row.old.first row.old.bytes) (none-spelled TableInterior sizes.usable up are)
           (stays-under sizes (gone_of rowid row) row.old.first row.old.bytes page.number old page_cells page.right at mid page_has (omega (arith, some, cells_many)) grows-there)
 
-      pub still-root : (page.number ≢ 1 → 0 < length page.views) → DeleteInto sizes (gone_of rowid row) page.number old mid row.old.first row.old.bytes
+      still-root : (page.number ≢ 1 → 0 < length page.views) → DeleteInto sizes (gone_of rowid row) page.number old mid row.old.first row.old.bytes
       still-root some =
           root-stays-under sizes (gone_of rowid row) row.old.first row.old.bytes page.number old page_cells page.right at mid page_has
           (λ other. omega (arith, some other, cells_many)) grows-there
+
+    pub still-left : (at child : ℕ) → IsChildAt page at child → 0 < length page.views → (mid : Paged) (below : Left) → IsStill below → Leaves sizes rowid row child below old mid → Leaves sizes rowid row page.number below old mid
+    still-left at child named some mid (Cells dividers) still leaves up are =
+        still-passes at child named mid (λ none empty. leaves none (subst⁻¹ (λ (l : List (List ℕ)). AreSpelled TableInterior sizes.usable none l) still empty)) some up
+        (subst (λ (l : List (List ℕ)). AreSpelled TableInterior sizes.usable up l) still are)
+    still-left at child named some mid NoCell still leaves = absurd still
+    still-left at child named some mid (OnlyChild only) still leaves = absurd still
+
+    pub still-rooted : (at child : ℕ) → IsChildAt page at child → (page.number ≢ 1 → 0 < length page.views) → (mid : Paged) (below : Left) → IsStill below → Leaves sizes rowid row child below old mid
+        → LeavesRoot sizes rowid row page.number old mid
+    still-rooted at child named some mid (Cells dividers) still leaves =
+        still-root at child named mid (λ none empty. leaves none (subst⁻¹ (λ (l : List (List ℕ)). AreSpelled TableInterior sizes.usable none l) still empty)) some
+    still-rooted at child named some mid NoCell still leaves = absurd still
+    still-rooted at child named some mid (OnlyChild only) still leaves = absurd still
 
     module _ (change : Change) (bytes : List (List ℕ)) (mid : Paged) (within : behind change.at change.goes ≤ length page.views) (all : All (IsOneCell TableInterior sizes.usable) bytes)
         (opens : Opens sizes rowid row page change bytes old mid) where

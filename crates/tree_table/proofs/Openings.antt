@@ -3,11 +3,14 @@ use Rattle.std.proofs.Common.{◌≡◌, ℕ, ℤ, zero, suc, ◌+◌, ◌-◌, 
 use Rattle.std.proofs.Math.Path.{subst⁻¹}
 use Rattle.std.proofs.Math.Seq.{take-append_seam, drop-append_seam}
 use Rattle.std.proofs.lemmas.List.{append-nil, drop_all, take_all}
+use Rattle.std.specs.List.{All}
 use Rattle.format_spec.specs.declared.PageKind.{PageKind}
 use Rattle.format_spec.specs.declared.PageKind.TheVariants.{TableInterior, TableLeaf}
 use Rattle.format_spec.specs.declared.CellView.{CellView}
 use Rattle.format_spec.specs.Cell.{IsCell}
-use Rattle.page_spec.specs.Rooms.{right_kept}
+use Rattle.format_spec.specs.Sizes.{IsUsable}
+use Rattle.page_spec.specs.Rooms.{IsOneCell, needs, right_kept}
+use Rattle.tree_balance.specs.Cuts.{page_room}
 use Rattle.tree_spec.specs.declared.TreeKind.TheVariants.{Table}
 use Rattle.tree_spec.specs.Standing.{Sizes, Paged}
 use Rattle.put_spec.specs.Steps.{Spelled, HasCells, IsSettled, Releases, child_page, with_dividers}
@@ -22,7 +25,20 @@ use Rattle.tree_level.specs.Levels.{AreSpelled}
 use Rattle.tree_table.specs.declared.taking.Taken.{Taken}
 use Rattle.tree_table.specs.Deletes.{IsChildAt, IsKey, LosesLeaf, Opens, gone_of}
 use Rattle.tree_table.proofs.Takings.{IsMiddle, middle, none-spelled, view-at, views-many}
-use Rattle.tree_table.proofs.Unders.{has-cells, same-spelled}
+use Rattle.tree_table.proofs.Unders.{has-cells, row-fits, same-spelled}
+
+-- the cell that comes down is one cell of an interior page, which has room for it
+pub key-one : (usable : ℕ) (page : TreePage) (at child : ℕ) (bytes : List (List ℕ)) (kind : PageKind) → kind ≡ TableInterior → IsKey page at child bytes → All (IsOneCell kind usable) bytes
+key-one usable page at child bytes kind same key =
+    subst⁻¹ (λ (k : PageKind). All (IsOneCell k usable) bytes) same
+    (subst⁻¹ (All (IsOneCell TableInterior usable)) key.1 (λ k d low. subst⁻¹ (IsOneCell TableInterior usable) (first k d low) (key.0.view, key.2 usable)))
+  where
+    first : (k : ℕ) (d : List ℕ) → k < 1 → slice_index_or (key.0.bytes ∷ []) k d ≡ key.0.bytes
+    first zero d low = refl
+    first (suc k) d low = absurd (omega arith)
+
+pub key-fits : (usable : ℕ) (page : TreePage) (at child : ℕ) (bytes : List (List ℕ)) (kind : PageKind) → kind ≡ TableInterior → IsUsable usable → IsKey page at child bytes → needs bytes ≤ page_room kind usable
+key-fits usable page at child bytes kind same fits key = row-fits usable bytes kind fits (key-one usable page at child bytes kind same key) (omega (arith, ap length key.1))
 
 -- dividers between two parts
 with-seam : {A : Type 0} (front back grew : List A) → take (length front) (front ++ back) ++ (grew ++ drop (length front) (front ++ back)) ≡ front ++ (grew ++ back)
@@ -90,8 +106,8 @@ module _ (sizes : Sizes) (page : TreePage) (decoded : IsDecoded page.bytes page.
     pub leaf-gone : (change : Change) → LosesLeaf page at change → Opens sizes rowid row page change [] old new
     leaf-gone change (inl named_one) = subst⁻¹ (λ (c : Change). Opens sizes rowid row page c [] old new) named_one.1 (named-leaf-opens named_one.0)
     leaf-gone change (inr last) =
-        let is : change ≡ record { at = change.at; goes = true; right = change.right } = λ i. record { at = change.at; goes = last.2.1 i; right = change.right } in
-        subst⁻¹ (λ (c : Change). Opens sizes rowid row page c [] old new) is (last-leaf-opens change.at change.right last.0 last.1 last.2.2)
+        let is : change ≡ record { at = change.at; goes = true; right = change.right } = λ i. record { at = change.at; goes = last.2 i; right = change.right } in
+        subst⁻¹ (λ (c : Change). Opens sizes rowid row page c [] old new) is (last-leaf-opens change.at change.right last.0 last.1 last.3)
 
   -- the child is an interior page that is joined with a neighbour
   module _ (only : ℕ) (mid given written : Paged) (emptied : EmptiesPage sizes (gone_of rowid row) TableInterior child only old mid row.old.first row.old.bytes) (beside : TreePage)
@@ -127,11 +143,11 @@ module _ (sizes : Sizes) (page : TreePage) (decoded : IsDecoded page.bytes page.
         let is : child ≡ m.cell.view.child = named sizes.usable cells has ∙ m.child page.right in
         let its : beside.number ≡ child_page (length front) (front ++ back) page.right =
         named_next sizes.usable cells has ∙ ap (λ (n : ℕ). child_page n cells page.right) is_next ∙ m.next page.right in
-        let rowid_is : key.0.view.rowid ≡ m.cell.view.rowid = key.2.2.2 m.cell.view ∙ ap (λ (v : CellView). v.rowid) (view-at sizes.usable page cells at m has m.cell.view) in
-        let settled = joined key.0 key.1 (key.2.0 sizes.usable) coming coming_are beside.number (record { at = 0; goes = false; right = beside.right }) changes in
+        let rowid_is : key.0.view.rowid ≡ m.cell.view.rowid = key.4 m.cell.view ∙ ap (λ (v : CellView). v.rowid) (view-at sizes.usable page cells at m has m.cell.view) in
+        let settled = joined key.0 key.1 (key.2 sizes.usable) coming coming_are beside.number (record { at = 0; goes = false; right = beside.right }) changes in
         let opens = left-joins-under sizes (gone_of rowid row) row.old.first row.old.bytes page.number old cells page.right front m.cell back only mid given written key.0 its_cells beside.right (inner-has cells has) m.whole
-            (key.2.0 sizes.usable) rowid_is coming (subst (λ (p : ℕ). EmptiesPage sizes (gone_of rowid row) TableInterior p only old mid row.old.first row.old.bytes) is emptied)
-            (subst (λ (p : ℕ). HasCells sizes mid TableInterior p its_cells beside.right) its its_has) key.2.2.1 (subst (λ (p : ℕ). Releases sizes p mid given) is gives)
+            (key.2 sizes.usable) rowid_is coming (subst (λ (p : ℕ). EmptiesPage sizes (gone_of rowid row) TableInterior p only old mid row.old.first row.old.bytes) is emptied)
+            (subst (λ (p : ℕ). HasCells sizes mid TableInterior p its_cells beside.right) its its_has) key.3 (subst (λ (p : ℕ). Releases sizes p mid given) is gives)
             (λ levels. subst (λ (p : ℕ). IsSettled sizes (suc levels) Table p beside.right (key.0 ∷ its_cells) given written coming) its (settled levels)) in
         opens-right (changed cells at true coming) page.right written
         (subst (λ (l : List Spelled). OpensUnder sizes (gone_of rowid row) page.number l page.right old written row.old.first row.old.bytes) (with-seam front back coming) opens)
@@ -148,13 +164,13 @@ module _ (sizes : Sizes) (page : TreePage) (decoded : IsDecoded page.bytes page.
         let is : child ≡ child_page (length front) (front ++ back) page.right =
         named sizes.usable cells has ∙ ap (λ (n : ℕ). child_page n cells page.right) (sym before) ∙ m.next page.right in
         let its : beside.number ≡ m.cell.view.child = named_before sizes.usable cells has ∙ m.child page.right in
-        let rowid_is : key.0.view.rowid ≡ m.cell.view.rowid = key.2.2.2 m.cell.view ∙ ap (λ (v : CellView). v.rowid) (view-at sizes.usable page cells end m has m.cell.view) in
+        let rowid_is : key.0.view.rowid ≡ m.cell.view.rowid = key.4 m.cell.view ∙ ap (λ (v : CellView). v.rowid) (view-at sizes.usable page cells end m has m.cell.view) in
         let all : changed its_cells place false (key.0 ∷ []) ≡ its_cells ++ key.0 ∷ [] =
         changed-end its_cells place (key.0 ∷ []) (is_place ∙ views-many sizes.usable beside its_cells (spelled-read sizes.usable beside beside_read).1) in
-        let settled = joined key.0 key.1 (key.2.0 sizes.usable) coming coming_are child (record { at = place; goes = false; right = only }) changes in
+        let settled = joined key.0 key.1 (key.2 sizes.usable) coming coming_are child (record { at = place; goes = false; right = only }) changes in
         let opens = right-joins-under sizes (gone_of rowid row) row.old.first row.old.bytes page.number old cells page.right front m.cell back only mid given written key.0 its_cells beside.right (inner-has cells has) m.whole
-            (key.2.0 sizes.usable) rowid_is coming (subst (λ (p : ℕ). EmptiesPage sizes (gone_of rowid row) TableInterior p only old mid row.old.first row.old.bytes) is emptied)
-            (subst (λ (p : ℕ). HasCells sizes mid TableInterior p its_cells beside.right) its its_has) key.2.2.1 (subst (λ (p : ℕ). Releases sizes p mid given) its gives)
+            (key.2 sizes.usable) rowid_is coming (subst (λ (p : ℕ). EmptiesPage sizes (gone_of rowid row) TableInterior p only old mid row.old.first row.old.bytes) is emptied)
+            (subst (λ (p : ℕ). HasCells sizes mid TableInterior p its_cells beside.right) its its_has) key.3 (subst (λ (p : ℕ). Releases sizes p mid given) its gives)
             (λ levels.
             subst (λ (p : ℕ). IsSettled sizes (suc levels) Table p only (its_cells ++ key.0 ∷ []) given written coming) is
             (subst (λ (l : List Spelled). IsSettled sizes (suc levels) Table child only l given written coming) all (settled levels))) in

@@ -10,7 +10,7 @@ ghost use Rattle.tree_table.specs.Deletes.{DeletesInto, DeletesRow};
 use crate::opening::step_below;
 use crate::removing::delete_below;
 use crate::sinking::pass_to_root;
-use crate::taking::{Found, Removed, Taken, find_row, write_without};
+use crate::taking::{Taken, find_row, write_without};
 use cell_codec::PageKind;
 use page_store::PageWrite;
 use rbu_value::Bytes;
@@ -40,11 +40,12 @@ fn delete_in_root<S: PageWrite>(
     ensures count { S.count store.new ≡ S.count store.old }
     ensures owes { OwesBy S.PageRead fault_in store.old store.new result }
 {
-    match find_row(alloc, store, &page, rowid)? {
+    let sought = find_row(alloc, store, &page, rowid)?;
+    match sought {
         None => Ok(None),
-        Some(Found { row, change }) => {
-            write_without(alloc, store, page, change)?;
-            Ok(Some(row))
+        Some(found) => {
+            write_without(alloc, store, page, found.change)?;
+            Ok(Some(found.row))
         }
     }
 }
@@ -73,11 +74,12 @@ fn delete_root<S: PageWrite>(
                 return Err(damaged(root, Rule::Empty));
             }
             let step = step_below(store, &page, rowid)?;
-            match delete_below(alloc, store, step.child, LEVELS - 1, rowid, limit)? {
+            let below = delete_below(alloc, store, step.child, LEVELS - 1, rowid, limit)?;
+            match below {
                 None => Ok(None),
-                Some(Removed { row, left }) => {
-                    pass_to_root(alloc, store, page, step, left, limit)?;
-                    Ok(Some(row))
+                Some(removed) => {
+                    pass_to_root(alloc, store, page, step, removed.left, limit)?;
+                    Ok(Some(removed.row))
                 }
             }
         }
@@ -103,11 +105,12 @@ pub fn delete<S: PageWrite>(
     ensures most { OnOk result (S.count store.new ≤ max limit (S.count store.old)) }
     ensures owes { OwesBy S.PageRead fault_in store.old store.new result }
 {
-    match delete_root(alloc, store, root, rowid, limit)? {
+    let taken = delete_root(alloc, store, root, rowid, limit)?;
+    match taken {
         None => Ok(None),
-        Some(Taken { payload, old }) => {
-            give_back(alloc, store, old.first, old.bytes)?;
-            Ok(Some(payload))
+        Some(row) => {
+            give_back(alloc, store, row.old.first, row.old.bytes)?;
+            Ok(Some(row.payload))
         }
     }
 }

@@ -54,11 +54,15 @@ pub fn delete_below<S: PageWrite>(
         PageKind::TableInterior => {
             check_inner(&page, levels)?;
             let step = step_below(store, &page, rowid)?;
-            match delete_below(alloc, store, step.child, levels - 1, rowid, limit)? {
+            let below = delete_below(alloc, store, step.child, levels - 1, rowid, limit)?;
+            match below {
                 None => Ok(None),
-                Some(Removed { row, left: below }) => {
-                    let left = pass_on(alloc, store, page, step, below, limit)?;
-                    Ok(Some(Removed { row, left }))
+                Some(removed) => {
+                    let left = pass_on(alloc, store, page, step, removed.left, limit)?;
+                    Ok(Some(Removed {
+                        row: removed.row,
+                        left,
+                    }))
                 }
             }
         }

@@ -145,7 +145,8 @@ fn take_only_child<S: PageWrite>(
 {
     let only = opened.change.right;
     let child = read_only(alloc, store, &page, only)?;
-    if move_cells(alloc, store, child, page.number)? {
+    let moved = move_cells(alloc, store, child, page.number)?;
+    if moved {
         return give_page(alloc, store, only);
     }
     change_root(alloc, store, page, opened.change, opened.comes, limit)

@@ -150,11 +150,15 @@ pub fn delete_in_leaf<S: PageWrite>(
     ensures count { S.count store.new ≡ S.count store.old }
     ensures owes { OwesBy S.PageRead fault_in store.old store.new result }
 {
-    match find_row(alloc, store, &page, rowid)? {
+    let sought = find_row(alloc, store, &page, rowid)?;
+    match sought {
         None => Ok(None),
-        Some(Found { row, change }) => {
-            let left = shrink_leaf(alloc, store, page, change)?;
-            Ok(Some(Removed { row, left }))
+        Some(found) => {
+            let left = shrink_leaf(alloc, store, page, found.change)?;
+            Ok(Some(Removed {
+                row: found.row,
+                left,
+            }))
         }
     }
 }

@@ -1,0 +1,90 @@
+use Rattle.std.proofs.Common.{◌≡◌, ◌≢◌, ℕ, ℤ, zero, suc, ◌+◌, ◌-◌, ◌<◌, ◌≤◌, Bool, true, false, List, [], ◌∷◌, length, slice_get, slice_index_or, Option, Some, None, inl, inr, refl, sym, ap, ◌∙◌, subst, to_z, of_z, arith}
+use Rattle.std.proofs.Math.Path.{subst⁻¹}
+use Rattle.std.proofs.lemmas.Int.{to_z-of_z}
+use Rattle.std.proofs.lemmas.Result.{IfOk-weaker, on_ok_weaker}
+use Rattle.std.specs.Int.{w64}
+use Rattle.std.specs.List.{All}
+use Rattle.cell_codec.specs.Cells.{interior_cell}
+use Rattle.cell_codec.specs.CellLaws.{cell-written, interior_cell-writable}
+use Rattle.format_spec.specs.declared.PageKind.{PageKind}
+use Rattle.format_spec.specs.declared.PageKind.TheVariants.{TableInterior, TableLeaf}
+use Rattle.format_spec.specs.declared.CellView.{CellView}
+use Rattle.format_spec.specs.Cell.{cell_bytes}
+use Rattle.format_spec.specs.Sizes.{IsUsable}
+use Rattle.page_spec.specs.Rooms.{IsOneCell, free_bytes, needs}
+use Rattle.page_store.specs.StoreLaws.{IfSome-told}
+use Rattle.tree_spec.specs.Standing.{Sizes, Paged}
+use Rattle.put_spec.specs.Steps.{Spelled, GivesBack, Releases}
+use Rattle.delete_spec.specs.Steps.{DeleteInto, MissingUnder}
+use Rattle.tree_pages.specs.Writers.{paged, sizes_of}
+use Rattle.tree_pages.specs.WritersLaws.{sizes-same}
+use Rattle.tree_walk.specs.Pages.{IsDecoded, view_of}
+use Rattle.tree_walk.specs.Payloads.{IsPayload as HasPayload}
+use Rattle.tree_walk.specs.Places.{rowids}
+use Rattle.tree_walk.specs.Seeks.{IsIndexOf}
+use Rattle.tree_level.specs.declared.cells.Change.{Change}
+use Rattle.tree_level.specs.Changes.{Changes, ChangesAt, ChangesRoot, MovesTo, WritesChange, behind, bytes_changed}
+use Rattle.tree_level.specs.Levels.{AreSpelled, above_kind}
+use Rattle.tree_table.specs.declared.taking.Found.{Found}
+use Rattle.tree_table.specs.declared.taking.Left.{Left}
+use Rattle.tree_table.specs.declared.taking.Left.TheVariants.{Cells, NoCell, OnlyChild}
+use Rattle.tree_table.specs.declared.taking.Removed.{Removed}
+use Rattle.tree_table.specs.declared.taking.Taken.{Taken}
+use Rattle.tree_table.specs.Deletes.{Closes, DeletesInto, DeletesUnder, HasDeleted, IsChildAt, IsEmptied, IsFit, IsFound, IsKey, IsStill, Leaves, LeavesRoot, Opens, Passes, PassesRoot, Shrinks}
+use Rattle.tree_table.specs.Puts.{HasRowidAt}
+use Rattle.tree_table.proofs.Closings.{emptied-closes, first-closes, first-interior, first-leaf, inner-missing, rooted-closes, settled-closes, still-left, still-rooted, takes-child}
+use Rattle.tree_table.proofs.DeletedWorlds.{world-deleted}
+use Rattle.tree_table.proofs.Edits.{got-low, index-within}
+use Rattle.tree_table.proofs.Openings.{grown-opens, key-fits, key-one, last-joins, leaf-gone, next-joins}
+use Rattle.tree_table.proofs.Takings.{leaf-deleted, leaf-emptied, leaf-shrunk, none-found, none-long, room-without, row-opens}
+use Rattle.tree_table.proofs.Unders.{decoded-own, dividers-fit, read-there}
+use Rattle.tree_table.proofs.joining.join_next.Goals as goal
+
+pub change_page-requires-clause-comes : goal.change_page-requires-clause-comes
+change_page-requires-clause-comes g c = key-one _ c.args.page.now _ _ c.in_ok-middle.middle.items c.in_ok-beside.beside.kind c.in_ok-beside.ensures.kind c.in_ok-middle.ensures
+
+pub returns-clause-comes : goal.returns-clause-comes
+returns-clause-comes g c =
+    let S = g.S.PageRead in
+    let t = c.give_page.new.store in
+    let comes = c.in_ok-comes.comes.items in
+    subst (λ (u : ℕ). All (IsOneCell TableInterior u) comes) (c.in_ok-give_page.ensures.owes.stays.usable ∙ c.in_ok-beside.ensures.owes.stays.usable)
+    (subst (λ (k : PageKind). All (IsOneCell (above_kind k) (S.usable t)) comes) c.in_ok-beside.ensures.kind c.in_ok-comes.ensures.dividers)
+
+pub returns-clause-few : goal.returns-clause-few
+returns-clause-few g c =
+    let S = g.S.PageRead in
+    let t = c.give_page.new.store in
+    let fits : IsUsable (S.usable t) = subst⁻¹ IsUsable (c.in_ok-give_page.ensures.owes.stays.usable ∙ c.in_ok-beside.ensures.owes.stays.usable) c.requires.sizes.usable in
+    c.in_ok-comes.ensures.few (key-fits (S.usable t) c.args.page.now _ _ c.in_ok-middle.middle.items c.in_ok-beside.beside.kind c.in_ok-beside.ensures.kind fits c.in_ok-middle.ensures)
+
+pub returns-clause-opened : goal.returns-clause-opened
+returns-clause-opened g c = λ old told.
+    let S = g.S.PageRead in
+    let a = c.args.store.now in
+    let s = c.read_neighbour.new.store in
+    let t = c.give_page.new.store in
+    let v = c.change_page.new.store in
+    let z = sizes_of S a in
+    let page = c.args.page.now in
+    let step = c.args.step in
+    let be = c.in_ok-beside.ensures in
+    let beside = c.in_ok-beside.beside in
+    let middle = c.in_ok-middle.middle.items in
+    let comes = c.in_ok-comes.comes.items in
+    let one : sizes_of S s ≡ z = sizes-same S a s be.owes.stays in
+    let two : sizes_of S t ≡ z = sizes-same S s t c.in_ok-give_page.ensures.owes.stays ∙ one in
+    let n = c.in_ok-give_page.ensures.released old (be.same ∙ told) in
+    let k = c.in_ok-comes.ensures.changed n.0 n.1 in
+    let x = paged S a old in
+    let y = paged S t n.0 in
+    let w = paged S v k.0 in
+    let gives : Releases z step.child x y = subst (λ (n : ℕ). Releases z step.child (record { count = n; pages = old }) y) be.count (subst (λ (m : Sizes). Releases m step.child (paged S s old) y) one n.2) in
+    let front : Change = record { at = 0; goes = false; right = beside.right } in
+    let changes : Changes z beside front middle comes y w = subst (λ (m : Sizes). Changes m beside front middle comes y w) two k.2 in (
+      k.0,
+      k.1,
+      λ rowid row base there leaves.
+          next-joins z page c.requires.page c.requires.kind step.at step.child c.requires.child rowid row base there c.args.only_child x y w leaves beside be.read be.kind (be.there old told) middle comes c.requires.at (step.at + 1) (omega arith)
+          be.child c.in_ok-middle.ensures gives changes,
+    )

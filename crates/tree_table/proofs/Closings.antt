@@ -1,5 +1,5 @@
 -- What is left of a page once a child of it is left in some way.
-use Rattle.std.proofs.Common.{◌≡◌, ◌≢◌, ℕ, ℤ, zero, suc, ◌+◌, ◌<◌, ◌≤◌, Bool, true, false, List, [], ◌∷◌, length, inl, inr, refl, sym, ap, ◌∙◌, subst, arith}
+use Rattle.std.proofs.Common.{◌≡◌, ◌≢◌, ℕ, ℤ, suc, ◌+◌, ◌<◌, ◌≤◌, Bool, true, false, List, [], length, inl, inr, refl, sym, ap, ◌∙◌, subst, arith}
 use Rattle.std.proofs.Math.Path.{subst⁻¹}
 use Rattle.std.proofs.lemmas.Bool.{cases_lt}
 use Rattle.std.specs.List.{All}
@@ -19,7 +19,6 @@ use Rattle.tree_walk.specs.Pages.{IsDecoded}
 use Rattle.tree_walk.specs.Places.{rowids}
 use Rattle.tree_walk.specs.Seeks.{IsIndexOf}
 use Rattle.tree_level.specs.declared.cells.Change.{Change}
-use Rattle.tree_level.specs.declared.writing.Node.{Node}
 use Rattle.tree_level.specs.Changes.{Changes, ChangesRoot, HasSpelled, MovesTo, behind, changed}
 use Rattle.tree_level.specs.ChangesLaws.{right-kept_of, spelled-read}
 use Rattle.tree_level.specs.Levels.{AreSpelled, WritesNode}
@@ -27,7 +26,7 @@ use Rattle.tree_table.specs.declared.taking.Taken.{Taken}
 use Rattle.tree_table.specs.declared.taking.Left.{Left}
 use Rattle.tree_table.specs.declared.taking.Left.TheVariants.{Cells, NoCell, OnlyChild}
 use Rattle.tree_table.specs.Deletes.{IsChildAt, IsOfTable, IsStill, Leaves, LeavesRoot, Opens, gone_of}
-use Rattle.tree_table.proofs.Edits.{index-belongs, index-within}
+use Rattle.tree_table.proofs.Edits.{index-belongs}
 use Rattle.tree_table.proofs.Takings.{changed-many, none-long, none-spelled, views-many}
 use Rattle.tree_table.proofs.Unders.{has-cells, same-spelled, spelled-all}
 
@@ -83,7 +82,7 @@ module _ (sizes : Sizes) (page : TreePage) (decoded : IsDecoded page.bytes page.
           (λ other. omega (arith, some other, cells_many)) grows-there
 
     pub still-left : (at child : ℕ) → IsChildAt page at child → 0 < length page.views → (mid : Paged) (below : Left) → IsStill below → Leaves sizes rowid row child below old mid → Leaves sizes rowid row page.number below old mid
-    still-left at child named some mid (Cells dividers) still leaves up are =
+    still-left at child named some mid (Cells dividers) still leaves = λ up are.
         still-passes at child named mid (λ none empty. leaves none (subst⁻¹ (λ (l : List (List ℕ)). AreSpelled TableInterior sizes.usable none l) still empty)) some up
         (subst (λ (l : List (List ℕ)). AreSpelled TableInterior sizes.usable up l) still are)
     still-left at child named some mid NoCell still leaves = absurd still

@@ -1,5 +1,5 @@
 -- What an interior page is to have once a child of it is left in some way.
-use Rattle.std.proofs.Common.{◌≡◌, ℕ, ℤ, zero, suc, ◌+◌, ◌-◌, ◌<◌, ◌≤◌, Bool, true, false, List, [], ◌∷◌, ◌++◌, length, take, drop, slice_index_or, inl, inr, refl, sym, ap, ◌∙◌, subst, arith}
+use Rattle.std.proofs.Common.{◌≡◌, ℕ, ℤ, zero, suc, ◌<◌, ◌≤◌, true, false, List, [], ◌∷◌, ◌++◌, length, take, drop, slice_index_or, inl, inr, refl, sym, ap, ◌∙◌, subst, arith}
 use Rattle.std.proofs.Math.Path.{subst⁻¹}
 use Rattle.std.proofs.Math.Seq.{take-append_seam, drop-append_seam}
 use Rattle.std.proofs.lemmas.List.{append-nil, drop_all, take_all}
@@ -19,12 +19,12 @@ use Rattle.delete_spec.specs.UnderLaws.{child-last, grown-under, last-leaf-goes-
 use Rattle.tree_walk.specs.declared.page.TreePage.{TreePage}
 use Rattle.tree_walk.specs.Pages.{IsDecoded}
 use Rattle.tree_level.specs.declared.cells.Change.{Change}
-use Rattle.tree_level.specs.Changes.{Changes, ChangesAt, HasSpelled, behind, changed}
+use Rattle.tree_level.specs.Changes.{Changes, ChangesAt, HasSpelled, changed}
 use Rattle.tree_level.specs.ChangesLaws.{spelled-read}
 use Rattle.tree_level.specs.Levels.{AreSpelled}
 use Rattle.tree_table.specs.declared.taking.Taken.{Taken}
 use Rattle.tree_table.specs.Deletes.{IsChildAt, IsKey, LosesLeaf, Opens, gone_of}
-use Rattle.tree_table.proofs.Takings.{IsMiddle, middle, none-spelled, view-at, views-many}
+use Rattle.tree_table.proofs.Takings.{middle, none-spelled, view-at, views-many}
 use Rattle.tree_table.proofs.Unders.{has-cells, row-fits, same-spelled}
 
 -- the cell that comes down is one cell of an interior page, which has room for it
@@ -82,7 +82,7 @@ module _ (sizes : Sizes) (page : TreePage) (decoded : IsDecoded page.bytes page.
         let m = middle cells at (omega (arith, low, views-many sizes.usable page cells has)) in
         let is : child ≡ m.cell.view.child = named sizes.usable cells has ∙ m.child page.right in
         let opens = leaf-goes-under sizes (gone_of rowid row) row.old.first row.old.bytes page.number old cells page.right (take at cells) m.cell (drop (suc at) cells) mid new (inner-has cells has) m.whole
-            (subst (λ (p : ℕ). EmptiesPage sizes (gone_of rowid row) TableLeaf p 0 old mid row.old.first row.old.bytes) is emptied) (subst (λ (p : ℕ). Releases sizes p mid new) is gives) in
+        (subst (λ (p : ℕ). EmptiesPage sizes (gone_of rowid row) TableLeaf p 0 old mid row.old.first row.old.bytes) is emptied) (subst (λ (p : ℕ). Releases sizes p mid new) is gives) in
         opens-right (changed cells at true comes) page.right new
         (subst⁻¹ (λ (l : List Spelled). OpensUnder sizes (gone_of rowid row) page.number (changed cells at true l) page.right old new row.old.first row.old.bytes) (none-spelled page.kind sizes.usable comes are) opens)
 
@@ -96,7 +96,7 @@ module _ (sizes : Sizes) (page : TreePage) (decoded : IsDecoded page.bytes page.
         let is_last : child ≡ page.right = named sizes.usable cells has ∙ ap (λ (n : ℕ). child_page n cells page.right) (let e : at ≡ length cells = omega (arith, is_end, many) in e) ∙ child-last cells page.right in
         let named_right : m.cell.view.child ≡ right = ap (λ (v : CellView). v.child) (sym (view-at sizes.usable page cells end m has m.cell.view)) ∙ sym (right_is m.cell.view) in
         let opens = last-leaf-goes-under sizes (gone_of rowid row) row.old.first row.old.bytes page.number old cells page.right (take end cells) m.cell mid new (inner-has cells has) whole
-            (subst (λ (p : ℕ). EmptiesPage sizes (gone_of rowid row) TableLeaf p 0 old mid row.old.first row.old.bytes) is_last emptied) (subst (λ (p : ℕ). Releases sizes p mid new) is_last gives) in
+        (subst (λ (p : ℕ). EmptiesPage sizes (gone_of rowid row) TableLeaf p 0 old mid row.old.first row.old.bytes) is_last emptied) (subst (λ (p : ℕ). Releases sizes p mid new) is_last gives) in
         let left : take end cells ≡ changed cells end true comes =
         sym (append-nil (take end cells)) ∙ (λ i. take end cells ++ (sym (none-spelled page.kind sizes.usable comes are) i ++ sym behind_it i)) in
         opens-right (changed cells end true comes) right new
@@ -146,9 +146,9 @@ module _ (sizes : Sizes) (page : TreePage) (decoded : IsDecoded page.bytes page.
         let rowid_is : key.0.view.rowid ≡ m.cell.view.rowid = key.4 m.cell.view ∙ ap (λ (v : CellView). v.rowid) (view-at sizes.usable page cells at m has m.cell.view) in
         let settled = joined key.0 key.1 (key.2 sizes.usable) coming coming_are beside.number (record { at = 0; goes = false; right = beside.right }) changes in
         let opens = left-joins-under sizes (gone_of rowid row) row.old.first row.old.bytes page.number old cells page.right front m.cell back only mid given written key.0 its_cells beside.right (inner-has cells has) m.whole
-            (key.2 sizes.usable) rowid_is coming (subst (λ (p : ℕ). EmptiesPage sizes (gone_of rowid row) TableInterior p only old mid row.old.first row.old.bytes) is emptied)
-            (subst (λ (p : ℕ). HasCells sizes mid TableInterior p its_cells beside.right) its its_has) key.3 (subst (λ (p : ℕ). Releases sizes p mid given) is gives)
-            (λ levels. subst (λ (p : ℕ). IsSettled sizes (suc levels) Table p beside.right (key.0 ∷ its_cells) given written coming) its (settled levels)) in
+        (key.2 sizes.usable) rowid_is coming (subst (λ (p : ℕ). EmptiesPage sizes (gone_of rowid row) TableInterior p only old mid row.old.first row.old.bytes) is emptied)
+        (subst (λ (p : ℕ). HasCells sizes mid TableInterior p its_cells beside.right) its its_has) key.3 (subst (λ (p : ℕ). Releases sizes p mid given) is gives)
+        (λ levels. subst (λ (p : ℕ). IsSettled sizes (suc levels) Table p beside.right (key.0 ∷ its_cells) given written coming) its (settled levels)) in
         opens-right (changed cells at true coming) page.right written
         (subst (λ (l : List Spelled). OpensUnder sizes (gone_of rowid row) page.number l page.right old written row.old.first row.old.bytes) (with-seam front back coming) opens)
 
@@ -169,10 +169,10 @@ module _ (sizes : Sizes) (page : TreePage) (decoded : IsDecoded page.bytes page.
         changed-end its_cells place (key.0 ∷ []) (is_place ∙ views-many sizes.usable beside its_cells (spelled-read sizes.usable beside beside_read).1) in
         let settled = joined key.0 key.1 (key.2 sizes.usable) coming coming_are child (record { at = place; goes = false; right = only }) changes in
         let opens = right-joins-under sizes (gone_of rowid row) row.old.first row.old.bytes page.number old cells page.right front m.cell back only mid given written key.0 its_cells beside.right (inner-has cells has) m.whole
-            (key.2 sizes.usable) rowid_is coming (subst (λ (p : ℕ). EmptiesPage sizes (gone_of rowid row) TableInterior p only old mid row.old.first row.old.bytes) is emptied)
-            (subst (λ (p : ℕ). HasCells sizes mid TableInterior p its_cells beside.right) its its_has) key.3 (subst (λ (p : ℕ). Releases sizes p mid given) its gives)
-            (λ levels.
-            subst (λ (p : ℕ). IsSettled sizes (suc levels) Table p only (its_cells ++ key.0 ∷ []) given written coming) is
-            (subst (λ (l : List Spelled). IsSettled sizes (suc levels) Table child only l given written coming) all (settled levels))) in
+        (key.2 sizes.usable) rowid_is coming (subst (λ (p : ℕ). EmptiesPage sizes (gone_of rowid row) TableInterior p only old mid row.old.first row.old.bytes) is emptied)
+        (subst (λ (p : ℕ). HasCells sizes mid TableInterior p its_cells beside.right) its its_has) key.3 (subst (λ (p : ℕ). Releases sizes p mid given) its gives)
+        (λ levels.
+        subst (λ (p : ℕ). IsSettled sizes (suc levels) Table p only (its_cells ++ key.0 ∷ []) given written coming) is
+        (subst (λ (l : List Spelled). IsSettled sizes (suc levels) Table child only l given written coming) all (settled levels))) in
         opens-right (changed cells end true coming) page.right written
         (subst (λ (l : List Spelled). OpensUnder sizes (gone_of rowid row) page.number l page.right old written row.old.first row.old.bytes) (with-seam front back coming) opens)

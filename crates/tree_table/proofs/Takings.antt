@@ -31,7 +31,7 @@ use Rattle.tree_walk.specs.Payloads.{part_at, IsPayload as HasPayload}
 use Rattle.tree_walk.specs.Places.{rowids}
 use Rattle.tree_walk.specs.Seeks.{IsIndexOf}
 use Rattle.tree_level.specs.declared.cells.Change.{Change}
-use Rattle.tree_level.specs.Changes.{HasSpelled, WritesChange, behind, bytes_changed, changed, node_of}
+use Rattle.tree_level.specs.Changes.{HasSpelled, WritesChange, behind, bytes_changed, changed}
 use Rattle.tree_level.specs.ChangesLaws.{changed-map, needs-changed_most, spelled-read}
 use Rattle.tree_level.specs.Levels.{AreSpelled}
 use Rattle.tree_table.specs.declared.taking.Taken.{Taken}
@@ -129,7 +129,7 @@ module _ (sizes : Sizes) (page : TreePage) (a : Paged) (there : a.pages page.num
           let is : slice_index_or (bytes_in cells) at [] ≡ m.cell.bytes = index-map (λ (c : Spelled). c.bytes) cells at e ∙ ap (λ (c : Spelled). c.bytes) (m.here e) in
           let stands : part_of page.bytes start (length m.cell.bytes) ≡ m.cell.bytes = subst (λ (b : List ℕ). part_of page.bytes start (length b) ≡ b) is place.stands in
           let each = all-back (λ (c : Spelled). IsCell page.kind sizes.usable c.bytes c.view) (take at cells) (m.cell ∷ drop (suc at) cells)
-              (subst (AllByRecursion (λ (c : Spelled). IsCell page.kind sizes.usable c.bytes c.view)) m.whole has.are_cells) in
+          (subst (AllByRecursion (λ (c : Spelled). IsCell page.kind sizes.usable c.bytes c.view)) m.whole has.are_cells) in
           let is_cell : IsCell TableLeaf sizes.usable m.cell.bytes view = subst (λ (k : PageKind). IsCell k sizes.usable m.cell.bytes view) kind each.0 in
           let inside : view.local_at + view.local ≤ length m.cell.bytes = omega (arith, cell-parts sizes.usable m.cell.bytes view is_cell, is_cell.size) in
           sym (part_of-part_of page.bytes start (length m.cell.bytes) view.local_at view.local inside) ∙ ap (λ (b : List ℕ). part_of b view.local_at view.local) stands
@@ -158,9 +158,9 @@ module _ (sizes : Sizes) (page : TreePage) (a : Paged) (there : a.pages page.num
         let here : m.cell.view.rowid ≡ rowid =
         ap (λ (c : Spelled). c.view.rowid) (sym (m.here m.cell)) ∙ row-there rowid cells at m.cell (subst⁻¹ (λ (l : List CellView). HasRowidAt rowid (slice_get l at)) has.views_are got) in
         let whole = payload-whole at cells has m low row.payload
-            (subst (λ (v : CellView). HasPayload a.pages sizes.size sizes.usable a.count (view_of page) at v row.payload) same (payload view)) in
+        (subst (λ (v : CellView). HasPayload a.pages sizes.size sizes.usable a.count (view_of page) at v row.payload) same (payload view)) in
         let opens = leaf-opens-under sizes (gone_of rowid row) row.old.first row.old.bytes page.number a cells page.right (take at cells) m.cell (drop (suc at) cells) (leaf-has cells has) m.whole (sym here) whole
-            (first ∙ ap (λ (v : CellView). v.overflow) is) (bytes ∙ ap (λ (v : CellView). v.payload - v.local) is) in
+        (first ∙ ap (λ (v : CellView). v.overflow) is) (bytes ∙ ap (λ (v : CellView). v.payload - v.local) is) in
         subst⁻¹ (λ (l : List Spelled). OpensUnder sizes (gone_of rowid row) page.number (changed cells at true l) (right_kept page.kind right) a a row.old.first row.old.bytes) (none-spelled page.kind sizes.usable comes are)
         (subst⁻¹ (λ (r : ℕ). OpensUnder sizes (gone_of rowid row) page.number (take at cells ++ drop (suc at) cells) r a a row.old.first row.old.bytes) (no-right right) opens)
 

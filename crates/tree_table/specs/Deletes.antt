@@ -2,7 +2,7 @@
 use Rattle.std.specs.Prelude.{◌≡◌, ◌≢◌, ◌⊎◌, ◌<◌, ◌≤◌, ℕ, ℤ, suc, true, List, [], ◌∷◌, Option, Some, None, length, slice_index_or, Contains}
 use Rattle.std.specs.List.{All}
 use Rattle.format_spec.specs.declared.PageKind.{PageKind}
-use Rattle.format_spec.specs.declared.PageKind.TheVariants.{IndexInterior, TableInterior, IndexLeaf, TableLeaf}
+use Rattle.format_spec.specs.declared.PageKind.TheVariants.{TableInterior, TableLeaf}
 use Rattle.format_spec.specs.declared.CellView.{CellView}
 use Rattle.format_spec.specs.Cell.{IsCell}
 use Rattle.page_spec.specs.Freelists.{Trunk}

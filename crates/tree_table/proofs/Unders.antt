@@ -53,7 +53,7 @@ spelled-one kind usable (x ∷ xs) (y ∷ ys) bytes one two =
     let rest = spelled-one kind usable xs ys after one.1 two.1 in
     (λ i. record { bytes = first i; view = view i } ∷ rest i)
 
-same-spelled : (kind : PageKind) (usable : ℕ) (xs ys : List Spelled) (bytes : List (List ℕ)) → AreSpelled kind usable xs bytes → AreSpelled kind usable ys bytes → xs ≡ ys
+pub same-spelled : (kind : PageKind) (usable : ℕ) (xs ys : List Spelled) (bytes : List (List ℕ)) → AreSpelled kind usable xs bytes → AreSpelled kind usable ys bytes → xs ≡ ys
 same-spelled kind usable xs ys bytes one two = spelled-one kind usable xs ys (one.bytes_are ∙ sym two.bytes_are) one.are_cells two.are_cells
 
 none-suc : (n : ℕ) → suc n ≡ 0 → ⊥

@@ -1,0 +1,6 @@
+pub mod RightFindings
+pub mod FoundTreesLaws
+pub mod RightFindingsLaws
+pub mod FoundFreelistsLaws
+pub mod SubjectsLaws
+pub mod RightFilesLaws

@@ -1,18 +1,18 @@
 -- The freelist is found without a torn trunk exactly where it is one: crates above cite these facts in their proofs.
-use Rattle.std.proofs.Common.{◌≡◌, ◌≢◌, ℕ, zero, suc, ◌+◌, ◌-◌, ◌*◌, ◌/◌, ◌<◌, ◌≤◌, ◌==◌, ◌&&◌, ◌⊎◌, nat_le, nat_lt, not, Bool, true, false, List, [], ◌∷◌, ◌++◌, length, map, if◌then◌else◌, slice_index, get_or, refl, sym, ap, ap₂, ◌∙◌, subst, inl, inr, arith, length-append}
+use Rattle.std.proofs.Common.{◌≡◌, ◌≢◌, ℕ, zero, suc, ◌+◌, ◌<◌, ◌≤◌, ◌==◌, ◌⊎◌, nat_lt, Bool, true, false, List, [], ◌∷◌, ◌++◌, length, map, if◌then◌else◌, get_or, refl, sym, ap, ap₂, ◌∙◌, subst, inl, inr, arith, length-append}
 use Rattle.std.proofs.Math.Path.{subst⁻¹}
 use Rattle.std.specs.Prelude.{filter_map}
 use Rattle.std.specs.List.{AllByRecursion, range_with_len}
-use Rattle.std.proofs.lemmas.Bool.{cases_lt, eq-eqb, eqb-true}
+use Rattle.std.proofs.lemmas.Bool.{eq-eqb, eqb-true}
 use Rattle.std.proofs.lemmas.Bool.Decides.{nat_tests}
 use Rattle.std.proofs.lemmas.List.{length-map, get_or-map, append-nil, map-append, ext_get_or}
 use Rattle.std.proofs.lemmas.List.FromFn.{length-map-range_with_len, get_or-map-range_with_len}
 use Rattle.std.proofs.lemmas.List.Elements.{filter_map-append}
 use Rattle.format_spec.specs.Header.{freelist_trunk, freelist_pages}
-use Rattle.page_spec.specs.Pages.{IsInRange, lock_byte_page, next_page}
+use Rattle.page_spec.specs.Pages.{next_page}
 use Rattle.page_spec.specs.Counts.{times}
-use Rattle.page_spec.specs.CountsLaws.{times-append, times-all, once-distinct, distinct-once, few-once}
-use Rattle.page_spec.specs.Freelists.{Trunk, IsTrunk, AreTrunks, IsFreelist, free_pages, trunk_limit, leaf_count, leaf_at}
+use Rattle.page_spec.specs.CountsLaws.{times-all, once-distinct, few-once}
+use Rattle.page_spec.specs.Freelists.{Trunk, IsTrunk, AreTrunks, free_pages, trunk_limit, leaf_count, leaf_at}
 use Rattle.page_spec.specs.FreelistsLaws.{free_pages-few}
 use Rattle.tree_spec.specs.Standing.{Sizes, Paged, IsNumber}
 use Rattle.tree_spec.specs.Worlds.{IsFree}
@@ -28,6 +28,10 @@ use Rattle.database_laws.specs.RightFindingsLaws.{numbers_in, right-front, right
 on-if : {A : Type 0} (Q : A → Type 0) (t : Bool) (a b : A) → (t ≡ true → Q a) → (t ≡ false → Q b) → Q (if t then a else b)
 on-if Q true a b p q = p refl
 on-if Q false a b p q = q refl
+
+on-test : {A : Type 0} (Q : A → Type 0) (t : Bool) (a b : A) → (t ≡ true → Q a) → (t ≡ false → Q b) → Q (elim t as (λ _. A) [ true ↦ a | false ↦ b ])
+on-test Q true a b p q = p refl
+on-test Q false a b p q = q refl
 
 -- it is not that a wrong number stands in a page of the freelist
 abbrev pub NotTorn : Found → Type 0
@@ -56,10 +60,10 @@ frees-numbers [] = refl
 frees-numbers (n ∷ numbers) = ap (λ ns. n ∷ ns) (frees-numbers numbers)
 
 module _ (sizes : Sizes) (base : Paged) where
-  number-in : (number : ℕ) → is_number sizes base number ≡ true → IsNumber sizes base number
+  pub number-in : (number : ℕ) → is_number sizes base number ≡ true → IsNumber sizes base number
   number-in number e = record { behind_first = grind (arith, nat_tests, e); within = grind (arith, nat_tests, e); not_lock_byte = λ lock. grind (arith, nat_tests, e, lock) }
 
-  number-is : (number : ℕ) → IsNumber sizes base number → is_number sizes base number ≡ true
+  pub number-is : (number : ℕ) → IsNumber sizes base number → is_number sizes base number ≡ true
   number-is number is = grind (arith, nat_tests, is.behind_first, is.within, is.not_lock_byte)
 
   -- a page of the freelist is one that a link may name
@@ -82,12 +86,13 @@ module _ (sizes : Sizes) (base : Paged) where
 
   -- what is found behind the number of a trunk
   abbrev behind_count : ℕ → ℕ → List Found
-  behind_count left number =
-      if nat_lt (trunk_limit sizes.usable) (leaf_count (base.pages number)) then Tears number ∷ []
-      else leaves_found sizes base number ++ trunks_found sizes base left number (next_page (base.pages number))
+  behind_count left number = elim (nat_lt (trunk_limit sizes.usable) (leaf_count (base.pages number))) as (λ _. List Found) [
+    | true ↦ Tears number ∷ []
+    | false ↦ leaves_found sizes base number ++ trunks_found sizes base left number (next_page (base.pages number))
+  ]
 
   abbrev behind_number : ℕ → ℕ → ℕ → List Found
-  behind_number left holder number = if is_number sizes base number then Frees number ∷ behind_count left number else Tears holder ∷ []
+  behind_number left holder number = elim (is_number sizes base number) as (λ _. List Found) [ false ↦ Tears holder ∷ [] | true ↦ Frees number ∷ behind_count left number ]
 
   -- three tests decide what is found of a trunk
   on-trunk : (Q : List Found → Type 0) (left holder number : ℕ) → (number ≡ 0 → Q []) → (is_number sizes base number ≡ false → number ≢ 0 → Q (Tears holder ∷ []))
@@ -96,14 +101,37 @@ module _ (sizes : Sizes) (base : Paged) where
       → Q (Frees number ∷ (leaves_found sizes base number ++ trunks_found sizes base left number (next_page (base.pages number)))))
       → Q (trunks_found sizes base (suc left) holder number)
   on-trunk Q left holder number ends out many goes =
-      on-if Q (number == 0) [] (behind_number left holder number) (λ e. ends (eqb-true number 0 e))
+      on-test Q (number == 0) [] (behind_number left holder number) (λ e. ends (eqb-true number 0 e))
       (λ e.
-      on-if Q (is_number sizes base number) (Frees number ∷ behind_count left number) (Tears holder ∷ [])
+      on-test Q (is_number sizes base number) (Frees number ∷ behind_count left number) (Tears holder ∷ [])
       (λ is.
-      on-if (λ (found : List Found). Q (Frees number ∷ found)) (nat_lt (trunk_limit sizes.usable) (leaf_count (base.pages number))) (Tears number ∷ [])
+      on-test (λ (found : List Found). Q (Frees number ∷ found)) (nat_lt (trunk_limit sizes.usable) (leaf_count (base.pages number))) (Tears number ∷ [])
       (leaves_found sizes base number ++ trunks_found sizes base left number (next_page (base.pages number)))
       (λ above. many (number-in number is) (grind (arith, nat_tests, above))) (λ below. goes (number-in number is) (grind (arith, nat_tests, below))))
       (λ not_number. out not_number (λ none. true-false (number == 0) (eq-eqb number 0 none) e)))
+
+  -- what is found of a trunk, by what its number and its page say
+  pub trunks-end : (left holder number : ℕ) → number ≡ 0 → trunks_found sizes base (suc left) holder number ≡ []
+  trunks-end left holder number none =
+      on-trunk (λ (found : List Found). found ≡ []) left holder number (λ ends. refl) (λ out apart. absurd (apart none)) (λ is many. absurd (omega (arith, is.behind_first, none)))
+      (λ is few. absurd (omega (arith, is.behind_first, none)))
+
+  pub trunk-out : (left holder number : ℕ) → number ≢ 0 → ¬ IsNumber sizes base number → trunks_found sizes base (suc left) holder number ≡ Tears holder ∷ []
+  trunk-out left holder number some out =
+      on-trunk (λ (found : List Found). found ≡ Tears holder ∷ []) left holder number (λ ends. absurd (some ends)) (λ not_number apart. refl) (λ is many. absurd (out is)) (λ is few. absurd (out is))
+
+  pub trunk-many : (left holder number : ℕ) → IsNumber sizes base number → trunk_limit sizes.usable < leaf_count (base.pages number)
+      → trunks_found sizes base (suc left) holder number ≡ Frees number ∷ (Tears number ∷ [])
+  trunk-many left holder number own above =
+      on-trunk (λ (found : List Found). found ≡ Frees number ∷ (Tears number ∷ [])) left holder number (λ ends. absurd (omega (arith, ends, own.behind_first)))
+      (λ out apart. absurd (true-false (is_number sizes base number) (number-is number own) out)) (λ is many. refl) (λ is few. absurd (omega (arith, few, above)))
+
+  pub trunk-goes_on : (left holder number : ℕ) → IsNumber sizes base number → leaf_count (base.pages number) ≤ trunk_limit sizes.usable
+      → trunks_found sizes base (suc left) holder number ≡ (Frees number ∷ leaves_found sizes base number) ++ trunks_found sizes base left number (next_page (base.pages number))
+  trunk-goes_on left holder number own below =
+      let all = (Frees number ∷ leaves_found sizes base number) ++ trunks_found sizes base left number (next_page (base.pages number)) in
+      on-trunk (λ (found : List Found). found ≡ all) left holder number (λ ends. absurd (omega (arith, ends, own.behind_first)))
+      (λ out apart. absurd (true-false (is_number sizes base number) (number-is number own) out)) (λ is many. absurd (omega (arith, many, below))) (λ is few. refl)
 
   trunks-number : (left holder number : ℕ) → AllByRecursion FreesNumber (trunks_found sizes base left holder number)
   trunks-number zero holder number = tt
@@ -145,7 +173,7 @@ module _ (sizes : Sizes) (base : Paged) where
         | inr out ↦ absurd (subst NotTorn (ap as_test out) right)
       ]
 
-  leaves-right : (trunk : ℕ) (ats : List ℕ) → AllByRecursion NotTorn (map (leaf_found sizes base trunk) ats)
+  pub leaves-right : (trunk : ℕ) (ats : List ℕ) → AllByRecursion NotTorn (map (leaf_found sizes base trunk) ats)
       → (map (leaf_found sizes base trunk) ats ≡ map Frees (leaves trunk ats)) × AllByRecursion (IsNumber sizes base) (leaves trunk ats)
   leaves-right trunk [] right = (refl, tt)
   leaves-right trunk (at ∷ ats) right =
@@ -257,7 +285,7 @@ module _ (sizes : Sizes) (base : Paged) where
       let named : leaf ≡ get_or trunk.leaves k 0 = is.names k within in
       let number : is_number sizes base leaf ≡ true = number-is leaf (subst⁻¹ (IsNumber sizes base) named (is.leaves_in_range k 0 within)) in
       get_or-map-range_with_len (leaf_found sizes base page) 0 count k k (Tears page) (omega (arith, low, long)) (omega arith)
-      ∙ ap (λ (t : Bool). if t then Frees leaf else Tears page) number ∙ ap Frees named ∙ sym (get_or-map Frees trunk.leaves k (Tears page) 0 within))
+      ∙ ap (λ (t : Bool). if t then Frees leaf else Tears page) number ∙ ap Frees named ∙ sym (get_or-map Frees trunk.leaves k 0 (Tears page) within))
 
   trunks-found : (trunks : List Trunk) (left holder number : ℕ) → length trunks < left → AreTrunks base.pages sizes.size sizes.usable base.count number trunks
       → trunks_found sizes base left holder number ≡ map Frees (free_pages trunks)

@@ -1,5 +1,5 @@
 -- A walk that finds nothing wrong is one over a standing tree: crates above cite these facts in their proofs.
-use Rattle.std.proofs.Common.{◌≡◌, ◌≢◌, ℕ, ℤ, zero, suc, ◌+◌, ◌-◌, ◌<◌, ◌≤◌, ◌==◌, ◌⊎◌, Bool, true, false, IsFalse, List, [], ◌∷◌, ◌++◌, length, map, if◌then◌else◌, refl, sym, ap, ap₂, ◌∙◌, subst, inl, inr, arith}
+use Rattle.std.proofs.Common.{◌≡◌, ◌≢◌, ℕ, ℤ, zero, suc, ◌+◌, ◌-◌, ◌<◌, ◌≤◌, ◌==◌, ◌⊎◌, Bool, true, false, IsFalse, List, [], ◌∷◌, ◌++◌, length, map, if◌then◌else◌, refl, sym, ap, ◌∙◌, subst, inl, inr, arith}
 use Rattle.std.proofs.Math.Path.{subst⁻¹}
 use Rattle.std.proofs.lemmas.Bool.{ne_eqb}
 use Rattle.std.specs.List.{flat_map, AllByRecursion}
@@ -12,11 +12,11 @@ use Rattle.cell_codec.specs.CellLaws.{cell-same}
 use Rattle.refusal.specs.declared.Rule.TheVariants as broken
 use Rattle.tree_spec.specs.declared.TreeKind.{TreeKind}
 use Rattle.tree_spec.specs.declared.TreeKind.TheVariants.{Table, Index}
-use Rattle.tree_spec.specs.Trees.{TreeCell, TreeOf, Rooted, Member, member, between, leaf_kind, interior_kind, kind_at, page_of, own_cells, own_right, cells_behind, chain_pages, pages_of, pages_beside, list_of, list_beside, IsFull, IsFullBelow, IsFullRoot, root_of, pages_in, list_in, greatest_depth}
+use Rattle.tree_spec.specs.Trees.{TreeCell, TreeOf, Rooted, Member, member, between, leaf_kind, interior_kind, page_of, own_cells, cells_behind, chain_pages, pages_of, pages_beside, list_of, list_beside, IsFull, IsFullBelow, IsFullRoot, root_of, pages_in, list_in, greatest_depth}
 use Rattle.tree_spec.specs.Bounds.{RisesIn, BesideIn, InOrder, IsOrdered, below_rowids, greatest_rowid}
 use Rattle.tree_spec.specs.WorldsLaws.{all-front, all-back}
-use Rattle.tree_spec.specs.Standing.{Sizes, Paged, IsNumber, IsHeld, HasOwnPage, Stands, StandsBefore, StandsLast, IsRoot}
-use Rattle.database_spec.specs.Walks.{Finding, Finds, Ends, Holds, Breaks, Disorders, Bares, Seen, bytes_seen, is_empty, bare, IsRising, IsAccepted, IsCellVisit, AreCellVisits, IsChildVisit, AreChildVisits, GoesOn, IsInside, IsRead, IsVisit, IsWalk, members_found, pages_found, IsFlawless}
+use Rattle.tree_spec.specs.Standing.{Sizes, Paged, IsNumber, IsHeld, Stands, StandsBefore, StandsLast, IsRoot}
+use Rattle.database_spec.specs.Walks.{Finding, Finds, Ends, Breaks, Bares, Seen, bytes_seen, is_empty, bare, IsRising, IsAccepted, IsCellVisit, AreCellVisits, IsChildVisit, AreChildVisits, GoesOn, IsInside, IsRead, IsVisit, IsWalk, members_found, pages_found, IsFlawless}
 use Rattle.database_spec.specs.TreeWalksLaws.{members-join, numbers-join, chain-members, chain-numbers, regroup, seen, seen-bytes, IsBounded, AreBounded, HasRootCell}
 
 leaf-right : (kind : TreeKind) (page : List ℕ) (place right : ℕ) → RightChild (leaf_kind kind) page place right → right ≡ 0

@@ -4,3 +4,4 @@ pub mod RightFindingsLaws
 pub mod FoundFreelistsLaws
 pub mod SubjectsLaws
 pub mod RightFilesLaws
+pub mod SoundFilesLaws

@@ -1,51 +1,48 @@
 -- A file in which all that is found is right is sound: crates above cite these facts in their proofs.
-use Rattle.std.proofs.Common.{◌≡◌, ◌≢◌, ℕ, zero, suc, ◌+◌, ◌<◌, ◌≤◌, ◌==◌, ◌&&◌, ◌||◌, ◌⊎◌, not, nat_le, Bool, true, false, IsTrue, IsFalse, List, [], ◌∷◌, ◌++◌, length, map, filter, if◌then◌else◌, Option, Some, None, Result, Ok, Err, is_ok, refl, sym, ap, ap₂, ◌∙◌, subst, inl, inr, arith, append_assoc}
+use Rattle.std.proofs.Common.{◌≡◌, ◌≢◌, ℕ, zero, suc, ◌+◌, ◌<◌, ◌≤◌, ◌==◌, ◌&&◌, not, Bool, true, false, List, [], ◌∷◌, ◌++◌, map, filter, if◌then◌else◌, Result, Ok, Err, is_ok, refl, sym, ap, ap₂, ◌∙◌, subst, inl, inr, arith}
 use Rattle.std.proofs.Math.Path.{subst⁻¹}
 use Rattle.std.specs.Prelude.{AllPairs, filter_map, IfOk}
 use Rattle.std.specs.List.{flat_map, list_any, AllZip, AllByRecursion, range_with_len}
 use Rattle.std.proofs.lemmas.Bool.{cases_lt, cases_eq, eq-eqb, eqb-true, ne_eqb}
 use Rattle.std.proofs.lemmas.Bool.Decides.{nat_tests}
-use Rattle.std.proofs.lemmas.List.{append-nil}
 use Rattle.std.proofs.lemmas.List.Elements.{filter_map-append}
-use Rattle.rbu_value.specs.declared.value.Value.{Value}
-use Rattle.page_spec.specs.Pages.{Pages, IsInRange, lock_byte_page, next_page}
+use Rattle.page_spec.specs.Pages.{lock_byte_page, next_page}
 use Rattle.page_spec.specs.Chains.{AreLinked}
 use Rattle.page_spec.specs.Counts.{times}
 use Rattle.page_spec.specs.CountsLaws.{times-append, times-cons, times-itself, times-other, times-all}
 use Rattle.page_spec.specs.FreePages.{due}
 use Rattle.page_spec.specs.FreePagesLaws.{due-most, due-first, due-within, due-other}
-use Rattle.page_spec.specs.Freelists.{Trunk, free_pages}
+use Rattle.page_spec.specs.Freelists.{free_pages}
 use Rattle.page_spec.specs.FreelistsLaws.{free-in_range}
-use Rattle.format_spec.specs.Header.{freelist_trunk, freelist_pages}
+use Rattle.format_spec.specs.Header.{freelist_trunk}
 use Rattle.format_spec.specs.declared.PageKind.{PageKind}
 use Rattle.schema_spec.specs.declared.schema.SqlFault.{SqlFault}
 use Rattle.schema_spec.specs.declared.schema.Table.{Table}
 use Rattle.schema_spec.specs.declared.schema.Index.{Index}
 use Rattle.tree_spec.specs.declared.TreeKind.{TreeKind}
 use Rattle.tree_spec.specs.declared.TreeKind.TheVariants as tree
-use Rattle.tree_spec.specs.Trees.{TreeCell, TreeOf, Rooted, Member, leaf_kind, interior_kind, page_of, chain_pages, pages_of, pages_below, root_of, pages_in, list_in}
-use Rattle.tree_spec.specs.Standing.{Sizes, Paged, IsNumber, IsRootNumber, IsHeld, HasBelow, Stands, StandsBefore, IsRoot}
+use Rattle.tree_spec.specs.Trees.{TreeCell, TreeOf, Rooted, Member, leaf_kind, page_of, chain_pages, pages_of, pages_below, root_of, pages_in, list_in}
+use Rattle.tree_spec.specs.Standing.{Sizes, Paged, IsNumber, IsRootNumber, IsHeld, HasBelow, StandsBefore, IsRoot}
 use Rattle.tree_spec.specs.OneTreeLaws.{rooted-one}
 use Rattle.tree_spec.specs.Worlds.{World, all_pages, greatest_count, IsWorld}
 use Rattle.tree_spec.specs.WorldsLaws.{all-join}
-use Rattle.database_spec.specs.declared.catalog.Entry.{Entry}
 use Rattle.database_spec.specs.declared.catalog.NamedEntry.{NamedEntry}
 use Rattle.database_spec.specs.declared.catalog.Catalog.{Catalog}
 use Rattle.database_spec.specs.RightRows.{HasCatalog}
-use Rattle.database_spec.specs.Walks.{Finding, Finds, Ends, Holds, Breaks, Disorders, Bares, IsWalk, members_found, pages_found, stops, IsList, IsFlawless}
+use Rattle.database_spec.specs.Walks.{Finding, Finds, Ends, Holds, Breaks, Disorders, Bares, IsWalk, members_found, pages_found, IsList}
 use Rattle.database_spec.specs.TreeWalksLaws.{flawless-goes_on}
-use Rattle.database_spec.specs.ItemsLaws.{Has, has-left, has-right, has-map, map-has, has-filter, filter-has, any-has, has-any, decide, true-false}
+use Rattle.database_spec.specs.ItemsLaws.{Has, has-left, has-right, map-has, has-filter, filter-has, any-has, has-any, decide, true-false}
 use Rattle.database_spec.specs.Rows.{TableRow, IsRow, IsPlain}
 use Rattle.database_spec.specs.RowsLaws.{plain-one}
 use Rattle.database_spec.specs.Keys.{IsIndexOf}
-use Rattle.database_spec.specs.Databases.{Database, header_of, list_at, table_roots, index_roots, is_among, HasItsKind, IsReadable, IsWhole, HoldsProjection, HoldsProjections, IsSound}
-use Rattle.database_spec.specs.FileFindings.{Content, Rows, Entries, Anything, Subject, Walked, Found, InTree, Frees, Tears, Counts, Needs, Compares, table_kind, table_content, own_subject, IsIndexContent, IsIndexSubject, schema_subject, AreSubjects, IsWalked, freelist_found, pages_needed, tree_found, content_compared, compared, AreFound}
+use Rattle.database_spec.specs.Databases.{Database, header_of, list_at, table_roots, index_roots, HasItsKind, IsReadable, IsWhole, HoldsProjection, HoldsProjections, IsSound}
+use Rattle.database_spec.specs.FileFindings.{Content, Rows, Entries, Anything, Subject, Walked, Found, InTree, Frees, Tears, Counts, Needs, Compares, table_kind, table_content, IsIndexContent, schema_subject, IsWalked, freelist_found, pages_needed, tree_found, content_compared, compared, AreFound}
 use Rattle.database_spec.specs.FileFaults.{page_found, is_found, free_page, ends_elsewhere}
 use Rattle.database_laws.specs.RightFindings.{IsRightMember, IsRight, AreRight}
-use Rattle.database_laws.specs.FoundTreesLaws.{AreFlawless, FoundRoot, walk-tree}
+use Rattle.database_laws.specs.FoundTreesLaws.{AreFlawless, walk-tree}
 use Rattle.database_laws.specs.RightFindingsLaws.{numbers_in, numbers-append, found-some, found-none, right-front, right-back}
 use Rattle.database_laws.specs.FoundFreelistsLaws.{FoundFreelist, freelist-of}
-use Rattle.database_laws.specs.SubjectsLaws.{zip-has, has-zip, joined-has, has-joined, OfTable, OfIndex, origin-of, schema-stands, table-stands, index-stands, subject-one, own-tree, own_tree, read-number, subject-number, roots-are}
+use Rattle.database_laws.specs.SubjectsLaws.{zip-has, has-zip, joined-has, has-joined, schema-stands, table-stands, index-stands, subject-one, own-tree, own_tree, read-number, subject-number, roots-are}
 
 -- Lists.
 
@@ -71,7 +68,7 @@ if_ok-each (Ok x) P each = each x refl
 if_ok-each (Err e) P each = tt
 
 false-any : {A : Type 0} (p : A → Bool) (xs : List A) (x : A) → list_any p xs ≡ false → Has x xs → p x ≡ false
-false-any p xs x none h = elim (decide (p x)) [ inl yes ↦ absurd (true-false (list_any p xs) (has-any p xs x h yes) none) | inr no ↦ no ]
+false-any p xs x none h = elim (decide (p x)) [ inl passes ↦ absurd (true-false (list_any p xs) (has-any p xs x h passes) none) | inr fails ↦ fails ]
 
 -- Pages.
 
@@ -266,7 +263,9 @@ module _ (sizes : Sizes) (base : Paged) where
         | inl same ↦
             let other = all-of (IsRoot sizes base) (one ∷ trees) rooted all h in
             ap as_test (eq-eqb (root_of one) (root_of rooted) same) ∙ ap list_in (rooted-one sizes base one rooted same all.0.stands other.stands)
-        | inr apart ↦ ap as_test (ne_eqb (root_of one) (root_of rooted) apart) ∙ elim h [ inl e ↦ absurd (apart (ap root_of e)) | inr later ↦ list-known trees rooted all.1 later ]
+        | inr apart ↦
+            let rest : list_at (lists_of trees) (root_of rooted) ≡ list_in rooted = elim h [ inl e ↦ absurd (apart (ap root_of e)) | inr later ↦ list-known trees rooted all.1 later ] in
+            ap as_test (ne_eqb (root_of one) (root_of rooted) apart) ∙ rest
       ]
 
   -- Each page of a tree is one that a link may name, but for its root.
@@ -326,7 +325,7 @@ module _ (sizes : Sizes) (base : Paged) where
         | inr none ↦ trees-number n trees all.1 roots.1 (omega (arith, some, none, times-append n (pages_in rooted) (flat_map pages_in trees)))
       ]
 
-  due-root : (n : ℕ) → IsRootNumber sizes base n → due sizes.size base.count n ≡ 1
+  pub due-root : (n : ℕ) → IsRootNumber sizes base n → due sizes.size base.count n ≡ 1
   unfolding due
   due-root n is = grind (arith, nat_tests, is.first, is.within, is.not_lock_byte)
 
@@ -465,7 +464,7 @@ module _ (sizes : Sizes) (base : Paged) (catalog : Catalog) (found : List Found)
         table = λ among.
             let root = any-has (λ (other : ℕ). other == root_of rooted) (table_roots catalog) among in
             let here = eqb-true root.0 (root_of rooted) root.2 in
-            own.3 ∙ elim root.1 [
+            let kind : own.0.kind ≡ tree.Table = elim root.1 [
               | inl one ↦ ap (λ (s : Subject). s.kind) (one-subject own.0 (schema_subject sizes base) own.1 (schema-stands sizes base catalog are.subjects has are.are_subjects) (sym own.2 ∙ sym here ∙ sym one))
               | inr later ↦
                   let named = map-has (λ (n : NamedEntry). n.entry.root) (filter (λ (n : NamedEntry). is_ok n.entry.meaning) catalog.tables) root.0 later in
@@ -474,7 +473,8 @@ module _ (sizes : Sizes) (base : Paged) (catalog : Catalog) (found : List Found)
                   let stands = own-stands named.0 kept.0 (λ none. absurd (omega (arith, none, named.2, here, number.first))) in
                   ap (λ (s : Subject). s.kind) (one-subject own.0 (own_tree sizes base catalog are.subjects has are.are_subjects entry) own.1 stands (sym own.2 ∙ sym here ∙ sym named.2))
                   ∙ ap (λ (t : Bool). table_kind t (base.pages entry.root) entry.root) kept.1
-            ];
+            ] in
+            own.3 ∙ kind;
         index = λ among.
             let root = any-has (λ (other : ℕ). other == root_of rooted) (index_roots catalog) among in
             let here = eqb-true root.0 (root_of rooted) root.2 in
@@ -536,7 +536,7 @@ module _ (sizes : Sizes) (base : Paged) (catalog : Catalog) (found : List Found)
       let own = index-stands sizes base catalog are.subjects has are.are_subjects named index h among in
       let walked = walk-of own.0 own.1 in
       let list : list_at lists index.0 ≡ members_found walked.0.findings = ap (list_at lists) (sym own.2.root) ∙ list-of own.0 walked.0 walked.1 walked.2 in
-      subst⁻¹ (IsIndexOf read rows) list (by own.0.content own.2.content (ap (λ (s : Subject). s.content) walked.2.subject_is) walked.0 walked.1)
+      subst⁻¹ (IsIndexOf read rows) list (by own.0.content own.2.content walked.0 (ap (λ (s : Subject). s.content) walked.2.subject_is) walked.1)
     where
       by : (content : Content) → IsIndexContent sizes base named.entry index.1 content → (walked : Walked) → walked.subject.content ≡ content → Has walked are.walks → IsIndexOf read rows (members_found walked.findings)
       by Rows is walked same stands = absurd is
@@ -562,7 +562,7 @@ module _ (sizes : Sizes) (base : Paged) (catalog : Catalog) (found : List Found)
     kinds = all-has (HasItsKind catalog) trees kind-of;
     header = refl;
     lists = refl;
-    readable = all-has (λ named. IfOk named.entry.meaning (λ table. AllByRecursion IsReadable (list_at lists named.entry.root))) catalog.tables readable;
+    readable = all-has (λ (named : NamedEntry). IfOk named.entry.meaning (λ table. AllByRecursion IsReadable (list_at lists named.entry.root))) catalog.tables readable;
   }
 
   -- so it is sound
@@ -575,6 +575,6 @@ module _ (sizes : Sizes) (base : Paged) (catalog : Catalog) (found : List Found)
           (λ named h table rows e are_rows.
           let is_plain = plain named table rows h e are_rows in
           all-has (HoldsProjection lists rows) named.entry.indexes
-              (λ index among. if_ok-each index.1 (λ read. IsIndexOf read rows (list_at lists index.0)) (λ read is. projection named table rows index read h is_plain among is)));
+          (λ index among. if_ok-each index.1 (λ read. IsIndexOf read rows (list_at lists index.0)) (λ read is. projection named table rows index read h is_plain among is)));
     },
   )

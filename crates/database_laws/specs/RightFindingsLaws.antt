@@ -1,11 +1,12 @@
 -- What is right is not wrong: crates above cite these facts in their proofs.
-use Rattle.std.proofs.Common.{◌≡◌, ◌≢◌, ℕ, ℤ, zero, suc, ◌+◌, ◌<◌, ◌≤◌, ◌==◌, ◌&&◌, ◌||◌, ◌⊎◌, not, Bool, true, false, IsTrue, IsFalse, List, [], ◌∷◌, ◌++◌, length, map, refl, sym, ap, ap₂, ◌∙◌, subst, inl, inr, arith, append_assoc}
+use Rattle.std.proofs.Common.{◌≡◌, ℕ, ℤ, ◌+◌, ◌<◌, ◌==◌, ◌||◌, ◌⊎◌, true, false, List, [], ◌∷◌, ◌++◌, map, refl, sym, ap, ◌∙◌, subst, inl, inr, arith, append_assoc}
 use Rattle.std.proofs.Math.Path.{subst⁻¹}
 use Rattle.std.specs.Prelude.{AllPairs, Any, Contains, filter_map, slice_index_or}
-use Rattle.std.specs.List.{list_any, AllZip, AllByRecursion}
+use Rattle.std.specs.List.{list_any, AllByRecursion}
 use Rattle.std.proofs.lemmas.Bool.{cases_lt, cases_eq, eq-eqb, ne_eqb}
 use Rattle.std.proofs.lemmas.List.{get_or_default, append-nil}
 use Rattle.std.proofs.lemmas.List.Elements.{filter_map-append}
+use Rattle.std.proofs.lemmas.List.Folds.{list_any-append}
 use Rattle.std.proofs.lemmas.List.Sorted.{Contains-permutation, IsPermutation-sym}
 use Rattle.rbu_value.specs.declared.value.Value.{Value}
 use Rattle.format_spec.specs.Record.{IsRecord}
@@ -23,7 +24,7 @@ use Rattle.database_spec.specs.RowsLaws.{record-one}
 use Rattle.database_spec.specs.Keys.{IsBefore, entry_of, Clash, IsIndexOf}
 use Rattle.database_spec.specs.KeysLaws.{before-apart}
 use Rattle.database_spec.specs.FileFindings.{Content, Rows, Entries, Anything, Subject, Found, InTree, Frees, Tears, Counts, Needs, Compares}
-use Rattle.database_spec.specs.FileFaults.{page_found, is_found, IsEntry, NotBefore, IsWrongMember, IsWrongInTree, Disagrees, FirstDisagrees, IsWrong, FirstWrong}
+use Rattle.database_spec.specs.FileFaults.{page_found, is_found, ends_elsewhere, NotBefore, IsWrongMember, IsWrongInTree, Disagrees, FirstDisagrees, IsWrong, FirstWrong}
 use Rattle.database_laws.specs.RightFindings.{IsAfter, IsRightMember, IsRightInTree, IsRight, AreRight}
 
 -- Lists.
@@ -162,3 +163,21 @@ pub right-join : (before xs ys : List Found) → AreRight before xs → AreRight
 right-join before [] ys front back = subst (λ (b : List Found). AreRight b ys) (append-nil before) back
 right-join before (x ∷ xs) ys front back =
     (front.0, right-join (before ++ x ∷ []) xs ys front.1 (subst⁻¹ (λ (b : List Found). AreRight b ys) (append_assoc before (x ∷ []) xs) back))
+
+-- a first fault of a part is that of the whole
+pub wrong-front : (before xs ys : List Found) (fault : FileFault) → FirstWrong before xs fault → FirstWrong before (xs ++ ys) fault
+wrong-front before [] ys fault wrong = absurd wrong
+wrong-front before (x ∷ xs) ys fault (inl wrong) = inl wrong
+wrong-front before (x ∷ xs) ys fault (inr rest) = inr (rest.0, wrong-front (before ++ x ∷ []) xs ys fault rest.1)
+
+pub wrong-back : (before xs ys : List Found) (fault : FileFault) → AreRight before xs → FirstWrong (before ++ xs) ys fault → FirstWrong before (xs ++ ys) fault
+wrong-back before [] ys fault right wrong = subst (λ (b : List Found). FirstWrong b ys fault) (append-nil before) wrong
+wrong-back before (x ∷ xs) ys fault right wrong =
+    inr (
+      λ other. right-not_wrong before x other right.0,
+      wrong-back (before ++ x ∷ []) xs ys fault right.1 (subst⁻¹ (λ (b : List Found). FirstWrong b ys fault) (append_assoc before (x ∷ []) xs) wrong),
+    )
+
+-- what is found in two parts
+pub found-append : (n : ℕ) (xs ys : List Found) → is_found n (xs ++ ys) ≡ (is_found n xs || is_found n ys)
+found-append n xs ys = ap (list_any (λ (x : ℕ). x == n)) (filter_map-append page_found xs ys) ∙ list_any-append (λ (x : ℕ). x == n) (numbers_in xs) (numbers_in ys)

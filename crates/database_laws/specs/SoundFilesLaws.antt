@@ -1,9 +1,9 @@
 -- In a sound file all that is found is right: crates above cite these facts in their proofs.
-use Rattle.std.proofs.Common.{◌≡◌, ◌≢◌, ℕ, ℤ, zero, suc, ◌+◌, ◌<◌, ◌≤◌, ◌==◌, ◌&&◌, ◌||◌, ◌⊎◌, not, Bool, true, false, IsTrue, IsFalse, List, [], ◌∷◌, ◌++◌, length, map, filter, if◌then◌else◌, slice_index, get_or, Option, Some, None, Result, Ok, Err, is_ok, refl, sym, ap, ap₂, ◌∙◌, subst, inl, inr, arith, append_assoc, length-append}
+use Rattle.std.proofs.Common.{◌≡◌, ◌≢◌, ℕ, zero, suc, ◌+◌, ◌<◌, ◌≤◌, ◌==◌, ◌&&◌, ◌||◌, not, Bool, true, false, List, [], ◌∷◌, ◌++◌, length, map, filter, if◌then◌else◌, slice_index, Result, Ok, Err, is_ok, refl, sym, ap, ap₂, ◌∙◌, subst, inl, inr, arith, length-append}
 use Rattle.std.proofs.Math.Path.{subst⁻¹}
-use Rattle.std.specs.Prelude.{AllPairs, Contains, filter_map, IfOk, slice_index_or}
+use Rattle.std.specs.Prelude.{AllPairs, filter_map, IfOk, slice_index_or}
 use Rattle.std.specs.List.{flat_map, list_any, AllZip, AllByRecursion, range_with_len}
-use Rattle.std.proofs.lemmas.Bool.{cases_lt, cases_eq, eq-eqb, eqb-true, ne_eqb}
+use Rattle.std.proofs.lemmas.Bool.{cases_eq, eq-eqb, ne_eqb}
 use Rattle.std.proofs.lemmas.List.{append-nil, length-map}
 use Rattle.std.proofs.lemmas.List.Elements.{filter_map-append, recursion_from_All}
 use Rattle.std.proofs.lemmas.List.Sorted.{Contains-permutation, IsPermutation-sym}
@@ -18,15 +18,15 @@ use Rattle.page_spec.specs.Counts.{times}
 use Rattle.page_spec.specs.CountsLaws.{times-append, times-cons, times-itself}
 use Rattle.page_spec.specs.FreePages.{due}
 use Rattle.page_spec.specs.FreePagesLaws.{due-most}
-use Rattle.page_spec.specs.Freelists.{Trunk, free_pages}
+use Rattle.page_spec.specs.Freelists.{free_pages}
 use Rattle.schema_spec.specs.declared.schema.SqlFault.{SqlFault}
 use Rattle.schema_spec.specs.declared.schema.Table.{Table}
 use Rattle.schema_spec.specs.declared.schema.Index.{Index}
 use Rattle.tree_spec.specs.declared.TreeKind.{TreeKind}
 use Rattle.tree_spec.specs.declared.TreeKind.TheVariants as tree
-use Rattle.tree_spec.specs.Trees.{Rooted, Member, kind_at, root_of, pages_in, list_in, depth_of, greatest_depth}
-use Rattle.tree_spec.specs.Standing.{Sizes, Paged, IsNumber, IsRootNumber, IsRoot}
-use Rattle.tree_spec.specs.Worlds.{World, all_pages, IsWorld}
+use Rattle.tree_spec.specs.Trees.{Rooted, Member, kind_at, root_of, pages_in, depth_of, greatest_depth}
+use Rattle.tree_spec.specs.Standing.{Sizes, Paged, IsRootNumber, IsRoot}
+use Rattle.tree_spec.specs.Worlds.{World, IsWorld}
 use Rattle.tree_spec.specs.WorldsLaws.{all-join, world-deep}
 use Rattle.database_spec.specs.declared.catalog.NamedEntry.{NamedEntry}
 use Rattle.database_spec.specs.declared.catalog.Catalog.{Catalog}
@@ -37,19 +37,19 @@ use Rattle.database_spec.specs.Walks.{Finding, Finds, Ends, Holds, Breaks, Disor
 use Rattle.database_spec.specs.WalksLaws.{walk-one}
 use Rattle.database_spec.specs.TreeWalksLaws.{root-found, flawless-goes_on}
 use Rattle.database_spec.specs.ListsLaws.{PairsByRecursion}
-use Rattle.database_spec.specs.ItemsLaws.{Has, has-from, has-to, has-left, has-right, has-map, map-has, has-filter, filter-has, any-has, has-any, decide, true-false}
+use Rattle.database_spec.specs.ItemsLaws.{Has, has-from, has-to, has-map, map-has, has-filter, filter-has, has-any, decide, true-false}
 use Rattle.database_spec.specs.Rows.{TableRow, IsRow, IsPlain}
 use Rattle.database_spec.specs.RowsLaws.{record-one}
-use Rattle.database_spec.specs.Keys.{order_of, last_value, IsBefore, entry_of, IsIndexOf}
-use Rattle.database_spec.specs.Databases.{Database, list_at, table_roots, index_roots, HasItsKind, IsReadable, IsWhole, HoldsProjection, HoldsProjections, IsSound}
-use Rattle.database_spec.specs.FileFindings.{Content, Rows, Entries, Anything, Subject, Walked, Found, InTree, Frees, Tears, Counts, Needs, Compares, own_kind, table_kind, table_content, IsIndexContent, schema_subject, IsWalked, freelist_found, pages_needed, tree_found, content_compared, compared, AreFound}
+use Rattle.database_spec.specs.Keys.{order_of, IsBefore, entry_of, IsIndexOf}
+use Rattle.database_spec.specs.Databases.{Database, list_at, table_roots, index_roots, HasItsKind, IsReadable, HoldsProjection, HoldsProjections, IsSound}
+use Rattle.database_spec.specs.FileFindings.{Content, Rows, Entries, Anything, Subject, Walked, Found, InTree, Frees, Tears, Counts, Needs, Compares, own_kind, table_kind, table_content, IsIndexContent, IsWalked, freelist_found, pages_needed, tree_found, content_compared, compared, AreFound}
 use Rattle.database_spec.specs.FileFaults.{page_found, free_page, ends_elsewhere, IsEntry, FileHasFault}
-use Rattle.database_laws.specs.RightFindings.{IsAfter, IsRightMember, IsRight, AreRight}
+use Rattle.database_laws.specs.RightFindings.{IsAfter, IsRightMember, AreRight}
 use Rattle.database_laws.specs.FoundTreesLaws.{AreFlawless}
 use Rattle.database_laws.specs.RightFindingsLaws.{numbers_in, numbers-append, none-found, some-found, right-join, are_right-not_wrong}
 use Rattle.database_laws.specs.FoundFreelistsLaws.{frees-numbers, frees-free, freelist-found}
-use Rattle.database_laws.specs.SubjectsLaws.{zip-has, has-zip, has-joined, OfTable, OfIndex, origin-of, table-stands, subject-one, own_tree, own-tree, tree-own, read-number, roots-are}
-use Rattle.database_laws.specs.RightFilesLaws.{all-of, all-has, in_tree, tree-numbers, trees-free, needs-numbers, StandsFor, trees-numbers, lists_of, list-known, due-root}
+use Rattle.database_laws.specs.SubjectsLaws.{zip-has, has-zip, has-joined, OfTable, origin-of, table-stands, own_tree, own-tree, tree-own, read-number, roots-are}
+use Rattle.database_laws.specs.RightFilesLaws.{all-of, all-has, in_tree, tree-numbers, trees-free, StandsFor, trees-numbers, lists_of, list-known, due-root}
 
 -- Lists.
 
@@ -62,8 +62,8 @@ and-false true u e = e
 and-false false u e = refl
 
 all-then : {A : Type 0} (P Q : A → Type 0) (xs : List A) → ((x : A) → P x → Q x) → AllByRecursion P xs → AllByRecursion Q xs
-all-then P Q [] then all = tt
-all-then P Q (x ∷ xs) then all = (then x all.0, all-then P Q xs then all.1)
+all-then P Q [] step all = tt
+all-then P Q (x ∷ xs) step all = (step x all.0, all-then P Q xs step all.1)
 
 pairs-to : {A : Type 0} (R : A → A → Type 0) (xs : List A) → AllPairs R xs → PairsByRecursion R xs
 pairs-to R [] all = tt
@@ -114,8 +114,7 @@ entries-are index rows [] [] decoded from = tt
 entries-are index rows [] (e ∷ entries) decoded from = absurd decoded
 entries-are index rows (m ∷ members) [] decoded from = absurd decoded
 entries-are index rows (m ∷ members) (e ∷ entries) decoded from =
-    let row = map-has (entry_of index) rows e (from e (inl refl)) in
-    (
+    let row = map-has (entry_of index) rows e (from e (inl refl)) in (
       subst (IsEntry index m) row.2 (row-entry index m row.0 (subst⁻¹ (IsRecord m.payload) row.2 decoded.0)),
       entries-are index rows members entries decoded.1 (λ other h. from other (inr h)),
     )
@@ -235,15 +234,13 @@ module _ (subject : Subject) (deepest : ℕ) where
   findings-right before [] once fits flawless on = tt
   findings-right before (Finds page ∷ findings) once fits flawless on =
       let here = InTree subject (Finds page) in
-      let counts = λ (n : ℕ). times-cons n page (pages_found findings) in
-      (
+      let counts = λ (n : ℕ). times-cons n page (pages_found findings) in (
         none-found page (numbers_in before) (omega (arith, once page, counts page, times-itself page)),
         findings-right (before ++ here ∷ []) findings (λ n. omega (arith, once n, counts n, numbers-append n before (here ∷ []))) (all-join (FitsEnd subject.root deepest) before (here ∷ []) fits (tt, tt))
             flawless.1 (go-past subject.root before here subject.content (members_found findings) (λ index entry. tt) on),
       )
   findings-right before (Ends page depth ∷ findings) once fits flawless on =
-      let here = InTree subject (Ends page depth) in
-      (
+      let here = InTree subject (Ends page depth) in (
         none-any (ends_elsewhere subject.root depth) before (all-then (FitsEnd subject.root deepest) (λ one. ends_elsewhere subject.root depth one ≡ false) before (end-fits subject.root deepest depth flawless.0) fits),
         findings-right (before ++ here ∷ []) findings (λ n. omega (arith, once n, numbers-append n before (here ∷ [])))
             (all-join (FitsEnd subject.root deepest) before (here ∷ []) fits (λ same. flawless.0, tt)) flawless.1
@@ -251,8 +248,7 @@ module _ (subject : Subject) (deepest : ℕ) where
       )
   findings-right before (Holds page member ∷ findings) once fits flawless on =
       let here = InTree subject (Holds page member) in
-      let step = go-member subject before page subject.content member (members_found findings) on in
-      (
+      let step = go-member subject before page subject.content member (members_found findings) on in (
         step.0,
         findings-right (before ++ here ∷ []) findings (λ n. omega (arith, once n, numbers-append n before (here ∷ []))) (all-join (FitsEnd subject.root deepest) before (here ∷ []) fits (tt, tt))
             flawless.1 step.1,
@@ -431,8 +427,7 @@ module _ (sizes : Sizes) (base : Paged) (catalog : Catalog) (db : Database) (fou
       let root : root_of rooted ≡ s.root = cc in
       let rest : map root_of roots ≡ map (λ (x : Subject). x.root) some = cc in
       let stands = in_trees rooted (inl refl) in
-      let is_root = all-of (IsRoot sizes base) trees rooted is.whole.is_world.trees stands in
-      (
+      let is_root = all-of (IsRoot sizes base) trees rooted is.whole.is_world.trees stands in (
         known s w rooted walked.0 root (kind-is s rooted (in_subjects s (inl refl)) stands root) is_root (deep rooted stands),
         all-known some more roots rest walked.1 (λ x h. in_subjects x (inr h)) (λ x h. in_trees x (inr h)),
       )
@@ -477,8 +472,7 @@ module _ (sizes : Sizes) (base : Paged) (catalog : Catalog) (db : Database) (fou
   is-list : (subject : Subject) → Has subject subjects → IsList sizes base subject.kind subject.root (list_at db.lists subject.root)
   is-list subject h =
       let walked = walk-of subject h in
-      let rooted = has-zip Known walks trees walked.0 known-walks walked.1 in
-      (
+      let rooted = has-zip Known walks trees walked.0 known-walks walked.1 in (
         walked.0.findings,
         walked.2.is_walk,
         flawless-goes_on (depth_of rooted.0) walked.0.findings rooted.2.flawless,

@@ -1,10 +1,10 @@
 -- The trees that a check goes through are those of the catalog: crates above cite these facts in their proofs.
-use Rattle.std.proofs.Common.{◌≡◌, ◌≢◌, ℕ, zero, suc, ◌+◌, ◌<◌, ◌≤◌, ◌==◌, ◌&&◌, ◌||◌, ◌⊎◌, not, Bool, true, false, IsTrue, IsFalse, List, [], ◌∷◌, ◌++◌, length, map, filter, if◌then◌else◌, get_or, Option, Some, None, Result, Ok, Err, is_ok, refl, sym, ap, ap₂, ◌∙◌, subst, inl, inr, arith}
+use Rattle.std.proofs.Common.{◌≡◌, ◌≢◌, ℕ, ◌<◌, ◌==◌, ◌&&◌, ◌⊎◌, not, Bool, true, false, List, [], ◌∷◌, ◌++◌, length, map, filter, if◌then◌else◌, Option, Some, None, Result, Ok, is_ok, refl, sym, ap, ap₂, ◌∙◌, subst, inl, inr, arith}
 use Rattle.std.proofs.Math.Path.{subst⁻¹}
-use Rattle.std.specs.Prelude.{AllPairs, Contains, IsPermutation}
-use Rattle.std.specs.List.{flat_map, list_any, AllZip, AllByRecursion}
+use Rattle.std.specs.Prelude.{AllPairs, IsPermutation}
+use Rattle.std.specs.List.{flat_map, AllZip}
 use Rattle.std.specs.Str.{str_to_ascii_lowercase}
-use Rattle.std.proofs.lemmas.Bool.{cases_eq, eq-eqb, eqb-true, ne_eqb, and_parts}
+use Rattle.std.proofs.lemmas.Bool.{cases_eq, eq-eqb, ne_eqb, and_parts}
 use Rattle.std.proofs.lemmas.List.{length-map, get_or-map}
 use Rattle.std.proofs.lemmas.List.Sorted.{Contains-permutation, IsPermutation-sym}
 use Rattle.std.proofs.lemmas.Slice.Eq.{bytes_eq-Decides}
@@ -12,21 +12,19 @@ use Rattle.schema_spec.specs.declared.schema.SqlFault.{SqlFault}
 use Rattle.schema_spec.specs.declared.schema.Table.{Table}
 use Rattle.schema_spec.specs.declared.schema.Index.{Index}
 use Rattle.schema_spec.specs.Words.{same_name}
-use Rattle.tree_spec.specs.declared.TreeKind.{TreeKind}
-use Rattle.tree_spec.specs.declared.TreeKind.TheVariants as tree
-use Rattle.tree_spec.specs.Standing.{Sizes, Paged, IsNumber, IsRootNumber}
+use Rattle.tree_spec.specs.Standing.{Sizes, Paged, IsNumber}
 use Rattle.database_spec.specs.declared.catalog.SchemaKind.{SchemaKind}
 use Rattle.database_spec.specs.declared.catalog.SchemaKind.TheVariants as kind
 use Rattle.database_spec.specs.declared.catalog.Entry.{Entry}
 use Rattle.database_spec.specs.declared.catalog.NamedEntry.{NamedEntry}
 use Rattle.database_spec.specs.declared.catalog.Catalog.{Catalog}
 use Rattle.database_spec.specs.declared.catalog.SchemaRow.{SchemaRow}
-use Rattle.database_spec.specs.Catalogs.{is_table, is_index, is_real, IsTableMeaning, index_rows, IsIndexEntry, IsEntry, IsCatalog, roots_named, format_of}
+use Rattle.database_spec.specs.Catalogs.{is_table, is_index, IsTableMeaning, index_rows, IsIndexEntry, IsEntry, roots_named, format_of}
 use Rattle.database_spec.specs.CatalogsLaws.{table_meaning-one}
-use Rattle.database_spec.specs.RightRows.{is_virtual, table_named, rows_of, IsOwnRoot, IsRightTable, IsRightIndex, IsRight, AreFaultless, HasCatalog}
+use Rattle.database_spec.specs.RightRows.{is_virtual, table_named, rows_of, IsRightTable, IsRightIndex, IsRight, AreFaultless, HasCatalog}
 use Rattle.database_spec.specs.ListsLaws.{sorted-one}
 use Rattle.database_spec.specs.ItemsLaws.{Has, has-from, has-to, has-left, has-right, has-either, has-map, map-has, has-filter, filter-has, decide, true-false}
-use Rattle.database_spec.specs.FileFindings.{Content, Rows, Entries, Anything, Subject, table_kind, table_content, own_subject, IsIndexSubject, AreSubjectsOf, schema_subject, AreSubjects}
+use Rattle.database_spec.specs.FileFindings.{Subject, table_kind, table_content, own_subject, IsIndexSubject, AreSubjectsOf, schema_subject, AreSubjects}
 use Rattle.database_laws.specs.RightFindingsLaws.{pairs-two}
 
 -- Lists.
@@ -65,8 +63,8 @@ rising-map : {A : Type 0} (f : A → ℕ) (d : A) (xs : List A) → AllPairs (λ
 rising-map f d xs all i j e less long =
     let many : length (map f xs) ≡ length xs = length-map xs f in
     let high : j < length xs = omega (arith, long, many) in
-    let one = get_or-map f xs i e d (omega (arith, less, high)) in
-    let two = get_or-map f xs j e d high in
+    let one = get_or-map f xs i d e (omega (arith, less, high)) in
+    let two = get_or-map f xs j d e high in
     omega (arith, one, two, all i j d less high)
 
 name-flip : (a b : List ℕ) → same_name a b ≡ true → same_name b a ≡ true
@@ -215,7 +213,7 @@ module _ (sizes : Sizes) (base : Paged) where
         ]
 
     -- a table that has a root has a tree
-    abbrev own_tree : Entry → Subject
+    abbrev pub own_tree : Entry → Subject
     own_tree entry = record { root = entry.root; kind = table_kind (is_ok entry.meaning) (base.pages entry.root) entry.root; content = table_content (is_ok entry.meaning) }
 
     pub own-tree : (entry : Entry) → entry.root ≢ 0 → own_subject sizes base entry ≡ own_tree entry ∷ []
@@ -225,7 +223,7 @@ module _ (sizes : Sizes) (base : Paged) where
     tree-own entry subject h =
         elim (cases_eq entry.root 0) [
           | inl none ↦ absurd (subst (λ (list : List Subject). Has subject list) (ap (λ (t : Bool). if t then [] else (own_tree entry ∷ [])) (eq-eqb entry.root 0 none)) h)
-          | inr some ↦ (some, elim (subst (λ (list : List Subject). Has subject list) (own-tree entry some) h) [ inl e ↦ sym e | inr no ↦ absurd no ])
+          | inr some ↦ (some, elim (subst (λ (list : List Subject). Has subject list) (own-tree entry some) h) [ inl e ↦ sym e | inr none ↦ absurd none ])
         ]
 
     table-row : (named : NamedEntry) → Has named catalog.tables → (row : SchemaRow) × Has row rows × IsEntry (format_of base) rows row named

@@ -285,8 +285,7 @@ root-found sizes base rooted deep is =
 pub tree-list : (sizes : Sizes) (base : Paged) (root : ℕ) (kind : TreeKind) (depth : ℕ) (members : List Member) (numbers : List ℕ) → IsTree sizes base root kind depth members numbers → IsList sizes base kind root members
 tree-list sizes base root kind depth members numbers is =
     let found = root-found sizes base is.rooted (omega (arith, is.deep, is.depth_is)) is.is_root in
-    let walk = subst (λ (n : ℕ). IsWalk sizes base is.rooted.kind n found.findings) is.root_is found.is_visit in
-    (
+    let walk = subst (λ (n : ℕ). IsWalk sizes base is.rooted.kind n found.findings) is.root_is found.is_visit in (
       found.findings,
       subst (λ (k : TreeKind). IsWalk sizes base k root found.findings) is.kind_is walk,
       flawless-goes_on (depth_of is.rooted) found.findings found.flawless,

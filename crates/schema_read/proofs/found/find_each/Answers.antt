@@ -1,6 +1,6 @@
 use Rattle.std.proofs.Common.{arith}
-use Rattle.schema_read.proofs.Members.{found-next, found-end}
-use Rattle.schema_read.proofs.found.find_all.Goals as goal
+use Rattle.schema_read.proofs.MemberLists.{found-next, found-end}
+use Rattle.schema_read.proofs.found.find_each.Goals as goal
 
 pub loop-left-preserved : goal.loop-left-preserved
 loop-left-preserved c =

@@ -1,5 +1,5 @@
 -- Members that are read one after the other, and what is looked for among them.
-use Rattle.std.proofs.Common.{◌≡◌, ℕ, zero, suc, ◌<◌, ◌≤◌, ◌-◌, ◌||◌, ◌&&◌, Bool, true, false, List, [], ◌∷◌, ◌++◌, length, map, take, drop, get_or, Option, Some, None, refl, sym, ap, ◌∙◌, subst, arith, append_assoc, append-nil}
+use Rattle.std.proofs.Common.{◌≡◌, ℕ, zero, suc, ◌+◌, ◌<◌, ◌≤◌, ◌-◌, ◌||◌, ◌&&◌, Bool, true, false, List, [], ◌∷◌, ◌++◌, length, map, take, drop, get_or, Option, Some, None, refl, sym, ap, ◌∙◌, subst, arith, append_assoc, append-nil}
 use Rattle.std.proofs.Math.Path.{subst⁻¹}
 use Rattle.std.specs.Prelude.{filter_map, if◌then◌else◌}
 use Rattle.std.specs.Prelude.{nat_lt, cond}
@@ -9,13 +9,12 @@ use Rattle.std.proofs.lemmas.List.{take_rest}
 use Rattle.std.proofs.lemmas.Option.{none-some}
 use Rattle.std.proofs.lemmas.Bool.Decides.{nat_tests}
 use Rattle.schema_spec.specs.Words.{same_name}
-use Rattle.tree_spec.specs.Trees.{Member}
 use Rattle.tree_walk.specs.declared.cursor.Row.{Row}
 use Rattle.database_spec.specs.declared.catalog.SchemaRow.{SchemaRow}
 use Rattle.database_spec.specs.Catalogs.{is_table}
 use Rattle.database_spec.specs.RightRows.{table_named}
 use Rattle.schema_read.specs.Rows.{member_of}
-use Rattle.schema_read.specs.Found.{AreFound, IsFound, any_found, found_rows, has_table, option_any, row_any, rows_in}
+use Rattle.schema_read.specs.Found.{AreFound, IsFound, any_found, found_rows, has_table, option_any, rows_in}
 use Rattle.schema_read.specs.declared.found.Found.{Found}
 
 -- a list is its first item and what is left
@@ -90,3 +89,13 @@ position-none p xs d none k low = by (nat_lt (position_or_len p xs) (length xs))
     by : (b : Bool) → nat_lt (position_or_len p xs) (length xs) ≡ b → cond b (Some (position_or_len p xs)) None ≡ None → p (get_or xs k d) ≡ false
     by true e some = absurd (none-some (position_or_len p xs) (sym some))
     by false e none = let far : length xs ≤ position_or_len p xs = grind (arith, nat_tests) in fails_before_first p xs k d (omega (arith, low, far))
+
+-- nothing is left
+pub none-left : {A : Type 0} (left : List A) → length left < 1 → left ≡ []
+none-left [] none = refl
+none-left (x ∷ left) none = absurd (omega (arith, none))
+
+-- one item fewer is left
+pub gone-on : {A : Type 0} (at : ℕ) (left all : List A) → 1 ≤ length left → at + length left ≡ length all → at + 1 + length (take (length left - 1) (drop 1 left)) ≡ length all
+gone-on at [] all some within = absurd (omega (arith, some))
+gone-on at (x ∷ left) all some within = let rest : length (take (length (x ∷ left) - 1) (drop 1 (x ∷ left))) ≡ length left = ap length (take_rest (x ∷ left) 1) in omega (arith, within, rest)

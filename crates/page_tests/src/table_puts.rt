@@ -8,7 +8,7 @@ use page_store::{PageRead, PlainStore};
 use std::alloc::{AllocError, Global};
 use std::test::Fail;
 use tree_table::{TreeFault, put};
-use tree_walk::Cursor;
+use tree_walk::{Cursor, TreeKind};
 
 /// Pages 1 and 2: the first says how many pages there are, the second is a leaf without cells.
 pub fn empty_table(alloc: Global) -> Result<PlainStore, Fail> {
@@ -48,7 +48,7 @@ fn first(
     if !is_whole(store) || root < 1 || store.count() < root {
         return Err(TreeFault::TrunkDamaged { page: 0 });
     }
-    Cursor::first(alloc, store, root)
+    Cursor::first(alloc, store, root, TreeKind::Table)
 }
 
 // Whether a cursor stands at the row of a rowid, which has so many bytes.

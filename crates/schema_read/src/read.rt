@@ -2,10 +2,10 @@
 ghost use Rattle.std.specs.Prelude.{◌≡◌, ◌≤◌, None, IfOk, IfErr, length, map};
 ghost use Rattle.common_spec.specs.Reading.{OrFault};
 ghost use Rattle.page_store.specs.Store.{HasSizes, Looks, OwesBy, Sees};
-ghost use Rattle.tree_spec.specs.Faults.{fault_in as tree_fault_in, IsOther as IsOtherTree};
+ghost use Rattle.tree_spec.specs.Faults.{fault_in as tree_fault_in};
 ghost use Rattle.tree_spec.specs.Standing.{Paged, Sizes};
 ghost use Rattle.schema_read.specs.declared.read.CatalogFault.{CatalogFault};
-ghost use Rattle.schema_read.specs.Answers.{IsOther, ReadsCatalog, ReadsMembers, Say, SaysOrOther, catalog_fault, fault_in, format_in};
+ghost use Rattle.schema_read.specs.Answers.{IsOther, ReadsCatalog, ReadsMembers, Say, SaysOrOther, catalog_fault, fault_in, format_in, told_of_tree};
 ghost use Rattle.schema_read.specs.Checks.{IsBasis};
 ghost use Rattle.schema_read.specs.Rows.{member_of};
 
@@ -16,10 +16,10 @@ use crate::lookup::Catalog;
 use byte_fields::u32_at;
 use database_spec::Catalog as KnownCatalog;
 use page_store::{PageRead, page_buffer};
-use rbu_dump::table_rows;
 use rbu_value::Bytes;
 use refusal::Rule;
 use std::alloc::{AllocError, Global};
+use tree_rows::table_rows;
 use tree_walk::{Row, TreeFault};
 
 /// Why a database has no catalog. `F` is what the store answers where it fails.
@@ -47,8 +47,8 @@ impl<F> From<AllocError> for CatalogFault<F> {
 
 // What stops the walk over the schema's tree. A walk takes no page, and so it meets no freelist and no limit.
 fn of_tree<F>(fault: TreeFault<F>) -> CatalogFault<F>
+    ensures is { result ≡ told_of_tree fault }
     ensures cause { fault_in result ≡ tree_fault_in fault }
-    ensures other { IsOtherTree fault → IsOther result }
 {
     match fault {
         TreeFault::TreeDamaged { page, rule } => CatalogFault::TreeDamaged { page, rule },

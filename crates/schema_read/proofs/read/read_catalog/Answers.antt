@@ -12,6 +12,6 @@ returns-in-Ok-of-clause-pages g c =
     record {
       same = read.same;
       count = read.count;
-      answer = IfSome_then (g.S.PageRead.pages store) read.answer (λ m reads depth members numbers tree.
-          subst⁻¹ (λ (k : Catalog). IsAnswer (record { size = g.S.PageRead.size store; usable = g.S.PageRead.usable store }) (record { count = g.S.PageRead.count store; pages = m }) (Ok k)) c.in-Ok-of.ensures (reads depth members numbers tree));
+      answer = IfSome_then (g.S.PageRead.pages store) read.answer (λ m reads.
+          subst⁻¹ (λ (k : Catalog). IsAnswer (record { size = g.S.PageRead.size store; usable = g.S.PageRead.usable store }) (record { count = g.S.PageRead.count store; pages = m }) (Ok k)) c.in-Ok-of.ensures reads);
     }

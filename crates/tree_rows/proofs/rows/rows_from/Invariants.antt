@@ -1,7 +1,7 @@
 use Rattle.std.proofs.Common.{◌≡◌, IfSome}
 use Rattle.page_store.specs.Store.{Stays}
-use Rattle.rbu_dump.proofs.Walking.{KeepsRows}
-use Rattle.rbu_dump.proofs.rows.rows_from.Given as goal
+use Rattle.tree_rows.proofs.Walking.{KeepsRows}
+use Rattle.tree_rows.proofs.rows.rows_from.Given as goal
 
 abbrev pub invariant-loop : goal.invariant-loop
 invariant-loop g l = record {

@@ -2,10 +2,10 @@ use Rattle.std.proofs.Common.{◌∙◌, ◌≡◌, ◌++◌, ◌∷◌, [], Lis
 use Rattle.std.proofs.Math.Path.{subst⁻¹}
 use Rattle.common_spec.specs.ToldLaws.{told-both}
 use Rattle.tree_walk.specs.declared.cursor.Row.{Row}
-use Rattle.rbu_dump.specs.Rows.{LeavesRow}
+use Rattle.tree_rows.specs.Rows.{LeavesRow}
 use Rattle.page_store.specs.StoreLaws.{at-sizes, some-all}
-use Rattle.rbu_dump.proofs.Walking.{KeepsRows, rows-none, rows-next, rows-end, rows-fault}
-use Rattle.rbu_dump.proofs.rows.rows_from.Goals as goal
+use Rattle.tree_rows.proofs.Walking.{KeepsRows, rows-none, rows-next, rows-end, rows-fault}
+use Rattle.tree_rows.proofs.rows.rows_from.Goals as goal
 
 pub loop-init : goal.loop-init
 loop-init g c =
@@ -32,11 +32,11 @@ loop-preserved g c =
       count = step.pages.count ∙ inv.count;
       same = step.pages.same ∙ inv.same;
       kept = told-both (g.S.PageRead.pages first) inv.same inv.kept step.pages.answer (λ m kept left.
-          subst⁻¹ (λ (rows : List Row). KeepsRows (record { size = g.S.PageRead.size first; usable = g.S.PageRead.usable first }) (record { count = g.S.PageRead.count first; pages = m }) c.args.cursor c.leave_row.new.cursor rows) pushed
+          subst⁻¹ (λ (rows : List Row). KeepsRows (record { size = g.S.PageRead.size first; usable = g.S.PageRead.usable first }) (record { count = g.S.PageRead.count first; pages = m }) c.args.cursor c.next_row.new.cursor rows) pushed
           (rows-next (record { size = g.S.PageRead.size first; usable = g.S.PageRead.usable first }) (record { count = g.S.PageRead.count first; pages = m }) g.row.S-Fault.Denot
-          c.args.cursor c.loop.cursor c.leave_row.new.cursor c.loop.rows.items c.in-Ok-Some.row kept
-          (subst (λ (o : Option Row). LeavesRow {F = g.row.S-Fault.Denot} (record { size = g.S.PageRead.size first; usable = g.S.PageRead.usable first }) (record { count = g.S.PageRead.count first; pages = m }) c.loop.cursor c.leave_row.new.cursor (Ok o)) c.in-Ok-Some.field-0-is
-          (at-sizes g.S.PageRead inv.stays inv.count (λ s u n. LeavesRow {F = g.row.S-Fault.Denot} (record { size = s; usable = u }) (record { count = n; pages = m }) c.loop.cursor c.leave_row.new.cursor (Ok c.in-Ok-Some.field-0)) left))));
+          c.args.cursor c.loop.cursor c.next_row.new.cursor c.loop.rows.items c.in-Ok-Some.row kept
+          (subst (λ (o : Option Row). LeavesRow (record { size = g.S.PageRead.size first; usable = g.S.PageRead.usable first }) (record { count = g.S.PageRead.count first; pages = m }) {F = g.row.S-Fault.Denot} c.loop.cursor c.next_row.new.cursor (Ok o)) c.in-Ok-Some.field-0-is
+          (at-sizes g.S.PageRead inv.stays inv.count (λ s u n. LeavesRow (record { size = s; usable = u }) (record { count = n; pages = m }) {F = g.row.S-Fault.Denot} c.loop.cursor c.next_row.new.cursor (Ok c.in-Ok-Some.field-0)) left))));
     }
 
 pub returns-in-Ok-None-clause-pages : goal.returns-in-Ok-None-clause-pages
@@ -49,9 +49,9 @@ returns-in-Ok-None-clause-pages g c =
       count = step.pages.count ∙ inv.count;
       answer = told-both (g.S.PageRead.pages first) inv.same inv.kept step.pages.answer (λ m kept left.
           rows-end (record { size = g.S.PageRead.size first; usable = g.S.PageRead.usable first }) (record { count = g.S.PageRead.count first; pages = m }) g.row.S-Fault.Denot
-          c.args.cursor c.loop.cursor c.leave_row.new.cursor c.loop.rows kept
-          (subst (λ (o : Option Row). LeavesRow {F = g.row.S-Fault.Denot} (record { size = g.S.PageRead.size first; usable = g.S.PageRead.usable first }) (record { count = g.S.PageRead.count first; pages = m }) c.loop.cursor c.leave_row.new.cursor (Ok o)) c.in-Ok-None.field-0-is
-          (at-sizes g.S.PageRead inv.stays inv.count (λ s u n. LeavesRow {F = g.row.S-Fault.Denot} (record { size = s; usable = u }) (record { count = n; pages = m }) c.loop.cursor c.leave_row.new.cursor (Ok c.in-Ok-None.field-0)) left)));
+          c.args.cursor c.loop.cursor c.next_row.new.cursor c.loop.rows kept
+          (subst (λ (o : Option Row). LeavesRow (record { size = g.S.PageRead.size first; usable = g.S.PageRead.usable first }) (record { count = g.S.PageRead.count first; pages = m }) {F = g.row.S-Fault.Denot} c.loop.cursor c.next_row.new.cursor (Ok o)) c.in-Ok-None.field-0-is
+          (at-sizes g.S.PageRead inv.stays inv.count (λ s u n. LeavesRow (record { size = s; usable = u }) (record { count = n; pages = m }) {F = g.row.S-Fault.Denot} c.loop.cursor c.next_row.new.cursor (Ok c.in-Ok-None.field-0)) left)));
     }
 
 pub returns-in-Err-clause-pages : goal.returns-in-Err-clause-pages
@@ -64,6 +64,6 @@ returns-in-Err-clause-pages g c =
       count = step.pages.count ∙ inv.count;
       answer = told-both (g.S.PageRead.pages first) inv.same inv.kept step.pages.answer (λ m kept left.
           rows-fault (record { size = g.S.PageRead.size first; usable = g.S.PageRead.usable first }) (record { count = g.S.PageRead.count first; pages = m }) g.row.S-Fault.Denot
-          c.args.cursor c.loop.cursor c.leave_row.new.cursor c.loop.rows.items c.in-Err.fault kept
-          (at-sizes g.S.PageRead inv.stays inv.count (λ s u n. LeavesRow {F = g.row.S-Fault.Denot} (record { size = s; usable = u }) (record { count = n; pages = m }) c.loop.cursor c.leave_row.new.cursor (Err c.in-Err.fault)) left));
+          c.args.cursor c.loop.cursor c.next_row.new.cursor c.loop.rows.items c.in-Err.fault kept
+          (at-sizes g.S.PageRead inv.stays inv.count (λ s u n. LeavesRow (record { size = s; usable = u }) (record { count = n; pages = m }) {F = g.row.S-Fault.Denot} c.loop.cursor c.next_row.new.cursor (Err c.in-Err.fault)) left));
     }

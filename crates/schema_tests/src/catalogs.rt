@@ -15,7 +15,7 @@ use std::test::Fail;
 
 // Schemas under format 4, a row a line. Behind each what they say: each table with its root and its indexes, and behind / the roots. An index has its root, and the place of each column with the letter of its collation, and d where it descends; ! and a letter stand for
 // what is outside the profile, or s and the offset for what is outside the grammar. Or the refusal: 62 with a rowid, 63 with a name.
-const SCHEMAS: [(&str, &str); 22] = [
+const SCHEMAS: [(&str, &str); 25] = [
     (
         "table|t1|t1|2|CREATE TABLE t1(a INTEGER PRIMARY KEY, b TEXT, c UNIQUE)\nindex|sqlite_autoindex_t1_1|t1|3|",
         "t1 2 3:2b/1 2 3",
@@ -48,7 +48,19 @@ const SCHEMAS: [(&str, &str); 22] = [
         "table|t1|t1|2|CREATE TABLE t1(a INTEGER PRIMARY KEY, b TEXT, c UNIQUE)\nindex|sqlite_autoindex_t1_1|t1|2|",
         "62 2",
     ),
+    (
+        "table|t|t|2|CREATE TABLE t(a UNIQUE, b UNIQUE)\nindex|sqlite_autoindex_t_2|t|3|\nindex|sqlite_autoindex_t_1|t|4|",
+        "t 2 3:1b 4:0b/1 2 3 4",
+    ),
     ("table|t|t|2|CREATE TABLE t(a UNIQUE)", "62 1"),
+    (
+        "table|t|t|2|CREATE TABLE t(a UNIQUE)\nindex|sqlite_autoindex_t_1|t|3|\nindex|sqlite_autoindex_t_01|t|4|",
+        "62 3",
+    ),
+    (
+        "table|t|t|2|CREATE TABLE t(a UNIQUE)\nindex|sqlite_autoindex_t_1|t|3|\nindex|sqlite_autoindex_t_+1|t|4|",
+        "62 3",
+    ),
     (
         "table|t|t|2|CREATE TABLE t(a UNIQUE)\nindex|sqlite_autoindex_t_1|t|3|\nindex|sqlite_autoindex_t_2|t|4|",
         "62 3",

@@ -12,7 +12,7 @@ use Rattle.tree_walk.specs.declared.cursor.Row.{Row}
 use Rattle.tree_walk.specs.Courses.{StartsWalk}
 use Rattle.database_spec.specs.Walks.{Finding, members_found, stops, StopsAt}
 use Rattle.tree_rows.specs.RemainingLaws.{first-remains}
-use Rattle.tree_rows.specs.WalksMadeLaws.{walk-found}
+use Rattle.walk_laws.specs.WalksMadeLaws.{walk-found}
 use Rattle.tree_rows.specs.Remaining.{Remains}
 use Rattle.tree_rows.specs.Rows.{member_of, members_of, IsFirstStop, LeavesRow, ReadsFrom, ReadsRows}
 

@@ -18,7 +18,7 @@ use Rattle.refusal.specs.declared.Rule.{Rule}
 use Rattle.refusal.specs.declared.Rule.TheVariants as broken
 use Rattle.tree_spec.specs.Standing.{Sizes, Paged}
 use Rattle.database_spec.specs.Walks.{Seen, bytes_seen, IsAccepted}
-use Rattle.tree_rows.specs.CellsDecidedLaws.{Decided, SomeBelow, all-decided, below-decided, cell-decided, decided-by}
+use Rattle.walk_laws.specs.CellsDecidedLaws.{Decided, SomeBelow, all-decided, below-decided, cell-decided, decided-by}
 
 module _ (page : List ℕ) (number usable : ℕ) (kind : PageKind) (count : ℕ) where
   -- a cell stands at an index

@@ -18,8 +18,8 @@ use Rattle.tree_spec.specs.Trees.{TreeCell, Member, member, between, leaf_kind, 
 use Rattle.tree_spec.specs.Bounds.{RisesIn, below_rowids, greatest_rowid}
 use Rattle.tree_spec.specs.Standing.{Sizes, Paged}
 use Rattle.database_spec.specs.Walks.{Finding, Finds, Ends, Holds, Breaks, Disorders, Seen, is_empty, bare, IsRising, IsAccepted, IsCellVisit, AreCellVisits, IsChildVisit, AreChildVisits, GoesOn, IsInside, IsRead, IsVisit, IsWalk, stops, members_found, IsList, StopsAt}
-use Rattle.tree_rows.specs.CellsDecidedLaws.{Decided}
-use Rattle.tree_rows.specs.PagesDecidedLaws.{accepted-or_refused}
+use Rattle.walk_laws.specs.CellsDecidedLaws.{Decided}
+use Rattle.walk_laws.specs.PagesDecidedLaws.{accepted-or_refused}
 
 -- Numbers.
 

@@ -1,0 +1,3 @@
+pub mod CellsDecidedLaws
+pub mod PagesDecidedLaws
+pub mod WalksMadeLaws

@@ -1,5 +1,5 @@
 -- The hidden log as it was saved, and why the file has another (Database File Format, section 4).
-use Rattle.std.specs.Prelude.{◌≡◌, ◌⊎◌, ℕ, ◌+◌, ◌-◌, ◌*◌, ◌<◌, ◌≤◌, List, [], length, take, Option, IfSome, Result, Ok, Err}
+use Rattle.std.specs.Prelude.{◌≡◌, ◌⊎◌, ℕ, ◌+◌, ◌-◌, ◌*◌, ◌<◌, ◌≤◌, List, length, take, Option, IfSome, Result, Ok, Err}
 use Rattle.common_spec.specs.Reading.{OrFault, Reads}
 use Rattle.file_spec.specs.declared.FileName.TheVariants.{Oal, Target}
 use Rattle.file_spec.specs.Files.{Files, content}

@@ -46,7 +46,7 @@ front-front (suc m) (suc n) (x ∷ xs) = ap (λ (rest : List ℕ). x ∷ rest) (
 
 -- bytes at a place that lie in a front are those of all
 pub front-within : (at n len : ℕ) (xs : List ℕ) → at + n ≤ len → take n (drop at (take len xs)) ≡ take n (drop at xs)
-front-within zero n len xs within = take-take n len xs within
+front-within zero n len xs within = take-take n len xs (omega (arith, within))
 front-within (suc at) n zero xs within = absurd (omega arith)
 front-within (suc at) n (suc len) [] within = refl
 front-within (suc at) n (suc len) (x ∷ xs) within = front-within at n len xs (omega arith)

@@ -5,7 +5,10 @@ use std::alloc::{AllocError, Global};
 use std::test::Fail;
 
 // Puts a page of 512 bytes behind others.
-fn push_page<S: PageRead>(store: &mut S, number: u32, pages: &mut Vec<u8>) -> Result<(), Fail> {
+fn push_page<S: PageRead>(store: &mut S, number: u32, pages: &mut Vec<u8>) -> Result<(), Fail>
+where
+    S::Fault: Drop,
+{
     if number < 1 || number > store.count() || store.page_size() != 512 {
         return Err(Fail::new("no such page"));
     }
@@ -18,7 +21,10 @@ fn push_page<S: PageRead>(store: &mut S, number: u32, pages: &mut Vec<u8>) -> Re
 }
 
 /// Puts all pages of 512 bytes behind others.
-pub fn push_pages<S: PageRead>(store: &mut S, pages: &mut Vec<u8>) -> Result<(), Fail> {
+pub fn push_pages<S: PageRead>(store: &mut S, pages: &mut Vec<u8>) -> Result<(), Fail>
+where
+    S::Fault: Drop,
+{
     for number in 1..=store.count() {
         push_page(store, number, pages)?;
     }

@@ -85,8 +85,8 @@ const COMMITS: [(u64, [u32; 2], &str); 3] = [
         "00e8d61fa3231e3d0afd63f7f4d1a34eacbee1743bb73c22cfaebb3855dec3be",
     ),
     (
-        THIRD.size,
-        THIRD.sums,
+        3248,
+        [0x72e65a5e, 0x3fed4f87],
         "503b78b5ad7b44648153ede5dd52f41299c1e2f92d48028d208fbc204e369aec",
     ),
 ];

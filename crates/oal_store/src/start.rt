@@ -61,7 +61,8 @@ fn check_log(log: &Log, page_size: u32, size: u64, sums: [u32; 2]) -> Result<(),
         return Err(OalFault::LogHeader);
     }
     let count = log.frames.as_slice().len() as u64;
-    if 32 + count * (24 + u64::from(log.page_size)) != size {
+    let end = 32 + count * (24 + u64::from(log.page_size));
+    if end != size {
         return Err(OalFault::OalFrame { number: count + 1 });
     }
     if log.committed != count {

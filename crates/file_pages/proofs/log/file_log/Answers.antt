@@ -10,6 +10,6 @@ returns-in-Ok-clause-files g c = record {
   test = search rules;
 }
 
-pub returns-clause-faults : goal.returns-clause-faults
-returns-clause-faults g c =
+pub returns-in-Err-clause-faults : goal.returns-in-Err-clause-faults
+returns-in-Err-clause-faults g c =
     whole-fault (g.D.Disk.shown c.args.disk.now) _ c.args.file c.in_ok-len.len c.args.needed c.in-Err.fault c.in_ok-len.ensures.files.same c.in_ok-len.ensures.files.answer c.in-Err.ensures.faults

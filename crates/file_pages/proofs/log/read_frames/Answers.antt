@@ -8,7 +8,7 @@ loop-file-preserved g c =
     let here = c.loop-file.invariant in
     let next = c.in-Ok.ensures in
     record {
-      read = read-on g.D.Disk here.read next.files c.if-not-valid.false next.calls.still next.size (next.place c.if-not-valid.false) here.sized (omega arith);
+      read = read-on g.D.Disk here.read next.files c.if-not-valid.false next.calls.still next.size (next.place c.if-not-valid.false) here.sized (omega (arith, here.sized));
       sized = here.sized;
       fits = omega arith;
     }
@@ -22,7 +22,7 @@ returns-in-Err-clause-calls g c = let here = c.loop-file.invariant.read in owes-
 pub returns-then-not-valid-clause-files : goal.returns-then-not-valid-clause-files
 returns-then-not-valid-clause-files g c =
     let here = c.loop-file.invariant in
-    looks-on g.D.Disk here.read c.in-Ok.ensures.files (read-last g.D.Disk here.read c.in-Ok.ensures.files c.if-not-valid.true here.sized (omega arith))
+    looks-on g.D.Disk here.read c.in-Ok.ensures.files (read-last g.D.Disk here.read c.in-Ok.ensures.files c.if-not-valid.true here.sized (omega (arith, here.sized)))
 
 pub returns-then-not-valid-clause-place : goal.returns-then-not-valid-clause-place
 returns-then-not-valid-clause-place g c =

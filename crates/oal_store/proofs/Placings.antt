@@ -34,9 +34,9 @@ no-items [] none = refl
 no-items (x ∷ xs) none = absurd (omega (arith, none))
 
 -- a list is its first item and what is left
-pub first-and-rest : {A : Type 0} (left : List A) (x : A) → 1 ≤ length left → x ≡ get_or left 0 x → left ≡ x ∷ take (length left - 1) (drop 1 left)
-first-and-rest [] x some first = absurd (omega (arith, some))
-first-and-rest (y ∷ left) x some first = ap (λ z. z ∷ left) (sym first) ∙ ap (λ rest. x ∷ rest) (sym (take_rest (y ∷ left) 1))
+pub first-and-rest : (left : List ℕ) → 1 ≤ length left → left ≡ get_or left 0 0 ∷ take (length left - 1) (drop 1 left)
+first-and-rest [] some = absurd (omega (arith, some))
+first-and-rest (x ∷ left) some = ap (λ (rest : List ℕ). x ∷ rest) (sym (take_rest (x ∷ left) 1))
 
 pub or-nothing : {A : Type 0} (x : Option A) → option_or x None ≡ x
 or-nothing None = refl

@@ -1,5 +1,5 @@
 -- A log that was read is the one that was saved, or has its fault; and the store over it.
-use Rattle.std.proofs.Common.{◌≡◌, ℕ, ◌+◌, ◌-◌, ◌*◌, ◌<◌, ◌≤◌, ◌==◌, Bool, if◌then◌else◌, List, [], ◌∷◌, ◌++◌, length, map, take, drop, Option, Some, None, IfSome, Ok, Err, refl, sym, ap, ◌∙◌, subst, inl, inr, arith, append-nil, length-append, take_all}
+use Rattle.std.proofs.Common.{◌≡◌, ◌⊎◌, ℕ, ◌+◌, ◌-◌, ◌*◌, ◌<◌, ◌≤◌, ◌==◌, Bool, if◌then◌else◌, List, [], ◌∷◌, ◌++◌, length, map, take, drop, Option, Some, None, IfSome, Ok, Err, refl, sym, ap, ◌∙◌, subst, inl, inr, arith, append-nil, length-append, take_all}
 use Rattle.std.proofs.Math.Dec.{eqb-suc-zero}
 use Rattle.std.proofs.lemmas.Option.{IfSome_then}
 use Rattle.std.proofs.lemmas.List.{length-map, length-take-le, take-append-drop}
@@ -90,7 +90,7 @@ wrong-size saved log other bytes long has =
 pub wrong-end : (saved : Saved) (log : Log) (number : ℕ) → log.page_size ≡ saved.page_size → ¬ (32 + length log.frames * (24 + log.page_size) ≡ saved.size) → number ≡ length log.frames + 1
     → IsWrongLog saved log (OalFrame number)
 wrong-end saved log number size other is bytes long has =
-    let read = read-as saved.page_size size has in
+    let read : IsRead saved bytes log saved.page_size = read-as saved.page_size size has in
     let place : 32 + length log.frames * (24 + log.page_size) ≡ 32 + length log.frames * (24 + saved.page_size) = ap (λ (n : ℕ). 32 + length log.frames * (24 + n)) size in
     let ours : length log.frames * (24 + saved.page_size) ≡ length read.frames * (24 + saved.page_size) = ap (λ (n : ℕ). n * (24 + saved.page_size)) (read-count read) in
     let apart : ¬ (32 + length log.frames * (24 + saved.page_size) ≡ saved.size) = λ e. other (place ∙ e) in
@@ -104,7 +104,7 @@ wrong-end saved log number size other is bytes long has =
 wrong-last : (saved : Saved) (log : Log) (number : ℕ) → log.page_size ≡ saved.page_size → 32 + length log.frames * (24 + log.page_size) ≡ saved.size → number ≡ length log.frames
     → ((¬ (log.committed ≡ length log.frames)) ⊎ (¬ (pair_of log.sums ≡ saved.sums))) → IsWrongLog saved log (OalFrame number)
 wrong-last saved log number size whole is why bytes long has =
-    let read = read-as saved.page_size size has in
+    let read : IsRead saved bytes log saved.page_size = read-as saved.page_size size has in
     let place : 32 + length log.frames * (24 + log.page_size) ≡ end_of saved read.frames =
     ap (λ (n : ℕ). 32 + length log.frames * (24 + n)) size ∙ ap (λ (n : ℕ). 32 + n * (24 + saved.page_size)) (read-count read) in
     record {
@@ -233,7 +233,7 @@ started header size sums log store files opened right long has = record {
       whole = front ∙ sym (λ i. log_header (big i) (sized i) is.sequence (salt i) ++ frames_bytes (big i) (salt i) (firsts i) frames);
       valid = subst (λ (n : ℕ). AreFrames n frames) (sym sized) is.valid;
       closed = is_saved.closed;
-      sums = ap pair_of opened.sums ∙ sym is_saved.sums ∙ sym (λ i. sums_behind (big i) (firsts i) frames);
+      sums = ap pair_of opened.sums ∙ sym right.sums ∙ ap (λ (l : Log). pair_of l.sums) read.kept ∙ sym (λ i. sums_behind (big i) (firsts i) frames);
       size = opened.size ∙ sym (length-take-le size bytes long);
       pages = opened.pages ∙ count;
       places = λ n. opened.places n ∙ (λ i. last_place (right.page_size i) 32 n ((read.kept i).frames)) ∙ sym (ap (λ (s : ℕ). last_place s 32 n (map (λ (f : Frame). f.number) frames)) sized);

@@ -1,5 +1,5 @@
 -- The hidden log as it was saved, and why the file has another (Database File Format, section 4).
-use Rattle.std.specs.Prelude.{◌≡◌, ◌⊎◌, ℕ, ◌+◌, ◌-◌, ◌*◌, ◌<◌, ◌≤◌, List, length, take, Option, IfSome, Result, Ok, Err}
+use Rattle.std.specs.Prelude.{◌≡◌, ◌⊎◌, ℕ, ◌+◌, ◌-◌, ◌*◌, ◌<◌, ◌≤◌, List, [], length, take, Option, IfSome, Result, Ok, Err}
 use Rattle.common_spec.specs.Reading.{OrFault, Reads}
 use Rattle.file_spec.specs.declared.FileName.TheVariants.{Oal, Target}
 use Rattle.file_spec.specs.Files.{Files, content}
@@ -72,12 +72,12 @@ pub record IsStarted (header : Header) (size : ℕ) (sums : List ℕ) (store : O
   pub pages : IsOverlay (pages_of header.page_size header.pages (content files Target)) frames (stored_map store files)
 
 -- what the store has of the header and of what was saved
-pub record IsStoreOf (header : Header) (size : ℕ) (sums : List ℕ) (store : OalStore) : Type 0 where
+pub record IsStoreOf (header : Header) (saved_size : ℕ) (saved_sums : List ℕ) (store : OalStore) : Type 0 where
   pub page_size : store.log.page_size ≡ header.page_size
   pub usable : store.log.usable ≡ header.page_size - header.reserved
   pub target_pages : store.log.target_pages ≡ header.pages
-  pub size : store.log.size ≡ size
-  pub sums : store.log.sums ≡ sums
+  pub size : store.log.size ≡ saved_size
+  pub sums : store.log.sums ≡ saved_sums
   pub unchanged : store.changed.entries ≡ []
 
 -- The fault is one of the disk or want of memory, or a refusal that the hidden log has, which has no other answer.

@@ -27,13 +27,13 @@ abbrev pub pages_after : Log → ℕ → ℕ
 pages_after log target_pages = if log.committed == 0 then target_pages else log.commit_pages
 
 -- the store over a log that was read
-pub record IsOpened (log : Log) (header : Header) (size : ℕ) (sums : List ℕ) (store : OalStore) : Type 0 where
+pub record IsOpened (log : Log) (header : Header) (saved_size : ℕ) (saved_sums : List ℕ) (store : OalStore) : Type 0 where
   pub big : store.log.big ≡ log.big
   pub page_size : store.log.page_size ≡ log.page_size
   pub usable : store.log.usable ≡ log.page_size - header.reserved
   pub salt : store.log.salt ≡ log.salt
-  pub sums : store.log.sums ≡ sums
-  pub size : store.log.size ≡ size
+  pub sums : store.log.sums ≡ saved_sums
+  pub size : store.log.size ≡ saved_size
   pub target_pages : store.log.target_pages ≡ header.pages
   pub pages : store.log.pages ≡ pages_after log header.pages
   pub places : (n : ℕ) → get nat_cmp store.log.places n ≡ last_place log.page_size 32 n log.frames

@@ -1,6 +1,7 @@
-use Rattle.std.proofs.Common.{◌≡◌, ◌+◌, ◌-◌, ◌*◌, ◌^◌, ◌<◌, ℕ, List, [], ◌∷◌, Option, length, take, drop, sym, ap, ◌∙◌, subst, arith}
+use Rattle.std.proofs.Common.{◌≡◌, ◌+◌, ◌-◌, ◌*◌, ◌^◌, ◌<◌, ℕ, List, [], ◌∷◌, Option, length, take, drop, get_or, sym, ap, ◌∙◌, subst, arith}
 use Rattle.std.specs.Option.{option_or}
-use Rattle.std.specs.BTreeMap.{get}
+use Rattle.std.specs.BTreeMap.{get, is_at}
+use Rattle.std.specs.Map.{lookup}
 use Rattle.std.specs.Ordering.{nat_cmp}
 use Rattle.oal_store.specs.OalLog.{last_place}
 use Rattle.oal_store.proofs.Placings.{places-more, fits-more, no-items, first-and-rest, or-nothing}
@@ -8,7 +9,9 @@ use Rattle.oal_store.proofs.placing.frame_places.Goals as goal
 
 pub loop-left-init : goal.loop-left-init
 loop-left-init c = record {
-  placed = λ n. or-nothing (last_place c.args.page_size 32 n c.args.numbers.now);
+  placed = λ n.
+      let behind : Option ℕ = last_place c.args.page_size 32 n c.args.numbers.now in
+      ap (option_or behind) (ap (lookup (is_at (nat_cmp n))) c.new-places.ensures.empty) ∙ or-nothing behind;
   fits = c.requires;
 }
 
@@ -19,8 +22,8 @@ loop-left-preserved c =
     let at : ℕ = c.loop-left.at in
     let left : List ℕ = c.loop-left.left.now in
     let rest : List ℕ = take (length left - 1) (drop 1 left) in
-    let number : ℕ = c.number-item.result in
-    let split : left ≡ number ∷ rest = first-and-rest left number (omega (arith, c.in-len1-up.len_at_least)) c.number-item.is in
+    let number : ℕ = get_or left 0 0 in
+    let split : left ≡ number ∷ rest = first-and-rest left (omega (arith, c.in-len1-up.len_at_least)) in
     let step : at + (24 + c.from.result) ≡ at + (24 + size) = ap (λ (n : ℕ). at + (24 + n)) c.from.ensures in
     record {
       placed = λ n.

@@ -2,7 +2,7 @@ use Rattle.std.proofs.Common.{rules, refl, sym, subst, arith}
 use Rattle.std.proofs.lemmas.Option.{IfSome_then}
 use Rattle.common_spec.specs.ToldLaws.{told-both}
 use Rattle.oal_store.specs.declared.fault.OalFault.TheVariants.{OalShort}
-use Rattle.oal_store.specs.Saved.{IsStartFault}
+use Rattle.oal_store.specs.Saved.{Saved, IsStartFault}
 use Rattle.oal_store.proofs.Starts.{only-fault, fault-of_log}
 use Rattle.oal_store.proofs.start.read_saved.Goals as goal
 
@@ -19,9 +19,9 @@ returns-in-Ok-clause-files g c = record {
   test = search rules;
 }
 
-pub returns-clause-faults : goal.returns-clause-faults
-returns-clause-faults g c page_size sums =
-    let saved = record { page_size = page_size; size = c.args.size; sums = sums } in
+pub returns-in-Err-clause-faults : goal.returns-in-Err-clause-faults
+returns-in-Err-clause-faults g c page_size sums =
+    let saved : Saved = record { page_size = page_size; size = c.args.size; sums = sums } in
     let shown = g.D.Disk.shown c.args.disk.now in
     subst (IsStartFault shown saved) (sym c.from.ensures)
     (fault-of_log saved shown _ c.in-Err.fault c.in_ok-has.ensures.files.same (IfSome_then shown c.in_ok-has.ensures.files.answer (λ f is. omega (arith, is, c.if-has-size.false))) c.in-Err.ensures.faults)

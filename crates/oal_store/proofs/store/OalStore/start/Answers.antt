@@ -1,19 +1,30 @@
-use Rattle.std.proofs.Common.{rules, ◌∙◌, inl}
+use Rattle.std.proofs.Common.{rules, IfErr, ◌-◌, ◌∙◌, inl}
 use Rattle.std.proofs.lemmas.Option.{IfSome_then}
+use Rattle.std.proofs.lemmas.Result.{err_from_is_err_and}
 use Rattle.file_spec.specs.declared.FileName.TheVariants.{Oal}
 use Rattle.file_spec.specs.Files.{content}
 use Rattle.format_spec.specs.Log.{pair_of}
-use Rattle.oal_store.specs.Saved.{saved_by}
+use Rattle.oal_store.specs.Saved.{IsStartFault, saved_by}
 use Rattle.oal_store.proofs.Starts.{only-fault, started}
 use Rattle.oal_store.proofs.store.OalStore.start.Goals as goal
 
 pub returns-in_err-log-clause-faults : goal.returns-in_err-log-clause-faults
-returns-in_err-log-clause-faults g c = c.in_err-log.ensures.faults c.args.header.now.page_size (pair_of c.args.sums)
+returns-in_err-log-clause-faults g c =
+    let answer = c.from_residual-in_err-log.result in
+    let fault = err_from_is_err_and answer c.from_residual-in_err-log.ensures.1 in
+    let told : IfErr answer (IsStartFault (g.D.Disk.shown c.args.disk.now) (saved_by c.args.header.now c.args.size c.args.sums)) =
+    rw (fault.1, fault.2) (c.in_err-log.ensures.faults c.args.header.now.page_size (pair_of c.args.sums)) in
+    told
 
 pub returns-in_err-check_log-clause-faults : goal.returns-in_err-check_log-clause-faults
 returns-in_err-check_log-clause-faults g c =
-    only-fault (saved_by c.args.header.now c.args.size c.args.sums) (g.D.Disk.shown c.args.disk.now) _
-    (IfSome_then (g.D.Disk.shown c.args.disk.now) c.in_ok-log.ensures.files.answer (λ f has. c.in_err-check_log.ensures.wrong (content f Oal) has.0 has.1))
+    let answer = c.from_residual-in_err-check_log.result in
+    let fault = err_from_is_err_and answer c.from_residual-in_err-check_log.ensures.1 in
+    let shown = g.D.Disk.shown c.args.disk.now in
+    let told : IfErr answer (IsStartFault shown (saved_by c.args.header.now c.args.size c.args.sums)) =
+    rw (fault.1, fault.2) (only-fault (saved_by c.args.header.now c.args.size c.args.sums) shown c.in_err-check_log.field-0.0
+    (IfSome_then shown c.in_ok-log.ensures.files.answer (λ f has. c.in_err-check_log.ensures.wrong (content f Oal) has.0 has.1))) in
+    told
 
 pub returns-clause-files : goal.returns-clause-files
 returns-clause-files g c = record {

@@ -1,5 +1,5 @@
 -- A log that was read is the one that was saved, or has its fault; and the store over it.
-use Rattle.std.proofs.Common.{◌≡◌, ◌⊎◌, ℕ, ◌+◌, ◌-◌, ◌*◌, ◌<◌, ◌≤◌, ◌==◌, Bool, if◌then◌else◌, List, [], ◌∷◌, ◌++◌, length, map, take, drop, Option, Some, None, IfSome, Ok, Err, refl, sym, ap, ◌∙◌, subst, inl, inr, arith, append-nil, length-append, take_all}
+use Rattle.std.proofs.Common.{◌≡◌, ◌⊎◌, ℕ, ◌+◌, ◌*◌, ◌≤◌, ◌==◌, Bool, if◌then◌else◌, List, [], ◌∷◌, ◌++◌, length, map, take, drop, Option, IfSome, Ok, Err, sym, ap, ◌∙◌, subst, inl, inr, arith, append-nil, length-append, take_all}
 use Rattle.std.proofs.Math.Dec.{eqb-suc-zero}
 use Rattle.std.proofs.lemmas.Option.{IfSome_then}
 use Rattle.std.proofs.lemmas.List.{length-map, length-take-le, take-append-drop}
@@ -8,26 +8,26 @@ use Rattle.common_spec.specs.ToldLaws.{told-both}
 use Rattle.file_spec.specs.declared.FileName.TheVariants.{Oal, Target}
 use Rattle.file_spec.specs.Files.{Files, content}
 use Rattle.format_spec.specs.Sizes.{IsPageSize}
-use Rattle.format_spec.specs.Log.{AreWords, pair_of, log_header, log_sums, Frame, frames_bytes, sums_behind, AreFrames, IsLog, LogReading, reading_of, committed, last_commit, count_after, overlay, IsOverlay}
+use Rattle.format_spec.specs.Log.{AreWords, pair_of, log_header, log_sums, Frame, frames_bytes, sums_behind, AreFrames, IsLog, reading_of, committed, last_commit, count_after, overlay, IsOverlay}
 use Rattle.format_spec.specs.LogLaws.{length-log_header, log-same_reading}
-use Rattle.format_spec.specs.PageMap.{PageMap, SamePages, pages_of}
+use Rattle.format_spec.specs.PageMap.{PageMap, pages_of}
 use Rattle.format_spec.specs.PageMapLaws.{SamePages-sym}
 use Rattle.db_header.specs.declared.fields.Header.{Header}
 use Rattle.wal_codec.specs.declared.log.Log.{Log}
 use Rattle.wal_codec.specs.declared.log.LogFault.TheVariants.{LogFrame}
 use Rattle.wal_codec.specs.declared.log.LogFault.TheVariants.{LogHeader as NoHeader, Memory as NoMemory}
-use Rattle.wal_codec.specs.LogReading.{Head, HasHead, HasLog, HasFault, log_of}
+use Rattle.wal_codec.specs.LogReading.{HasLog, log_of}
 use Rattle.wal_codec.specs.LogReadingLaws.{log-head, head-page_size, committed-front}
 use Rattle.file_pages.specs.declared.log.FileLogFault.{FileLogFault}
 use Rattle.file_pages.specs.declared.log.FileLogFault.TheVariants.{InBytes, OfDisk}
 use Rattle.file_pages.specs.LogFile.{IsFaultIn, front_of}
 use Rattle.oal_store.specs.declared.fault.OalFault.{OalFault}
-use Rattle.oal_store.specs.declared.fault.OalFault.TheVariants.{LogHeader, OalShort, OalFrame, Disk, Memory}
+use Rattle.oal_store.specs.declared.fault.OalFault.TheVariants.{LogHeader, OalFrame}
 use Rattle.oal_store.specs.declared.store.OalStore.{OalStore}
-use Rattle.oal_store.specs.Faults.{IsNoRefusal, log_fault}
+use Rattle.oal_store.specs.Faults.{log_fault}
 use Rattle.oal_store.specs.OalLog.{last_place, HasFrames, target_map}
 use Rattle.oal_store.specs.Stored.{KeepsLog, stored_map}
-use Rattle.oal_store.specs.Saved.{Saved, IsLogUpTo, end_of, IsSavedLog, IsWrong, HasWrongFrame, HasOalFault, SaysOfLog, saved_by, IsStarted, IsStartFault}
+use Rattle.oal_store.specs.Saved.{Saved, end_of, IsSavedLog, HasOalFault, SaysOfLog, saved_by, IsStarted, IsStartFault}
 use Rattle.oal_store.specs.SavedLaws.{saved_log-one}
 use Rattle.oal_store.specs.Starting.{IsRight, IsWrongLog, pages_after, IsOpened}
 use Rattle.oal_store.proofs.Commits.{unchanged-overlay}

@@ -1,4 +1,4 @@
-use Rattle.std.proofs.Common.{rules, IfErr, ◌-◌, ◌∙◌, inl}
+use Rattle.std.proofs.Common.{rules, IfErr, ◌-◌, ◌∙◌}
 use Rattle.std.proofs.lemmas.Option.{IfSome_then}
 use Rattle.std.proofs.lemmas.Result.{err_from_is_err_and}
 use Rattle.file_spec.specs.declared.FileName.TheVariants.{Oal}
@@ -10,8 +10,8 @@ use Rattle.oal_store.proofs.store.OalStore.start.Goals as goal
 
 pub returns-in_err-log-clause-faults : goal.returns-in_err-log-clause-faults
 returns-in_err-log-clause-faults g c =
-    let answer = c.from_residual-in_err-log.result in
-    let fault = err_from_is_err_and answer c.from_residual-in_err-log.ensures.1 in
+    let answer = c.from_residual.result in
+    let fault = err_from_is_err_and answer c.from_residual.ensures.1 in
     let told : IfErr answer (IsStartFault (g.D.Disk.shown c.args.disk.now) (saved_by c.args.header.now c.args.size c.args.sums)) =
     rw (fault.1, fault.2) (c.in_err-log.ensures.faults c.args.header.now.page_size (pair_of c.args.sums)) in
     told

@@ -1,4 +1,6 @@
 // Logs that were saved: which are opened, and why others are refused.
+ghost use Rattle.std.specs.Prelude.{◌≡◌};
+
 use crate::ensure::ensure;
 use crate::logs::{disk_with, log_bytes};
 use crate::pages::{has_hash, push_pages};
@@ -24,8 +26,7 @@ pub const THIRD: Saved = Saved {
 
 // What the header of its target says, with this page size.
 fn header(page_size: u32) -> Header
-    ensures reserved { result.reserved ≡ 0 }
-    ensures size { result.page_size ≡ page_size }
+    ensures { result.reserved ≡ 0 }
 {
     Header {
         page_size,

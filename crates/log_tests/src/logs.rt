@@ -2,11 +2,10 @@
 ghost use Rattle.file_pages.specs.Overlay.{HasPlaces};
 
 use crate::ensure::ensure;
-use crate::runs::has_hash;
+use crate::pages::{has_hash, push_pages};
 use db_header::{Header, read_header};
 use disk_memory::MemoryDisk;
 use file_pages::{FileLogFault, FilePages, Log, file_log, file_start};
-use page_store::PageRead;
 use rbu_disk::{DiskCall, DiskFault, FileName};
 use std::alloc::{AllocError, Global};
 use std::test::Fail;
@@ -106,8 +105,8 @@ fn in_big_order(at: usize, byte: u8) -> u8 {
     BIG_SUMS.get(place + 8).copied().unwrap_or(byte)
 }
 
-// The first bytes of the log, in one of the byte orders.
-fn log_bytes(alloc: Global, is_big: bool, len: usize) -> Result<Vec<u8>, AllocError> {
+/// The first bytes of the log, in one of the byte orders.
+pub fn log_bytes(alloc: Global, is_big: bool, len: usize) -> Result<Vec<u8>, AllocError> {
     let little = unpacked(alloc, LOG)?;
     let mut log = Vec::new(alloc);
     for (at, byte) in little.as_slice().iter().enumerate() {
@@ -122,11 +121,16 @@ fn log_bytes(alloc: Global, is_big: bool, len: usize) -> Result<Vec<u8>, AllocEr
     Ok(log)
 }
 
-// A disk with the file and this log, whose calls with these numbers fail.
-fn disk_with(alloc: Global, log: Vec<u8>, failing: &[u64]) -> Result<MemoryDisk, AllocError> {
+/// A disk with the file and this log under a name, whose calls with these numbers fail.
+pub fn disk_with(
+    alloc: Global,
+    name: FileName,
+    log: Vec<u8>,
+    failing: &[u64],
+) -> Result<MemoryDisk, AllocError> {
     let mut files = Vec::new(alloc);
     files.push((FileName::Target, unpacked(alloc, TARGET)?))?;
-    files.push((FileName::Wal, log))?;
+    files.push((name, log))?;
     Ok(MemoryDisk::new(alloc, files, Vec::from_slice(alloc, failing)?))
 }
 
@@ -139,28 +143,6 @@ fn header_of(disk: &mut MemoryDisk, log: &Log) -> Result<Header, Fail>
     first[18] = 1;
     first[19] = 1;
     Ok(read_header(&first[..n], len)?)
-}
-
-// Puts a page behind others.
-fn push_page(
-    store: &mut FilePages<MemoryDisk>,
-    number: u32,
-    pages: &mut Vec<u8>,
-) -> Result<(), Fail> {
-    if number < 1 || number > store.count() || store.page_size() != 512 {
-        return Err(Fail::new("no such page"));
-    }
-    let mut page = [0; 512];
-    store.page(number, &mut page)?;
-    pages.extend_from_slice(&page)?;
-    Ok(())
-}
-
-fn push_pages(store: &mut FilePages<MemoryDisk>, pages: &mut Vec<u8>) -> Result<(), Fail> {
-    for number in 1..=store.count() {
-        push_page(store, number, pages)?;
-    }
-    Ok(())
 }
 
 // All pages of the overlay.
@@ -207,7 +189,7 @@ fn check_cut(
 
 fn check_cuts(alloc: Global, is_big: bool) -> Result<(), Fail> {
     for cut in CUTS {
-        let mut disk = disk_with(alloc, log_bytes(alloc, is_big, cut.0)?, &[])?;
+        let mut disk = disk_with(alloc, FileName::Wal, log_bytes(alloc, is_big, cut.0)?, &[])?;
         check_cut(alloc, &mut disk, cut)?;
     }
     Ok(())
@@ -233,7 +215,7 @@ fn has_fault(alloc: Global, disk: &mut MemoryDisk, needed: u64, fault: FileLogFa
 
 fn have_faults(alloc: Global) -> Result<(), Fail> {
     for (len, needed, fault) in FAULTS {
-        let mut disk = disk_with(alloc, log_bytes(alloc, false, len)?, &[])?;
+        let mut disk = disk_with(alloc, FileName::Wal, log_bytes(alloc, false, len)?, &[])?;
         ensure(
             has_fault(alloc, &mut disk, needed, FileLogFault::InBytes(fault)),
             "a log with a fault",
@@ -251,7 +233,12 @@ const FAILING: [(u64, DiskCall); 3] = [
 
 fn tell_failing_calls(alloc: Global) -> Result<(), Fail> {
     for (number, call) in FAILING {
-        let mut disk = disk_with(alloc, log_bytes(alloc, false, 4856)?, &[number])?;
+        let mut disk = disk_with(
+            alloc,
+            FileName::Wal,
+            log_bytes(alloc, false, 4856)?,
+            &[number],
+        )?;
         let fault = DiskFault {
             file: FileName::Wal,
             call,

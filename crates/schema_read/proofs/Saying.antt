@@ -1,15 +1,13 @@
 -- The catalog that members say, and the first fault of one.
-use Rattle.std.proofs.Common.{◌≡◌, ℕ, ◌<◌, ◌≤◌, ◌==◌, Bool, true, false, List, [], ◌∷◌, ◌++◌, map, filter, Option, Some, None, Result, Ok, Err, refl, sym, ap, ap₂, ◌∙◌, subst, inl, inr, arith}
+use Rattle.std.proofs.Common.{◌≡◌, ℕ, ◌≤◌, ◌==◌, Bool, true, false, List, [], ◌∷◌, ◌++◌, map, filter, Result, Ok, Err, refl, sym, ap, ◌∙◌, subst, inl, inr, arith}
 use Rattle.std.proofs.Math.Path.{subst⁻¹}
-use Rattle.std.specs.Prelude.{filter_map, not, AllPairs, IsPermutation}
+use Rattle.std.specs.Prelude.{not, IsPermutation}
 use Rattle.std.specs.List.{AllByRecursion, AllZip, IsDistinct}
-use Rattle.std.specs.List.Sorted.{IsSorted, IsNonDecreasing}
-use Rattle.std.specs.Ordering.{nat_cmp}
 use Rattle.std.proofs.lemmas.Bool.Decides.{Decides-eqb}
 use Rattle.std.proofs.lemmas.List.Kept.{AllPairs-from_increasing}
 use Rattle.std.proofs.lemmas.List.Sorted.{IsNonDecreasingBy-from_sort}
 use Rattle.std.proofs.lemmas.Map.Keys.{IsDistinct-IsPermutation, IsStrictlyIncreasing-from_distinct}
-use Rattle.common_spec.specs.Reading.{Reads, OrFault, OrNone}
+use Rattle.common_spec.specs.Reading.{OrFault}
 use Rattle.common_spec.specs.ReadingLaws.{Reads-one}
 use Rattle.tree_spec.specs.declared.TreeKind.TheVariants.{Table as TableTree}
 use Rattle.tree_spec.specs.Trees.{Member}
@@ -19,15 +17,14 @@ use Rattle.database_spec.specs.declared.catalog.NamedEntry.{NamedEntry}
 use Rattle.database_spec.specs.declared.catalog.SchemaRow.{SchemaRow}
 use Rattle.database_spec.specs.declared.fault.FileFault.{FileFault}
 use Rattle.database_spec.specs.declared.fault.FileFault.TheVariants as file
-use Rattle.database_spec.specs.Catalogs.{is_index, is_table, AreRows, IsCatalog, IsEntry, format_of}
+use Rattle.database_spec.specs.Catalogs.{is_index, is_table, AreRows, IsEntry}
 use Rattle.database_spec.specs.CatalogsLaws.{catalog_answer-one}
-use Rattle.database_spec.specs.RightRows.{rows_of, AreFaultless, RowHasFault, FirstRowFault, HasCatalog, CatalogHasFault}
-use Rattle.database_spec.specs.SchemaRows.{IsSchemaRow}
+use Rattle.database_spec.specs.RightRows.{rows_of, AreFaultless, FirstRowFault, HasCatalog, CatalogHasFault}
 use Rattle.database_spec.specs.TreeWalksLaws.{tree-list}
 use Rattle.schema_read.specs.Answers.{IsAnswer, IsOther, IsRefusalOrOther, Answers, ReadsCatalog, SayCatalog, SayFault, SaysOrOther, catalog_fault}
-use Rattle.schema_read.specs.Checks.{ChecksAll, IsBasis, IsPlaced, IsRefusal, member_at}
-use Rattle.schema_read.specs.Entries.{IsMadeOf, StandAll, entry_of, roots_of}
-use Rattle.schema_read.specs.Found.{AreFound, IsFound, IsMeant, found_rows, rows_in}
+use Rattle.schema_read.specs.Checks.{IsBasis, IsPlaced, IsRefusal, member_at}
+use Rattle.schema_read.specs.Entries.{IsMadeOf, roots_of}
+use Rattle.schema_read.specs.Found.{AreFound, IsMeant, found_rows, rows_in}
 use Rattle.schema_read.specs.declared.check.Basis.{Basis}
 use Rattle.schema_read.specs.declared.check.Placed.{Placed}
 use Rattle.schema_read.specs.declared.check.RowFault.{RowFault}

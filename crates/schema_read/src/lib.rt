@@ -5,9 +5,12 @@
 
 mod catalog;
 mod check;
+mod firsts;
 mod found;
 mod lookup;
 mod meanings;
+mod members;
+mod names;
 mod read;
 mod rows;
 

@@ -87,8 +87,8 @@ fn say(alloc: Global, basis: Basis, members: &[Row]) -> Result<KnownCatalog, Row
     ensures { (sizes : Sizes) (base : Paged) → IsBasis basis sizes base → Say sizes base (map member_of members.now) result }
 {
     match find_all(alloc, members) {
-        Ok(found) => match check_all(alloc, basis, found.as_slice()) {
-            Ok(placed) => match catalog_of(alloc, found, placed) {
+        Ok(found) => match check_all(alloc, basis, &found) {
+            Ok(placed) => match catalog_of(alloc, found.into_vec(), placed) {
                 Ok(catalog) => Ok(catalog),
                 Err(error) => Err(RowFault::Memory(error)),
             },
@@ -209,7 +209,10 @@ pub fn read_catalog<S: PageRead>(
     ensures owes { OwesBy S.PageRead fault_in store.old store.new result }
 {
     match read_known(alloc, store) {
-        Ok(catalog) => Ok(Catalog::of(catalog)),
+        Ok(known) => match Catalog::of(alloc, known) {
+            Ok(catalog) => Ok(catalog),
+            Err(error) => Err(CatalogFault::Memory(error)),
+        },
         Err(fault) => Err(fault),
     }
 }

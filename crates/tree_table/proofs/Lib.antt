@@ -1,6 +1,7 @@
 pub mod Closings
 pub mod DeletedWorlds
 pub mod Edits
+pub mod Needed
 pub mod Openings
 pub mod Spelling
 pub mod Takings

@@ -1,4 +1,4 @@
-use Rattle.std.proofs.Common.{◌∙◌, ◌≡◌, ℕ, List, Err, map, subst}
+use Rattle.std.proofs.Common.{◌∙◌, List, Err, map, subst}
 use Rattle.std.proofs.lemmas.Option.{IfSome_then}
 use Rattle.common_spec.specs.ToldLaws.{told-both}
 use Rattle.tree_spec.specs.Standing.{Paged, Sizes}

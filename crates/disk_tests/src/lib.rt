@@ -1,7 +1,7 @@
 //! Tests of the disks and the output in memory, and of saves of a state and whole commands over them.
 //!
 //! Of the disks: each call once, calls that fail, and what crashes leave. Of commands: rows, refusals in their order, constraint faults,
-//! each failing call, crashes of an update that was stopped after each call, a failing output, and words.
+//! each failing call, crashes of an update that was stopped after each call, a failing output, and words; dumps of the schema.
 //!
 //! Of files under a log: what is read of a log of SQLite, and the overlay by it.
 //!
@@ -14,6 +14,8 @@ mod calls;
 mod changes;
 #[cfg(test)]
 mod crashes;
+#[cfg(test)]
+mod dumps;
 #[cfg(test)]
 mod ensure;
 #[cfg(test)]

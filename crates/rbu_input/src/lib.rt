@@ -5,14 +5,22 @@
 //! In `specs/`, `Tables` and `RowAnswers` have what the calls answer, `Layouts` where columns stand, and `RowAnswersLaws` that a row has one answer.
 #![tactic(auto)]
 
+mod batches;
 mod fault;
+mod keys;
 mod layout;
+mod reading;
 mod row;
+mod store_fault;
+mod sums;
 mod table;
+mod target;
 mod values;
 mod wrong;
 
 pub use fault::InputError;
 pub use layout::{Layout, layout_of};
 pub use row::{SizedRow, read_row};
+pub use store_fault::StoreFault;
 pub use table::{check_table, find_target};
+pub use target::plain_target;

@@ -165,7 +165,7 @@ module _ (sizes : Sizes) (base : Paged) (catalog : Catalog) (source : DataTable)
   -- it has a fault of its own
   opens-first : (before inputs : List Input) (fault : InputFault) → IsTableInput sizes base catalog source inputs → table_fault catalog source ≡ Some fault → FirstWrongInput catalog before inputs fault
   opens-first before inputs fault (inl (other, some, e)) is = subst⁻¹ (λ (i : List Input). FirstWrongInput catalog before i fault) e (inl is)
-  opens-first before inputs fault (inr (opened, findings, parts, reads, walk, are, e)) is = subst⁻¹ (λ (i : List Input). FirstWrongInput catalog before i fault) e (inl is)
+  opens-first before inputs fault (inr (opened, findings, parts, is_open, walk, are, e)) is = subst⁻¹ (λ (i : List Input). FirstWrongInput catalog before i fault) e (inl is)
 
   pub table-wrong : {F : Type 0} (fault : InputError) (told : StoreFault F) (before inputs : List Input) → told ≡ of_input_error fault → (let failed : Result Unit InputError = Err fault in Tells (table_fault catalog source) failed)
       → IsTableInput sizes base catalog source inputs → IsRefusedOrOther (FirstWrongInput catalog before inputs) told

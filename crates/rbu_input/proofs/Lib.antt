@@ -10,3 +10,6 @@ pub mod Firsts
 pub mod Records
 pub mod Targets
 pub mod BatchRows
+pub mod SourceOrders
+pub mod Grouping
+pub mod Preparing

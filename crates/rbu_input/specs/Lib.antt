@@ -8,3 +8,6 @@ pub mod Sums
 pub mod Reading
 pub mod Targets
 pub mod Batches
+pub mod Sources
+pub mod Groups
+pub mod Prepared

@@ -7,10 +7,13 @@
 
 mod batches;
 mod fault;
+mod groups;
 mod keys;
 mod layout;
+mod prepared;
 mod reading;
 mod row;
+mod sources;
 mod store_fault;
 mod sums;
 mod table;
@@ -20,7 +23,8 @@ mod wrong;
 
 pub use fault::InputError;
 pub use layout::{Layout, layout_of};
+pub use prepared::{are_rooted, read_prepared};
 pub use row::{SizedRow, read_row};
 pub use store_fault::StoreFault;
 pub use table::{check_table, find_target};
-pub use target::plain_target;
+pub use target::{are_known, plain_target};

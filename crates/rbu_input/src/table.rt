@@ -14,8 +14,8 @@ use schema_spec::{Column, Index, SqlFault, Table};
 use schema_tokens::same_name;
 use std::alloc::Global;
 
-// The first so many bytes of a text, or all.
-fn front(text: &[u8], count: usize) -> &[u8]
+/// The first so many bytes of a text, or all.
+pub(crate) fn front(text: &[u8], count: usize) -> &[u8]
     ensures { result.now ≡ take count text.now }
 {
     if text.len() <= count {

@@ -1,5 +1,5 @@
 // Whether the records of targeted tables are rows.
-ghost use Rattle.std.specs.Prelude.{◌≤◌, ◌⊎◌, OnOk, IfErr};
+ghost use Rattle.std.specs.Prelude.{◌≤◌, ◌⊎◌, OnOk, IfErr, IsTrue};
 ghost use Rattle.std.specs.List.{AllByRecursion};
 ghost use Rattle.page_store.specs.Store.{HasSizes, OwesBy};
 ghost use Rattle.tree_walk.specs.Stores.{SeesTree};
@@ -135,6 +135,39 @@ fn check_batch<S: PageRead>(
         unreachable!();
     };
     check_rows(alloc, store, named.entry.root, named.name.as_slice(), table)
+}
+
+// Whether a batch is for a table of the catalog whose text is read, and whose tree has a root among so many pages.
+fn is_known(catalog: &Catalog, count: u32, batch: &Batch) -> bool
+    ensures { IsTrue result → IsKnown catalog.now count batch.now }
+{
+    let Some(named) = table_named(catalog.tables.as_slice(), batch.table.as_slice()) else {
+        return false;
+    };
+    let Ok(_table) = &named.entry.meaning else {
+        return false;
+    };
+    if named.entry.root < 1 {
+        return false;
+    }
+    if named.entry.root > count {
+        return false;
+    }
+    true
+}
+
+/// Whether each batch is for a table of the catalog whose text is read, and whose tree has a root among so many pages, as those that were prepared are.
+pub fn are_known(catalog: &Catalog, count: u32, batches: &[Batch]) -> bool
+    ensures { IsTrue result → AllByRecursion (IsKnown catalog.now count) batches.now }
+{
+    let mut left = batches;
+    while let [batch, rest @ ..] = left {
+        if !is_known(catalog, count, batch) {
+            return false;
+        }
+        left = rest;
+    }
+    true
 }
 
 /// Checks that each record of the tables that batches are for is a row of its table, batch by batch; or refuses the first that is none, by rowid: [96].

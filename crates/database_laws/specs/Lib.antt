@@ -5,3 +5,6 @@ pub mod FoundFreelistsLaws
 pub mod SubjectsLaws
 pub mod RightFilesLaws
 pub mod SoundFilesLaws
+pub mod WalksMadeLaws
+pub mod FindingsMadeLaws
+pub mod FaultlessFilesLaws

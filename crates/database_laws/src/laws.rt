@@ -30,9 +30,11 @@ pub fn sound_files_are_right()
         → HasCatalog sizes base catalog → AreFound sizes base catalog found → AreRight [] found → (db : Database) × IsSound sizes base catalog db }
 {}
 
-/// What is right is not wrong, so a sound file has no fault: a file with a catalog is one sound database, or has one first fault.
+/// What is right is not wrong, so a sound file has no fault: a file with a catalog is one sound database, or has one first fault, and it cannot be that it is neither.
 pub fn sound_files_have_no_fault()
     ensures right { (found : List Found) (fault : FileFault) → AreRight [] found → ¬ FirstWrong [] found fault }
     ensures sound { (sizes : Sizes) (base : Paged) (catalog : Catalog) (db : Database) (fault : FileFault) → IsSound sizes base catalog db → ¬ FileHasFault sizes base fault }
+    ensures either { (sizes : Sizes) (base : Paged) (catalog : Catalog) → IsRootNumber sizes base 1 → base.count ≤ greatest_count → HasCatalog sizes base catalog
+        → ((db : Database) → ¬ IsSound sizes base catalog db) → ((fault : FileFault) → ¬ FileHasFault sizes base fault) → ⊥ }
     ensures one { (sizes : Sizes) (base : Paged) (catalog : Catalog) → IsOne (OrFault (IsSound sizes base catalog) (FileHasFault sizes base)) }
 {}

@@ -18,6 +18,7 @@ use rbu_rows::Batch;
 use rbu_value::Bytes;
 use schema_spec::Table;
 use std::alloc::{AllocError, Global};
+use tree_spec::TreeKind;
 use tree_walk::{Cursor, Row};
 
 // The refusal of a record that is not read, unless memory was wanting.
@@ -110,7 +111,7 @@ pub(crate) fn check_rows<S: PageRead>(
     ensures pages { SeesTree S.PageRead store.old store.new (λ sizes base. ChecksRows sizes base name.now table.now root result) }
     ensures owes { OwesBy S.PageRead fault_in store.old store.new result }
 {
-    match Cursor::first(alloc, store, root) {
+    match Cursor::first(alloc, store, root, TreeKind::Table) {
         Ok(cursor) => check_from(alloc, store, cursor, name, table),
         Err(fault) => Err(of_tree(fault)),
     }

@@ -108,7 +108,7 @@ spelling-decided (b ∷ bytes) =
     let end = ending b bytes in
     ending-decided (b ∷ bytes) end (high-decided end.front) (cases_lt (length end.front) 9) (cases_lt end.last (last_weight (length end.front)))
 
-spelling-one : {bytes : List ℕ} {m n : ℕ} → IsVarint bytes m → IsVarint bytes n → m ≡ n
+pub spelling-one : {bytes : List ℕ} {m n : ℕ} → IsVarint bytes m → IsVarint bytes n → m ≡ n
 spelling-one v w = (varint-same [] [] v w refl).1
 
 -- Cells.
@@ -184,10 +184,10 @@ leaf-made usable bytes i j cut =
     )
 
 -- the parts of a list
-front_of : (a b bytes : List ℕ) → bytes ≡ a ++ b → take (length a) bytes ≡ a
+pub front_of : (a b bytes : List ℕ) → bytes ≡ a ++ b → take (length a) bytes ≡ a
 front_of a b bytes whole = ap (take (length a)) whole ∙ take_at a b (length a) refl
 
-back_of : (a b bytes : List ℕ) → bytes ≡ a ++ b → drop (length a) bytes ≡ b
+pub back_of : (a b bytes : List ℕ) → bytes ≡ a ++ b → drop (length a) bytes ≡ b
 back_of a b bytes whole = ap (drop (length a)) whole ∙ drop_at a b (length a) refl
 
 leaf-cut : (usable : ℕ) (bytes : List ℕ) (view : CellView) (is : IsTableLeafCell usable bytes view) → IsLeafCut usable bytes (length is.payload_bytes) (length is.rowid_bytes)

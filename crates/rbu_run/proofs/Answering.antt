@@ -1,6 +1,8 @@
 -- What the status of an answer says of the files.
 use Rattle.std.proofs.Common.{◌≡◌, ◌≢◌, ◌≤◌, ◌⊎◌, ℕ, IsTrue, List, Option, None, IfSome, Result, Ok, Err, refl, sym, ap, ◌∙◌, subst, inl, inr, arith}
 use Rattle.std.proofs.lemmas.Bool.{false≢true}
+use Rattle.common_spec.specs.Reading.{Reads}
+use Rattle.common_spec.specs.ReadingLaws.{Reads-one}
 use Rattle.common_spec.specs.Told.{Leads}
 use Rattle.common_spec.specs.ToldLaws.{Leads-known, Leads-same, Leads-weaken, same-Leads}
 use Rattle.file_spec.specs.Files.{Files}
@@ -24,6 +26,7 @@ use Rattle.update_spec.specs.Text.{answer_status, outcome_status}
 use Rattle.small_spec.specs.SmallUpdate.{IsFinished, small_inserts}
 use Rattle.small_spec.specs.SmallLaws.{IsFinished-done}
 use Rattle.dump_spec.specs.SchemaDumps.{IsSchemaDump}
+use Rattle.dump_spec.specs.SchemaDumpsLaws.{schema_dump-one}
 use Rattle.rbu_run.specs.Commands.{EndsUpdate, EndsDump, EndsCommand}
 use Rattle.rbu_run.specs.Ending.{EndsAs}
 use Rattle.rbu_run.specs.Told.{IsTold}
@@ -177,9 +180,9 @@ told-at_status : {O : Type 0} {o : sink.Ghosts O} {Q : Type 0} (x y : O) (status
 told-at_status x y status answer n other (inl line) q is = q (sym line.0 ∙ is)
 told-at_status x y status answer n other (inr failed) q is = absurd (other (sym is ∙ failed.0))
 
--- files that stay, and what a dump says of them
-dump-reads : {a b : Option Files} (answer : Result (List ℕ) Refusal) → b ≡ a → IfSome a (λ f. IsSchemaDump f answer) → Leads (λ f g. (g ≡ f) × IsSchemaDump f answer) a b
-dump-reads answer same prints = Leads-known prints (Leads-same same (λ f is. (refl, is)))
+-- files that stay, and what a dump says of them, which is their only answer
+dump-reads : {a b : Option Files} (answer : Result (List ℕ) Refusal) → b ≡ a → IfSome a (λ f. IsSchemaDump f answer) → Leads (λ f g. (g ≡ f) × Reads (IsSchemaDump f) answer) a b
+dump-reads answer same prints = Leads-known prints (Leads-same same (λ f is. (refl, Reads-one (IsSchemaDump f) answer (schema_dump-one f) is)))
 
 dump-halts : {a b : Option Files} (status : ℕ) → b ≡ a → 6 ≤ status → status ≤ 8 → IsHalted status × Leads (λ f g. g ≡ f) a b
 dump-halts status same least most = ((least, most), Leads-same same (λ f. refl))

@@ -1,6 +1,7 @@
 -- What each status of a command says.
 use Rattle.std.specs.Prelude.{◌≡◌, ◌≢◌, ◌≤◌, ◌⊎◌, ℕ, ℤ, List, Option, Some, None, Ok, Err}
 use Rattle.common_spec.specs.Counts.{Rises}
+use Rattle.common_spec.specs.Reading.{Reads}
 use Rattle.file_spec.specs.Files.{Files}
 use Rattle.file_spec.specs.declared.FileName.{FileName}
 use Rattle.file_spec.specs.declared.DiskCall.{DiskCall}
@@ -95,11 +96,11 @@ TellsFault d o before after out_before out_after status =
     (file : FileName) × (call : DiskCall) × Fails (d.failures before) (d.failures after) (record { file = file; call = call })
     × Goes d before after (AfterFault small_inserts call) × IsTold o (Fault file call) out_before out_after status
 
--- What a dump came to: its lines were written, or the line of its refusal, or it was halted. No file changed.
+-- What a dump came to: the lines that are the only answer of the files were written, or the line of the refusal that is, or it was halted. No file changed.
 abbrev pub TellsDump : {D O : Type 0} → disk.Ghosts D → sink.Ghosts O → D → D → O → O → ℕ → Type 0
 TellsDump d o before after out_before out_after status =
-    ((text : List ℕ) × (status ≡ 0) × Goes d before after (λ f g. (g ≡ f) × IsSchemaDump f (Ok text)) × Took o out_before out_after text)
-    ⊎ (((refusal : Refusal) × (status ≡ 4) × Goes d before after (λ f g. (g ≡ f) × IsSchemaDump f (Err refusal)) × Took o out_before out_after (answer_text (Ended (Refused refusal))))
+    ((text : List ℕ) × (status ≡ 0) × Goes d before after (λ f g. (g ≡ f) × Reads (IsSchemaDump f) (Ok text)) × Took o out_before out_after text)
+    ⊎ (((refusal : Refusal) × (status ≡ 4) × Goes d before after (λ f g. (g ≡ f) × Reads (IsSchemaDump f) (Err refusal)) × Took o out_before out_after (answer_text (Ended (Refused refusal))))
     ⊎ (IsHalted status × Goes d before after (λ f g. g ≡ f)))
 
 -- A call on the disk failed only where the status is 6 or 8, and the count of those that did never falls.

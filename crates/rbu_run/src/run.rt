@@ -169,8 +169,8 @@ pub fn run_command<D: Disk, O: Sink>(
         ⊎ (AsksDump (map string_bytes words.now) ⊎ ((needed : Part) × AsksMore (map string_bytes words.now) needed)) }
     ensures memory { result.status ≡ 7 → Goes D.Disk disk result.disk (λ f g. g ≡ f) }
 
-    // A dump writes the lines of the schema's table in the files shown, or the line of their first refusal, unless a device
-    // failed or memory ran out. It changes no file, and a crash at any moment of it leaves no more than one before.
+    // A dump writes the lines of the schema's table in the files shown, or the line of their first refusal, exactly, unless a
+    // device failed or memory ran out. It changes no file, and a crash at any moment of it leaves no more than one before.
     ensures dumped { AsksDump (map string_bytes words.now) → TellsDump D.Disk O.Sink disk result.disk out.old out.new result.status }
     ensures kept { AsksDump (map string_bytes words.now) → GoesOn D.Disk disk result.disk LeavesNoMore }
 

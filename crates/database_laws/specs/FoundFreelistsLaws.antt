@@ -21,14 +21,11 @@ use Rattle.database_spec.specs.ListsLaws.{all-from}
 use Rattle.database_spec.specs.ItemsLaws.{decide, true-false}
 use Rattle.database_spec.specs.FileFindings.{Found, InTree, Frees, Tears, Counts, Needs, Compares, is_number, leaf_found, leaves_found, trunks_found, freelist_found}
 use Rattle.database_spec.specs.FileFaults.{page_found, free_page}
+use Rattle.prepared_laws.specs.SortsLaws.{on-if}
 use Rattle.database_laws.specs.RightFindings.{AreRight}
 use Rattle.database_laws.specs.RightFindingsLaws.{numbers_in, right-front, right-back}
 
--- what holds of either
-on-if : {A : Type 0} (Q : A → Type 0) (t : Bool) (a b : A) → (t ≡ true → Q a) → (t ≡ false → Q b) → Q (if t then a else b)
-on-if Q true a b p q = p refl
-on-if Q false a b p q = q refl
-
+-- what holds of either of two that a test chooses
 on-test : {A : Type 0} (Q : A → Type 0) (t : Bool) (a b : A) → (t ≡ true → Q a) → (t ≡ false → Q b) → Q (elim t as (λ _. A) [ true ↦ a | false ↦ b ])
 on-test Q true a b p q = p refl
 on-test Q false a b p q = q refl
@@ -95,7 +92,7 @@ module _ (sizes : Sizes) (base : Paged) where
   behind_number left holder number = elim (is_number sizes base number) as (λ _. List Found) [ false ↦ Tears holder ∷ [] | true ↦ Frees number ∷ behind_count left number ]
 
   -- three tests decide what is found of a trunk
-  on-trunk : (Q : List Found → Type 0) (left holder number : ℕ) → (number ≡ 0 → Q []) → (is_number sizes base number ≡ false → number ≢ 0 → Q (Tears holder ∷ []))
+  pub on-trunk : (Q : List Found → Type 0) (left holder number : ℕ) → (number ≡ 0 → Q []) → (is_number sizes base number ≡ false → number ≢ 0 → Q (Tears holder ∷ []))
       → (IsNumber sizes base number → trunk_limit sizes.usable < leaf_count (base.pages number) → Q (Frees number ∷ (Tears number ∷ [])))
       → (IsNumber sizes base number → leaf_count (base.pages number) ≤ trunk_limit sizes.usable
       → Q (Frees number ∷ (leaves_found sizes base number ++ trunks_found sizes base left number (next_page (base.pages number)))))

@@ -67,7 +67,7 @@ pub if_ok-each : {T E : Type 0} (r : Result T E) (P : T → Type 0) → ((x : T)
 if_ok-each (Ok x) P each = each x refl
 if_ok-each (Err e) P each = tt
 
-false-any : {A : Type 0} (p : A → Bool) (xs : List A) (x : A) → list_any p xs ≡ false → Has x xs → p x ≡ false
+pub false-any : {A : Type 0} (p : A → Bool) (xs : List A) (x : A) → list_any p xs ≡ false → Has x xs → p x ≡ false
 false-any p xs x none h = elim (decide (p x)) [ inl passes ↦ absurd (true-false (list_any p xs) (has-any p xs x h passes) none) | inr fails ↦ fails ]
 
 -- Pages.
@@ -167,7 +167,7 @@ flawless-behind subject page deepest before (Breaks number rule ∷ findings) h 
 flawless-behind subject page deepest before (Disorders number ∷ findings) h right = absurd right.0
 flawless-behind subject page deepest before (Bares number ∷ findings) h right = absurd right.0
 
-right-flawless : (subject : Subject) (before : List Found) (findings : List Finding) → AreRight before (in_tree subject findings) → (deepest : ℕ) × AreFlawless deepest findings
+pub right-flawless : (subject : Subject) (before : List Found) (findings : List Finding) → AreRight before (in_tree subject findings) → (deepest : ℕ) × AreFlawless deepest findings
 right-flawless subject before [] right = (0, tt)
 right-flawless subject before (Finds number ∷ findings) right = let rest = right-flawless subject (before ++ InTree subject (Finds number) ∷ []) findings right.1 in (rest.0, (tt, rest.1))
 right-flawless subject before (Ends number depth ∷ findings) right =
@@ -195,7 +195,7 @@ right-compared before [] index rows members right h = absurd h
 right-compared before (one ∷ found) index rows members right (inl e) = subst (IsRight before) e right.0
 right-compared before (one ∷ found) index rows members right (inr h) = right-compared (before ++ one ∷ []) found index rows members right.1 h
 
-right-walk : (before : List Found) (walks : List Walked) (walked : Walked) → AreRight before (flat_map tree_found walks) → Has walked walks → (earlier : List Found) × AreRight earlier (tree_found walked)
+pub right-walk : (before : List Found) (walks : List Walked) (walked : Walked) → AreRight before (flat_map tree_found walks) → Has walked walks → (earlier : List Found) × AreRight earlier (tree_found walked)
 right-walk before [] walked right h = absurd h
 right-walk before (one ∷ walks) walked right (inl e) = (before, subst (λ (w : Walked). AreRight before (tree_found w)) e (right-front before (tree_found one) (flat_map tree_found walks) right))
 right-walk before (one ∷ walks) walked right (inr h) = right-walk (before ++ tree_found one) walks walked (right-back before (tree_found one) (flat_map tree_found walks) right) h

@@ -40,10 +40,12 @@ use Rattle.database_spec.specs.ListsLaws.{PairsByRecursion}
 use Rattle.database_spec.specs.ItemsLaws.{Has, has-from, has-to, has-map, map-has, has-filter, filter-has, has-any, decide, true-false}
 use Rattle.database_spec.specs.Rows.{TableRow, IsRow, IsPlain}
 use Rattle.database_spec.specs.RowsLaws.{record-one}
-use Rattle.database_spec.specs.Keys.{order_of, IsBefore, entry_of, IsIndexOf}
+use Rattle.database_spec.specs.Keys.{IsBefore, entry_of, IsIndexOf}
 use Rattle.database_spec.specs.Databases.{Database, list_at, table_roots, index_roots, HasItsKind, IsReadable, HoldsProjection, HoldsProjections, IsSound}
 use Rattle.database_spec.specs.FileFindings.{Content, Rows, Entries, Anything, Subject, Walked, Found, InTree, Frees, Tears, Counts, Needs, Compares, own_kind, table_kind, table_content, IsIndexContent, IsWalked, freelist_found, pages_needed, tree_found, content_compared, compared, AreFound}
 use Rattle.database_spec.specs.FileFaults.{page_found, free_page, ends_elsewhere, IsEntry, FileHasFault}
+use Rattle.prepared_laws.specs.SortsLaws.{all-weaken}
+use Rattle.prepared_laws.specs.ChangesMadeLaws.{last-is}
 use Rattle.database_laws.specs.RightFindings.{IsAfter, IsRightMember, AreRight}
 use Rattle.database_laws.specs.FoundTreesLaws.{AreFlawless}
 use Rattle.database_laws.specs.RightFindingsLaws.{numbers_in, numbers-append, none-found, some-found, right-join, are_right-not_wrong}
@@ -61,11 +63,7 @@ and-false : (t u : Bool) → u ≡ false → (t && u) ≡ false
 and-false true u e = e
 and-false false u e = refl
 
-all-then : {A : Type 0} (P Q : A → Type 0) (xs : List A) → ((x : A) → P x → Q x) → AllByRecursion P xs → AllByRecursion Q xs
-all-then P Q [] step all = tt
-all-then P Q (x ∷ xs) step all = (step x all.0, all-then P Q xs step all.1)
-
-pairs-to : {A : Type 0} (R : A → A → Type 0) (xs : List A) → AllPairs R xs → PairsByRecursion R xs
+pub pairs-to : {A : Type 0} (R : A → A → Type 0) (xs : List A) → AllPairs R xs → PairsByRecursion R xs
 pairs-to R [] all = tt
 pairs-to R (x ∷ xs) all = (
   recursion_from_All (R x) xs (λ k d low. all zero (suc k) d (omega arith) (omega (arith, low))),
@@ -89,23 +87,16 @@ ok-some (Err x) e = absurd (let h : ◌≡◌ {A = Bool} false true = e in let n
 
 -- Entries.
 
-last-of : (xs : List Value) (y d : Value) (n : ℕ) → n ≡ length xs → slice_index_or (xs ++ y ∷ []) n d ≡ y
-last-of [] y d zero e = refl
-last-of [] y d (suc n) e = absurd (omega (arith, e))
-last-of (x ∷ xs) y d zero e = absurd (omega (arith, e))
-last-of (x ∷ xs) y d (suc n) e = last-of xs y d n (omega (arith, e))
-
 -- the entry of a row decodes as one
 row-entry : (index : Index) (member : Member) (row : TableRow) → IsRecord member.payload (entry_of index row) → IsEntry index member (entry_of index row)
 row-entry index member row is =
     let values = map (λ (column : ℕ × Collation × Bool). slice_index_or row.values column.0 Null) index.columns in
     let many : length values ≡ length index.columns = length-map index.columns (λ (column : ℕ × Collation × Bool). slice_index_or row.values column.0 Null) in
-    let columns : length (order_of index) ≡ length index.columns = length-map index.columns (λ (column : ℕ × Collation × Bool). (column.1, column.2)) in
     record {
       is_record = is;
       many = omega (arith, length-append values (Int row.rowid ∷ []), many);
       rowid = row.rowid;
-      last = last-of values (Int row.rowid) Null (length (order_of index)) (columns ∙ sym many);
+      last = last-is index row;
     }
 
 entries-are : (index : Index) (rows : List TableRow) (members : List Member) (entries : List (List Value)) → AllZip (λ member entry. IsRecord member.payload entry) members entries
@@ -195,7 +186,7 @@ GoOn root before Anything members = Unit {0}
 go-start : (root : ℕ) (before : List Found) (content : Content) (members : List Member) → AllByRecursion (OtherTree root) before → HasRightMembers content members → GoOn root before content members
 go-start root before Rows members others right = right
 go-start root before (Entries index rows) members others right =
-    (right.0, right.1, right.2, all-has (λ entry. AllByRecursion (IsAfter root index entry) before) right.0 (λ entry h. all-then (OtherTree root) (IsAfter root index entry) before (other-after root index entry) others))
+    (right.0, right.1, right.2, all-has (λ entry. AllByRecursion (IsAfter root index entry) before) right.0 (λ entry h. all-weaken (OtherTree root) (IsAfter root index entry) before (other-after root index entry) others))
 go-start root before Anything members others right = tt
 
 go-past : (root : ℕ) (before : List Found) (one : Found) (content : Content) (members : List Member) → ((index : Index) (entry : List Value) → IsAfter root index entry one) → GoOn root before content members
@@ -205,7 +196,7 @@ go-past root before one (Entries index rows) members past on = (
   on.0,
   on.1,
   on.2,
-  all-then (λ entry. AllByRecursion (IsAfter root index entry) before) (λ entry. AllByRecursion (IsAfter root index entry) (before ++ one ∷ [])) on.0
+  all-weaken (λ entry. AllByRecursion (IsAfter root index entry) before) (λ entry. AllByRecursion (IsAfter root index entry) (before ++ one ∷ [])) on.0
       (λ entry all. all-join (IsAfter root index entry) before (one ∷ []) all (past index entry, tt)) on.3,
 )
 go-past root before one Anything members past on = tt
@@ -241,7 +232,7 @@ module _ (subject : Subject) (deepest : ℕ) where
       )
   findings-right before (Ends page depth ∷ findings) once fits flawless on =
       let here = InTree subject (Ends page depth) in (
-        none-any (ends_elsewhere subject.root depth) before (all-then (FitsEnd subject.root deepest) (λ one. ends_elsewhere subject.root depth one ≡ false) before (end-fits subject.root deepest depth flawless.0) fits),
+        none-any (ends_elsewhere subject.root depth) before (all-weaken (FitsEnd subject.root deepest) (λ one. ends_elsewhere subject.root depth one ≡ false) before (end-fits subject.root deepest depth flawless.0) fits),
         findings-right (before ++ here ∷ []) findings (λ n. omega (arith, once n, numbers-append n before (here ∷ [])))
             (all-join (FitsEnd subject.root deepest) before (here ∷ []) fits (λ same. flawless.0, tt)) flawless.1
             (go-past subject.root before here subject.content (members_found findings) (λ index entry. tt) on),
@@ -279,7 +270,7 @@ walks-right before (walked ∷ walks) others apart once right =
     let deepest = right.0.0.0 in
     let parts = λ (n : ℕ). numbers-append n own rest in
     let numbers = λ (n : ℕ). ap (times n) (tree-numbers subject walked.findings) in
-    let here = findings-right subject deepest before walked.findings (λ n. omega (arith, once n, parts n, numbers n)) (all-then (OtherTree subject.root) (FitsEnd subject.root deepest) before (other-fits subject.root deepest) others.0)
+    let here = findings-right subject deepest before walked.findings (λ n. omega (arith, once n, parts n, numbers n)) (all-weaken (OtherTree subject.root) (FitsEnd subject.root deepest) before (other-fits subject.root deepest) others.0)
     right.0.0.1 (go-start subject.root before subject.content (members_found walked.findings) others.0 right.0.1) in
     right-join before own rest here
     (walks-right (before ++ own) walks (later walks others.1 apart.0) apart.1 (λ n. omega (arith, once n, parts n, numbers-append n before own)) right.1)

@@ -67,8 +67,18 @@ rising-map f d xs all i j e less long =
     let two = get_or-map f xs j d e high in
     omega (arith, one, two, all i j d less high)
 
-name-flip : (a b : List ℕ) → same_name a b ≡ true → same_name b a ≡ true
-name-flip a b e = (bytes_eq-Decides (str_to_ascii_lowercase b) (str_to_ascii_lowercase a)).1 (sym ((bytes_eq-Decides (str_to_ascii_lowercase a) (str_to_ascii_lowercase b)).0 e))
+lower-same : (a b : List ℕ) → same_name a b ≡ true → str_to_ascii_lowercase a ≡ str_to_ascii_lowercase b
+lower-same a b e = (bytes_eq-Decides (str_to_ascii_lowercase a) (str_to_ascii_lowercase b)).0 e
+
+same-lower : (a b : List ℕ) → str_to_ascii_lowercase a ≡ str_to_ascii_lowercase b → same_name a b ≡ true
+same-lower a b e = (bytes_eq-Decides (str_to_ascii_lowercase a) (str_to_ascii_lowercase b)).1 e
+
+-- names that are one without ASCII case
+pub name-flip : (a b : List ℕ) → same_name a b ≡ true → same_name b a ≡ true
+name-flip a b e = same-lower b a (sym (lower-same a b e))
+
+pub name-join : (a b c : List ℕ) → same_name a b ≡ true → same_name c b ≡ true → same_name a c ≡ true
+name-join a b c p q = same-lower a c (lower-same a b p ∙ sym (lower-same c b q))
 
 -- the table that a name means stands among the rows
 named-table : (name : List ℕ) (rows : List SchemaRow) (row : SchemaRow) → table_named name rows ≡ Some row → Has row rows × (is_table row ≡ true) × (same_name row.name name ≡ true)
@@ -88,7 +98,7 @@ module _ (sizes : Sizes) (base : Paged) where
   -- Rows without a fault.
 
   module _ (rows : List SchemaRow) where
-    right-row : (before : List SchemaRow) (found : List (Option SchemaRow)) (row : SchemaRow) → AreFaultless sizes base rows before found → Has row (rows_of found)
+    pub right-row : (before : List SchemaRow) (found : List (Option SchemaRow)) (row : SchemaRow) → AreFaultless sizes base rows before found → Has row (rows_of found)
         → (earlier : List SchemaRow) × IsRight sizes base rows earlier row
     right-row before [] row all h = absurd h
     right-row before (None ∷ found) row all h = absurd all.0.0
@@ -96,7 +106,7 @@ module _ (sizes : Sizes) (base : Paged) where
     right-row before (Some other ∷ found) row all (inr h) = right-row (before ++ other ∷ []) found row all.1 h
 
     -- the root of a right row is none, or a number that a link may name
-    row-root : (before : List SchemaRow) (row : SchemaRow) → IsRight sizes base rows before row → (row.root ≡ 0) ⊎ IsNumber sizes base row.root
+    pub row-root : (before : List SchemaRow) (row : SchemaRow) → IsRight sizes base rows before row → (row.root ≡ 0) ⊎ IsNumber sizes base row.root
     row-root before row = by row.kind
       where
         table : IsRightTable sizes base rows before row → (row.root ≡ 0) ⊎ IsNumber sizes base row.root
@@ -109,7 +119,7 @@ module _ (sizes : Sizes) (base : Paged) where
         by kind.View is = inl is
         by kind.Trigger is = inl is
 
-    index-row : (before : List SchemaRow) (row : SchemaRow) → is_index row ≡ true → IsRight sizes base rows before row → IsRightIndex sizes base rows before row
+    pub index-row : (before : List SchemaRow) (row : SchemaRow) → is_index row ≡ true → IsRight sizes base rows before row → IsRightIndex sizes base rows before row
     index-row before row = by row.kind
       where
         by : (k : SchemaKind) → (elim k as (λ _. Bool) [ kind.Index ↦ true | kind.Table ↦ false | kind.View ↦ false | kind.Trigger ↦ false ]) ≡ true

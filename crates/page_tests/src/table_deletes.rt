@@ -1,4 +1,6 @@
 // Rows are deleted from tables.
+ghost use Rattle.std.specs.Prelude.{◌≤◌};
+
 use crate::chains::bytes_of;
 use crate::stores::{ensure, field, is_whole};
 use crate::table_puts::{
@@ -103,16 +105,30 @@ fn all_bytes(alloc: Global, store: &mut PlainStore) -> Result<Vec<u8>, Fail> {
     Ok(bytes)
 }
 
+// An even rowid.
+fn even(at: u32) -> i64
+    requires { at ≤ 101 }
+{
+    i64::from(2 * at)
+}
+
+// The odd rowid behind it.
+fn odd(at: u32) -> i64
+    requires { at ≤ 101 }
+{
+    i64::from(2 * at + 1)
+}
+
 #[test]
 fn delete_of_a_missing_row_changes_nothing(rt: HostRuntime) -> Result<(), Fail> {
     let alloc = rt.alloc();
     let mut store = empty_table(alloc)?;
-    for rowid in 1..101 {
-        put_row(alloc, &mut store, 2, 2 * rowid, 100, 1000)?;
+    for at in 1..101 {
+        put_row(alloc, &mut store, 2, even(at), 100, 1000)?;
     }
     let before = all_bytes(alloc, &mut store)?;
-    for rowid in 0..102 {
-        let deleted = delete_row(alloc, &mut store, 2, 2 * rowid - 1)?;
+    for at in 0..101 {
+        let deleted = delete_row(alloc, &mut store, 2, odd(at))?;
         ensure(deleted.is_none(), "no payload")?;
     }
     let after = all_bytes(alloc, &mut store)?;

@@ -13,8 +13,8 @@ use Rattle.schema_spec.specs.Words.{same_name}
 use Rattle.database_spec.specs.declared.catalog.Entry.{Entry}
 use Rattle.database_spec.specs.declared.catalog.NamedEntry.{NamedEntry}
 use Rattle.database_spec.specs.declared.catalog.Catalog.{Catalog}
-use Rattle.prepared_spec.specs.declared.input_fault.Measure.{Measure}
-use Rattle.prepared_spec.specs.declared.input_fault.Measure.TheVariants as measure
+use Rattle.refusal.specs.declared.Measure.{Measure}
+use Rattle.refusal.specs.declared.Measure.TheVariants as measure
 use Rattle.prepared_spec.specs.declared.input_fault.InputFault.{InputFault}
 use Rattle.prepared_spec.specs.declared.input_fault.InputFault.TheVariants.{SqlSyntax, OutsideProfile, NoTarget, ColumnMissing, ColumnUnknown, RowidMissing, TooMuch}
 use Rattle.prepared_spec.specs.Plans.{table_named}

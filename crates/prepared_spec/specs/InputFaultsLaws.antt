@@ -94,7 +94,7 @@ some-one o a b p q = let h : Some a ≡ Some b = sym p ∙ q in cc
 
 module _ (sizes : Sizes) (base : Paged) (catalog : Catalog) where
   -- what is found is wrong in one way
-  pub wrong_input-one : (before : List Input) (one : Input) → IsOne (IsWrongInput sizes base catalog before one)
+  pub wrong_input-one : (before : List Input) (one : Input) → IsOne (IsWrongInput catalog before one)
   wrong_input-one before (Opens source) a b p q = some-one (table_fault catalog source) a b p q
   wrong_input-one before (Damages stop) a b p q = p ∙ sym q
   wrong_input-one before (Reads opened member None) a b p q = unprepared-one opened.source opened.target opened.own member a b p q
@@ -102,12 +102,12 @@ module _ (sizes : Sizes) (base : Paged) (catalog : Catalog) where
   wrong_input-one before (Reads opened member (Some prepared)) a b (inl p) (inr q) = absurd (q.0 a p)
   wrong_input-one before (Reads opened member (Some prepared)) a b (inr p) (inl q) = absurd (p.0 b q)
   wrong_input-one before (Reads opened member (Some prepared)) a b (inr p) (inr q) =
-      some-one (sum_fault sizes base catalog before (Reads opened member (Some prepared))) a b p.1 q.1
+      some-one (sum_fault before (Reads opened member (Some prepared))) a b p.1 q.1
   wrong_input-one before (Closes opened rows) a b (first, second, p, e) (one, two, q, f) =
-      let same = some-one (key_twice sizes base catalog opened.target [] rows) (first, second) (one, two) p q in
+      let same = some-one (key_twice opened.target [] rows) (first, second) (one, two) p q in
       e ∙ ap (λ (rows : Prepared × Prepared). DuplicateKey opened.source rows.0.data_rowid rows.1.data_rowid) same ∙ sym f
 
-  pub first_wrong_input-one : (before inputs : List Input) → IsOne (FirstWrongInput sizes base catalog before inputs)
+  pub first_wrong_input-one : (before inputs : List Input) → IsOne (FirstWrongInput catalog before inputs)
   first_wrong_input-one before [] a b p q = absurd p
   first_wrong_input-one before (one ∷ inputs) a b (inl p) (inl q) = wrong_input-one before one a b p q
   first_wrong_input-one before (one ∷ inputs) a b (inl p) (inr q) = absurd (q.0 a p)
@@ -118,7 +118,7 @@ module _ (sizes : Sizes) (base : Paged) (catalog : Catalog) where
   pub input_fault-one : (rbu : Catalog) → IsOne (HasInputFault sizes base catalog rbu)
   input_fault-one rbu a b (inputs, are, p) (others, also, q) =
       let same = inputs-one sizes base catalog rbu inputs others are also in
-      first_wrong_input-one [] inputs a b p (subst⁻¹ (λ (i : List Input). FirstWrongInput sizes base catalog [] i b) same q)
+      first_wrong_input-one [] inputs a b p (subst⁻¹ (λ (i : List Input). FirstWrongInput catalog [] i b) same q)
 
   -- and has prepared rows or that refusal, never both
   pub input_answer-one : (rbu : Catalog) → IsOne (OrFault (ArePreparedRows sizes base catalog rbu) (HasInputFault sizes base catalog rbu))

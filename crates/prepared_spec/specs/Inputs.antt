@@ -13,7 +13,7 @@ use Rattle.tree_spec.specs.Standing.{Sizes, Paged}
 use Rattle.database_spec.specs.declared.catalog.NamedEntry.{NamedEntry}
 use Rattle.database_spec.specs.declared.catalog.Catalog.{Catalog}
 use Rattle.database_spec.specs.Walks.{Finding, Finds, Ends, Holds, Breaks, Disorders, Bares, IsWalk, stop_of}
-use Rattle.prepared_spec.specs.declared.input_fault.Measure.TheVariants as measure
+use Rattle.refusal.specs.declared.Measure.TheVariants as measure
 use Rattle.prepared_spec.specs.declared.input_fault.InputFault.{InputFault}
 use Rattle.prepared_spec.specs.declared.input_fault.InputFault.TheVariants.{TreeDamaged, DuplicateKey, TooMuch}
 use Rattle.prepared_spec.specs.RowKeys.{same_key}
@@ -77,34 +77,50 @@ module _ (sizes : Sizes) (base : Paged) (catalog : Catalog) where
     pub are_parts : AllZip IsTableInput tables parts
     pub inputs_are : inputs ≡ flat_map (λ part. part) parts
 
-  abbrev pub is_row : Input → Bool
-  is_row (Reads opened member prepared) = true
-  is_row (Opens source) = false
-  is_row (Damages stop) = false
-  is_row (Closes opened rows) = false
+abbrev pub is_row : Input → Bool
+is_row (Reads opened member prepared) = true
+is_row (Opens source) = false
+is_row (Damages stop) = false
+is_row (Closes opened rows) = false
 
-  abbrev pub input_bytes : Input → ℕ
-  input_bytes (Reads opened member (Some prepared)) = record_length opened.target prepared
-  input_bytes (Reads opened member None) = 0
-  input_bytes (Opens source) = 0
-  input_bytes (Damages stop) = 0
-  input_bytes (Closes opened rows) = 0
+abbrev pub input_bytes : Input → ℕ
+input_bytes (Reads opened member (Some prepared)) = record_length opened.target prepared
+input_bytes (Reads opened member None) = 0
+input_bytes (Opens source) = 0
+input_bytes (Damages stop) = 0
+input_bytes (Closes opened rows) = 0
 
-  -- the limits of all rows, at the row that passes one: how many there are, and then the bytes of their records
-  abbrev pub sum_fault : List Input → Input → Option InputFault
-  sum_fault before input =
-      if nat_lt 1000000 (suc (length (filter is_row before))) then Some (TooMuch measure.Rows (suc (length (filter is_row before))) 1000000)
-      else (if nat_lt 268435456 (sum_by input_bytes before + input_bytes input) then Some (TooMuch measure.Bytes (sum_by input_bytes before + input_bytes input) 268435456) else None)
+-- the limits of all rows, at the row that passes one: how many there are, and then the bytes of their records
+abbrev pub sum_fault : List Input → Input → Option InputFault
+sum_fault before input =
+    if nat_lt 1000000 (suc (length (filter is_row before))) then Some (TooMuch measure.Rows (suc (length (filter is_row before))) 1000000)
+    else (if nat_lt 268435456 (sum_by input_bytes before + input_bytes input) then Some (TooMuch measure.Bytes (sum_by input_bytes before + input_bytes input) 268435456) else None)
 
-  -- the first row, in their order, whose key an earlier one has, with that one
-  abbrev pub key_twice : Table → List Prepared → List Prepared → Option (Prepared × Prepared)
-  key_twice table before [] = None
-  key_twice table before (row ∷ rows) =
-      elim (find (λ (other : Prepared). same_key table other.key row.key) before) as (λ _. Option (Prepared × Prepared)) [
-        | Some other ↦ Some (other, row)
-        | None ↦ key_twice table (before ++ row ∷ []) rows
-      ]
+-- the first row, in their order, whose key an earlier one has, with that one
+abbrev pub key_twice : Table → List Prepared → List Prepared → Option (Prepared × Prepared)
+key_twice table before [] = None
+key_twice table before (row ∷ rows) =
+    elim (find (λ (other : Prepared). same_key table other.key row.key) before) as (λ _. Option (Prepared × Prepared)) [
+      | Some other ↦ Some (other, row)
+      | None ↦ key_twice table (before ++ row ∷ []) rows
+    ]
 
+-- the batches that were read
+abbrev pub batches_in : List Input → List Batch
+batches_in [] = []
+batches_in (Closes opened rows ∷ inputs) = record { table = opened.name; source = opened.source; rows = rows } ∷ batches_in inputs
+batches_in (Opens source ∷ inputs) = batches_in inputs
+batches_in (Reads opened member prepared ∷ inputs) = batches_in inputs
+batches_in (Damages stop ∷ inputs) = batches_in inputs
+
+-- batches in groups, as many at most: all of the first one's target in their order, and then those of the others
+abbrev pub grouped : ℕ → List Batch → List (List Batch)
+grouped zero batches = []
+grouped (suc n) [] = []
+grouped (suc n) (batch ∷ batches) =
+    (batch ∷ filter (λ other. same_name other.table batch.table) batches) ∷ grouped n (filter (λ other. not (same_name other.table batch.table)) batches)
+
+module _ (catalog : Catalog) where
   -- what is found is wrong after all that was found before it
   abbrev pub IsWrongInput : List Input → Input → InputFault → Type 0
   IsWrongInput before (Opens source) fault = table_fault catalog source ≡ Some fault
@@ -125,25 +141,11 @@ module _ (sizes : Sizes) (base : Paged) (catalog : Catalog) where
   AllRight before [] = Unit {0}
   AllRight before (one ∷ inputs) = ((other : InputFault) → ¬ IsWrongInput before one other) × AllRight (before ++ one ∷ []) inputs
 
-  -- the batches that were read
-  abbrev pub batches_in : List Input → List Batch
-  batches_in [] = []
-  batches_in (Closes opened rows ∷ inputs) = record { table = opened.name; source = opened.source; rows = rows } ∷ batches_in inputs
-  batches_in (Opens source ∷ inputs) = batches_in inputs
-  batches_in (Reads opened member prepared ∷ inputs) = batches_in inputs
-  batches_in (Damages stop ∷ inputs) = batches_in inputs
-
-  -- batches in groups, as many at most: all of the first one's target in their order, and then those of the others
-  abbrev pub grouped : ℕ → List Batch → List (List Batch)
-  grouped zero batches = []
-  grouped (suc n) [] = []
-  grouped (suc n) (batch ∷ batches) =
-      (batch ∷ filter (λ other. same_name other.table batch.table) batches) ∷ grouped n (filter (λ other. not (same_name other.table batch.table)) batches)
-
+module _ (sizes : Sizes) (base : Paged) (catalog : Catalog) where
   -- The prepared rows of an RBU database with this catalog: its groups, in order of their first batches.
   abbrev pub ArePreparedRows : Catalog → List (List Batch) → Type 0
-  ArePreparedRows rbu groups = (inputs : List Input) × AreInputs rbu inputs × AllRight [] inputs × (groups ≡ grouped (length (batches_in inputs)) (batches_in inputs))
+  ArePreparedRows rbu groups = (inputs : List Input) × AreInputs sizes base catalog rbu inputs × AllRight catalog [] inputs × (groups ≡ grouped (length (batches_in inputs)) (batches_in inputs))
 
   -- Why it is refused: the first thing in the order that is wrong.
   abbrev pub HasInputFault : Catalog → InputFault → Type 0
-  HasInputFault rbu fault = (inputs : List Input) × AreInputs rbu inputs × FirstWrongInput [] inputs fault
+  HasInputFault rbu fault = (inputs : List Input) × AreInputs sizes base catalog rbu inputs × FirstWrongInput catalog [] inputs fault

@@ -37,7 +37,7 @@ data_tables-one catalog a b p q =
     let h : Less ≡ Greater = sym less ∙ nat_list_cmp_total.antisymm x.source y.source ∙ ap ordering_reverse more in let no : ⊥ = cc in no)
     (filter_map data_table catalog.tables) a b (p.all, p.sorted) (q.all, q.sorted)
 
-opened-one : (catalog : Catalog) (source : DataTable) → IsOne (IsOpened catalog source)
+pub opened-one : (catalog : Catalog) (source : DataTable) → IsOne (IsOpened catalog source)
 opened-one catalog source a b p q =
     let found : Some p.named ≡ Some q.named = sym p.found ∙ q.found in
     let named : p.named ≡ q.named = cc in
@@ -96,7 +96,7 @@ module _ (sizes : Sizes) (base : Paged) (catalog : Catalog) where
       let parts = beside-one (IsTableInput sizes base catalog) table_input-one p.tables p.parts q.parts p.are_parts also in
       p.inputs_are ∙ ap (flat_map (λ part. part)) parts ∙ sym q.inputs_are
 
-  rights-no_first : (before inputs : List Input) (fault : InputFault) → AllRight sizes base catalog before inputs → ¬ FirstWrongInput sizes base catalog before inputs fault
+  rights-no_first : (before inputs : List Input) (fault : InputFault) → AllRight catalog before inputs → ¬ FirstWrongInput catalog before inputs fault
   rights-no_first before [] fault p q = q
   rights-no_first before (one ∷ inputs) fault p (inl q) = p.0 fault q
   rights-no_first before (one ∷ inputs) fault p (inr q) = rights-no_first (before ++ one ∷ []) inputs fault p.1 q.1
@@ -104,13 +104,13 @@ module _ (sizes : Sizes) (base : Paged) (catalog : Catalog) where
   -- an RBU database holds one list of prepared rows
   pub prepared_rows-one : (rbu : Catalog) → IsOne (ArePreparedRows sizes base catalog rbu)
   prepared_rows-one rbu a b (inputs, are, right, e) (others, also, too, f) =
-      e ∙ ap (λ (i : List Input). grouped sizes base catalog (length (batches_in sizes base catalog i)) (batches_in sizes base catalog i)) (inputs-one rbu inputs others are also) ∙ sym f
+      e ∙ ap (λ (i : List Input). grouped (length (batches_in i)) (batches_in i)) (inputs-one rbu inputs others are also) ∙ sym f
 
   -- and has then no fault
   pub prepared_rows-no_fault : (rbu : Catalog) (groups : List (List Batch)) (fault : InputFault) → ArePreparedRows sizes base catalog rbu groups → ¬ HasInputFault sizes base catalog rbu fault
   prepared_rows-no_fault rbu groups fault (inputs, are, right, e) (others, also, first) =
       let same = inputs-one rbu inputs others are also in
-      rights-no_first [] inputs fault right (subst⁻¹ (λ (i : List Input). FirstWrongInput sizes base catalog [] i fault) same first)
+      rights-no_first [] inputs fault right (subst⁻¹ (λ (i : List Input). FirstWrongInput catalog [] i fault) same first)
 
 -- Faults.
 

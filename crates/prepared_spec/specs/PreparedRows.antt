@@ -18,7 +18,7 @@ use Rattle.schema_spec.specs.Names.{place_of}
 use Rattle.tree_spec.specs.Trees.{Member}
 use Rattle.database_spec.specs.Rows.{TableRow, IsRow}
 use Rattle.database_spec.specs.Keys.{is_null}
-use Rattle.prepared_spec.specs.declared.input_fault.Measure.TheVariants as measure
+use Rattle.refusal.specs.declared.Measure.TheVariants as measure
 use Rattle.prepared_spec.specs.declared.input_fault.RecordCause.{RecordCause}
 use Rattle.prepared_spec.specs.declared.input_fault.RecordCause.TheVariants.{SizeOverLimit, ShortHeader, ReservedType, RealValue, BodyLength, ShortRecord}
 use Rattle.prepared_spec.specs.declared.input_fault.InputFault.{InputFault}

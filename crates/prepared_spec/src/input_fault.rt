@@ -1,25 +1,8 @@
 // Why the rows that an update was prepared with are refused.
 use rbu_rows::ControlFault;
 use rbu_value::Bytes;
-use refusal::Rule;
+use refusal::{Measure, Rule};
 use schema_spec::Clause;
-
-/// What is limited of an update.
-#[derive(Clone, Copy, Debug, PartialEq, Eq)]
-pub enum Measure {
-    /// The columns of a targeted table, at most 200.
-    Columns,
-    /// The indexes of a targeted table, at most 64.
-    Indexes,
-    /// The bytes of the name of a targeted table, of one of its indexes, or of its `data_` table, at most 255.
-    Name,
-    /// The bytes of the record of one prepared row, at most 1048576.
-    Record,
-    /// All prepared rows, at most 1000000.
-    Rows,
-    /// The bytes of the records of all prepared rows, at most 268435456.
-    Bytes,
-}
 
 /// Why a record is not read as a row, or not written.
 #[derive(Clone, Copy, Debug, PartialEq, Eq)]
@@ -108,7 +91,7 @@ pub enum InputFault {
         rowid: i64,
         column: Bytes,
     },
-    /// 93: something is over its limit.
+    /// 93: something is over its limit: more than 200 columns or 64 indexes of a targeted table; a name of a targeted table, of one of its indexes, or of its `data_` table of more than 255 bytes; the record of one prepared row of more than 1048576 bytes; more than 1000000 prepared rows; or more than 268435456 bytes of all their records.
     TooMuch {
         what: Measure,
         has: u64,

@@ -19,7 +19,7 @@ mod laws;
 mod violation;
 mod worked;
 
-pub use input_fault::{InputFault, Measure, RecordCause};
+pub use input_fault::{InputFault, RecordCause};
 pub use laws::{
     midway_begins_with_the_old_database, midway_ends_with_the_new_lists,
     no_rows_change_only_counters, order_of_data_tables_plays_no_part, order_of_rows_plays_no_part,

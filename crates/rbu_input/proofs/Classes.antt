@@ -1,5 +1,5 @@
 -- The first value that its column would store in another class, in a loop over columns.
-use Rattle.std.proofs.Common.{◌≡◌, ℕ, suc, ◌+◌, ◌-◌, ◌≤◌, Bool, List, [], ◌∷◌, length, take, drop, get_or, inl, inr, add-one}
+use Rattle.std.proofs.Common.{◌≡◌, ℕ, suc, ◌+◌, ◌-◌, ◌≤◌, Bool, List, ◌∷◌, length, take, drop, get_or, inl, inr, add-one}
 use Rattle.std.proofs.Math.Path.{subst, subst⁻¹}
 use Rattle.rbu_value.specs.declared.value.Value.{Value}
 use Rattle.schema_spec.specs.declared.schema.Column.{Column}

@@ -2,3 +2,14 @@ pub mod Classes
 pub mod Telling
 pub mod Rows
 pub mod Lists
+pub mod SharedKeys
+pub mod Inputs
+pub mod Walking
+pub mod Findings
+pub mod Firsts
+pub mod Records
+pub mod Targets
+pub mod BatchRows
+pub mod SourceOrders
+pub mod Grouping
+pub mod Preparing

@@ -16,3 +16,7 @@ pub put_back : {A : Type 0} (xs : List A) (i : ℕ) (a b : A) → i < length xs 
 put_back [] i a b less e = absurd (omega (arith, less))
 put_back (x ∷ xs) zero a b less e = ap (λ y. y ∷ xs) e
 put_back (x ∷ xs) (suc i) a b less e = ap (λ ys. x ∷ ys) (put_back xs i a b (omega (arith, less)) e)
+
+pub none-left : {A : Type 0} (left : List A) → length left < 1 → left ≡ []
+none-left [] h = refl
+none-left (x ∷ left) h = absurd (omega (arith, h))

@@ -1,6 +1,6 @@
 -- What a row of a `data_` table prepares, from its parts.
-use Rattle.std.proofs.Common.{◌≡◌, ℕ, ℤ, ◌⊎◌, List, [], ◌∷◌, length, map, Ok, Err, refl, sym, ap, ap₂, ◌∙◌, subst, inl, inr}
-use Rattle.std.specs.Prelude.{Bool, false, slice_index_or, codes}
+use Rattle.std.proofs.Common.{◌≡◌, ℕ, ℤ, ◌⊎◌, List, [], ◌∷◌, length, map, Ok, Err, refl, ap, ap₂, ◌∙◌, subst, inl, inr}
+use Rattle.std.specs.Prelude.{false, slice_index_or}
 use Rattle.rbu_value.specs.declared.value.Value.{Value}
 use Rattle.common_spec.specs.Reading.{Reads, OrFault}
 use Rattle.common_spec.specs.ReadingLaws.{Reads-one}
@@ -21,13 +21,13 @@ use Rattle.prepared_spec.specs.declared.input_fault.InputFault.{InputFault}
 use Rattle.prepared_spec.specs.declared.input_fault.InputFault.TheVariants.{Control as ControlRefused, DataRecord}
 use Rattle.prepared_spec.specs.RowKeys.{key_at}
 use Rattle.prepared_spec.specs.DataTables.{column_names}
-use Rattle.prepared_spec.specs.PreparedRows.{value_named, in_target_order, lettered, control_value, IsPrepared, IsUnprepared, IsWrongRow}
+use Rattle.prepared_spec.specs.PreparedRows.{in_target_order, lettered, control_value, IsPrepared, IsUnprepared, IsWrongRow}
 use Rattle.rbu_input.specs.declared.fault.InputError.{InputError}
 use Rattle.rbu_input.specs.declared.fault.InputError.TheVariants.{Refused, Memory}
 use Rattle.rbu_input.specs.declared.layout.Layout.{Layout}
 use Rattle.rbu_input.specs.declared.values.Unread.{Unread}
 use Rattle.rbu_input.specs.declared.values.Unread.TheVariants as unread
-use Rattle.rbu_input.specs.Layouts.{IsLayout, places_of, values_at, marks_at, reordered}
+use Rattle.rbu_input.specs.Layouts.{IsLayout, values_at, marks_at, reordered}
 use Rattle.rbu_input.specs.RowAnswers.{IsWant, Refuses, HasValues, IsUnread, IsUnreadWant, IsCauseOf, IsRightRow, HasInputError, IsRefused, row_with, member_with}
 use Rattle.rbu_input.specs.RowAnswersLaws.{row_answer-one}
 

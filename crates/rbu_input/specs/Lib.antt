@@ -2,3 +2,12 @@ pub mod RowAnswers
 pub mod Layouts
 pub mod RowAnswersLaws
 pub mod Tables
+pub mod Keys
+pub mod KeysLaws
+pub mod Sums
+pub mod Reading
+pub mod Targets
+pub mod Batches
+pub mod Sources
+pub mod Groups
+pub mod Prepared

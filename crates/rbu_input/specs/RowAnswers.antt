@@ -1,5 +1,5 @@
 -- What is answered of a row of a `data_` table: what it prepares, or why it is refused.
-use Rattle.std.specs.Prelude.{◌≡◌, ℤ, ℕ, ◌⊎◌, List, length}
+use Rattle.std.specs.Prelude.{ℤ, ℕ, ◌⊎◌, List, length}
 use Rattle.rbu_value.specs.declared.value.Value.{Value}
 use Rattle.record_codec.specs.declared.read.RecordFault.{RecordFault}
 use Rattle.record_codec.specs.Faults.{IsMemory, HasFault}

@@ -1,5 +1,5 @@
 -- A row of a `data_` table is right or has one fault: crates above cite these facts in their proofs.
-use Rattle.std.proofs.Common.{◌≡◌, ℕ, ℤ, List, [], length, ap, sym, ◌∙◌, inl, inr}
+use Rattle.std.proofs.Common.{ℕ, ℤ, List, length, ap, inl, inr}
 use Rattle.std.proofs.Math.Path.{subst⁻¹}
 use Rattle.rbu_value.specs.declared.value.Value.{Value}
 use Rattle.common_spec.specs.Reading.{OrFault}
@@ -10,7 +10,7 @@ use Rattle.tree_spec.specs.Trees.{Member}
 use Rattle.database_spec.specs.Rows.{TableRow}
 use Rattle.database_spec.specs.RowsLaws.{row-one}
 use Rattle.prepared_spec.specs.declared.input_fault.InputFault.{InputFault}
-use Rattle.prepared_spec.specs.PreparedRows.{IsPrepared, IsWrongRow}
+use Rattle.prepared_spec.specs.PreparedRows.{IsWrongRow}
 use Rattle.prepared_spec.specs.InputsLaws.{prepared-one, wrong_row-one}
 use Rattle.prepared_spec.specs.InputFaultsLaws.{cause-one, row-no_cause, unprepared-one, unprepared-not_prepared}
 use Rattle.rbu_input.specs.declared.fault.InputError.{InputError}

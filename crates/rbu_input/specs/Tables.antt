@@ -4,7 +4,7 @@ use Rattle.schema_spec.specs.declared.schema.SqlFault.{SqlFault}
 use Rattle.schema_spec.specs.declared.schema.Table.{Table}
 use Rattle.database_spec.specs.declared.catalog.Entry.{Entry}
 use Rattle.database_spec.specs.declared.catalog.NamedEntry.{NamedEntry}
-use Rattle.prepared_spec.specs.declared.input_fault.Measure.TheVariants as measure
+use Rattle.refusal.specs.declared.Measure.TheVariants as measure
 use Rattle.prepared_spec.specs.declared.input_fault.InputFault.{InputFault}
 use Rattle.prepared_spec.specs.declared.input_fault.InputFault.TheVariants.{ColumnMissing, ColumnUnknown, RowidMissing}
 use Rattle.prepared_spec.specs.DataTables.{DataTable, begins_with, column_names, first_fault, has_column, index_names, meaning_fault, over}

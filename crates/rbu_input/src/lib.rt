@@ -5,14 +5,26 @@
 //! In `specs/`, `Tables` and `RowAnswers` have what the calls answer, `Layouts` where columns stand, and `RowAnswersLaws` that a row has one answer.
 #![tactic(auto)]
 
+mod batches;
 mod fault;
+mod groups;
+mod keys;
 mod layout;
+mod prepared;
+mod reading;
 mod row;
+mod sources;
+mod store_fault;
+mod sums;
 mod table;
+mod target;
 mod values;
 mod wrong;
 
 pub use fault::InputError;
 pub use layout::{Layout, layout_of};
+pub use prepared::{are_rooted, read_prepared};
 pub use row::{SizedRow, read_row};
+pub use store_fault::StoreFault;
 pub use table::{check_table, find_target};
+pub use target::{are_known, plain_target};

@@ -6,13 +6,14 @@ ghost use Rattle.rbu_value.specs.declared.value.Value.TheVariants.{Null};
 ghost use Rattle.rbu_rows.specs.declared.control.ControlFault.{ControlFault as AnyControlFault};
 ghost use Rattle.rbu_rows.specs.Controls.{IsControl, HasFault as ControlHasFault, IsMemory as IsControlWant};
 ghost use Rattle.prepared_spec.specs.declared.input_fault.InputFault.{InputFault as AnyFault};
-ghost use Rattle.prepared_spec.specs.declared.input_fault.Measure.TheVariants.{Record};
+ghost use Rattle.refusal.specs.declared.Measure.TheVariants.{Record};
 ghost use Rattle.prepared_spec.specs.declared.input_fault.RecordCause.{RecordCause as AnyCause};
 ghost use Rattle.rbu_input.specs.declared.values.Unread.{Unread as AnyUnread};
 ghost use Rattle.schema_spec.specs.declared.schema.Table.{Table as AnyTable};
 ghost use Rattle.prepared_spec.specs.RowKeys.{key_at};
 ghost use Rattle.prepared_spec.specs.Tables.{stored_values};
 ghost use Rattle.prepared_spec.specs.PreparedRows.{ChangesSome, IsPrepared, IsUnprepared, IsWrongRow, key_fault, record_length as record_length_of};
+ghost use Rattle.rbu_input.specs.Keys.{HasKey};
 ghost use Rattle.rbu_input.specs.Layouts.{IsLayout, marks_at, reordered, values_at};
 ghost use Rattle.rbu_input.specs.RowAnswers.{HasValues, IsRefused, IsRightRow, IsWant, Refuses, member_with};
 
@@ -21,10 +22,11 @@ use crate::layout::Layout;
 use crate::values::{Unread, copy_all, copy_at, row_values};
 use crate::wrong::{class_changed, has_null, has_rowid_key, is_integer_key, key_changed, uses};
 use owned_list::OwnedList;
-use prepared_spec::{InputFault, Measure};
+use prepared_spec::InputFault;
 use rbu_rows::{Control, ControlFault, Prepared, read_control};
 use rbu_value::{Bytes, Value};
 use record_codec::record_length;
+use refusal::Measure;
 use schema_spec::Table;
 use std::alloc::{AllocError, Global};
 use std::mem;
@@ -315,6 +317,7 @@ fn check_row(
     requires no { layout.now.no.items ≡ replicate (length target.now.columns) false }
     requires length { row.now.length ≡ record_length_of target.now row.now.prepared }
     ensures right { OnOk result ((fault : AnyFault) → ¬ IsWrongRow source.now target.now row.now.prepared fault) }
+    ensures short { OnOk result (row.now.length ≤ 1048576) }
     ensures fault { IfErr result (λ fault. IsWant fault ⊎ Refuses (IsWrongRow source.now target.now row.now.prepared) fault) }
 {
     match check_key(alloc, source, target, &row.prepared) {
@@ -402,6 +405,8 @@ pub fn read_row(
     requires few { length target.now.columns ≤ 200 }
     ensures answer { ReadsOrWants (λ read. read.prepared) IsWant (OrFault (IsRightRow source.now target.now own.now (member_with row.now.rowid row.now.payload)) (IsRefused source.now target.now own.now (member_with row.now.rowid row.now.payload))) result }
     ensures length { IfOk result (λ read. read.length ≡ record_length_of target.now read.prepared) }
+    ensures short { IfOk result (λ read. read.length ≤ 1048576) }
+    ensures key { IfOk result (λ read. HasKey target.now read.prepared) }
 {
     let read = match prepared_row(alloc, source, target, own, layout, row) {
         Ok(read) => read,

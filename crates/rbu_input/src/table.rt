@@ -7,14 +7,15 @@ ghost use Rattle.rbu_input.specs.Tables.{Tells, column_missing, column_unknown, 
 use crate::fault::InputError;
 use crate::layout::has_column;
 use database_spec::{Catalog, Entry, NamedEntry};
-use prepared_spec::{InputFault, Measure};
+use prepared_spec::InputFault;
 use rbu_value::Bytes;
+use refusal::Measure;
 use schema_spec::{Column, Index, SqlFault, Table};
 use schema_tokens::same_name;
 use std::alloc::Global;
 
-// The first so many bytes of a text, or all.
-fn front(text: &[u8], count: usize) -> &[u8]
+/// The first so many bytes of a text, or all.
+pub(crate) fn front(text: &[u8], count: usize) -> &[u8]
     ensures { result.now ≡ take count text.now }
 {
     if text.len() <= count {
@@ -30,8 +31,8 @@ fn begins_with(word: &[u8], name: &[u8]) -> bool
     same_name(front(name, word.len()), word)
 }
 
-// The first table of the name.
-fn table_named<'a>(tables: &'a [NamedEntry], name: &[u8]) -> Option<&'a NamedEntry>
+/// The first table of the name.
+pub(crate) fn table_named<'a>(tables: &'a [NamedEntry], name: &[u8]) -> Option<&'a NamedEntry>
     ensures { option_copied result ≡ table_named_in name.now tables.now }
 {
     let mut left = tables;

@@ -1,3 +1,4 @@
+mod AutomaticNames
 mod Checking
 mod Faultless
 mod FirstPlaces

@@ -11,6 +11,7 @@ mod lookup;
 mod meanings;
 mod members;
 mod names;
+mod numbers;
 mod read;
 mod rows;
 

@@ -1,8 +1,12 @@
-//! Tests of the crates that read the texts of a schema: tokens, tables and indexes, and the first fault of a text.
+//! Tests of the crates that read a schema: tokens, texts of tables and indexes, the first fault of a text, and catalogs by rows.
 //!
 //! They stand in a crate of their own, over the crates that they call, since a crate with tests is proved twice.
 #![tactic(auto)]
 
+#[cfg(test)]
+mod catalogs;
+#[cfg(test)]
+mod databases;
 #[cfg(test)]
 mod ensure;
 #[cfg(test)]

@@ -335,7 +335,8 @@ fn is_table(alloc: Global, table: &Table, line: &str) -> Result<bool, AllocError
     Ok(read.as_slice() == line.as_bytes())
 }
 
-fn push_index_columns(line: &mut Vec<u8>, index: &Index) -> Result<(), AllocError> {
+/// The columns of an index as the rows above write them.
+pub fn push_index_columns(line: &mut Vec<u8>, index: &Index) -> Result<(), AllocError> {
     for (place, collation, descends) in index.columns.as_slice() {
         line.push(digit(*place))?;
         line.push(collation_letter(*collation))?;

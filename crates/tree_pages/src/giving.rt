@@ -80,6 +80,9 @@ pub fn give_back<S: PageWrite>(
         → IsFree (sizes_of S.PageRead store.old) (paged S.PageRead store.old m) trunks → Within (sizes_of S.PageRead store.old) (paged S.PageRead store.old m) chain trunks → IfErr result IsOther }
     ensures owes { OwesBy S.PageRead fault_in store.old store.new result }
 {
+    if bytes == 0 && first == 0 {
+        return Ok(());
+    }
     let mut buffer = page_buffer(alloc, store.page_size())?;
     let page = buffer.as_mut_slice();
     let mut number = first;

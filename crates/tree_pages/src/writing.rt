@@ -71,6 +71,9 @@ pub fn write_overflow<S: PageWrite>(
     ensures refuses { RefusesShort S.PageRead (chain_pages (S.usable store.old) (length bytes.now)) limit store.old store.new result }
     ensures owes { OwesBy S.PageRead fault_in store.old store.new result }
 {
+    if bytes.is_empty() {
+        return Ok(0);
+    }
     let mut buffer = page_buffer(alloc, store.page_size())?;
     let page = buffer.as_mut_slice();
     let content = store.usable() as usize - 4;

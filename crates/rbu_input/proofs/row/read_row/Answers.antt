@@ -1,4 +1,5 @@
 use Rattle.rbu_input.specs.RowAnswers.{member_with}
+use Rattle.rbu_input.proofs.SharedKeys.{prepared-keyed}
 use Rattle.rbu_input.proofs.Rows.{unprepared-reads, wrong-reads, right-reads}
 use Rattle.rbu_input.proofs.row.read_row.Goals as goal
 
@@ -14,3 +15,6 @@ pub returns-in-Err-check_row-clause-answer : goal.returns-in-Err-check_row-claus
 returns-in-Err-check_row-clause-answer c =
     wrong-reads c.args.source.now c.args.target.now c.args.own.now (member_with c.args.row.now.rowid c.args.row.now.payload) c.in-Ok.read.prepared c.in-Err-check_row.fault c.in-Ok.ensures.found
     c.in-Err-check_row.ensures.fault
+
+pub returns-in-Ok-check_row-clause-key : goal.returns-in-Ok-check_row-clause-key
+returns-in-Ok-check_row-clause-key c = prepared-keyed c.args.target.now c.args.own.now (member_with c.args.row.now.rowid c.args.row.now.payload) c.in-Ok.read.prepared c.in-Ok.ensures.found

@@ -1,4 +1,4 @@
-use Rattle.std.proofs.Common.{◌≡◌, ℕ, List, [], ◌∷◌, map, None, Err, subst}
+use Rattle.std.proofs.Common.{◌≡◌, List, [], ◌∷◌, map, None, Err, subst}
 use Rattle.std.specs.Prelude.{codes}
 use Rattle.schema_spec.specs.declared.schema.Column.{Column}
 use Rattle.prepared_spec.specs.DataTables.{column_names, first_fault}

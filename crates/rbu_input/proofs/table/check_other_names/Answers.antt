@@ -1,5 +1,5 @@
 use Rattle.std.proofs.Common.{ℕ, List, [], ◌∷◌, length}
-use Rattle.prepared_spec.specs.declared.input_fault.Measure.TheVariants.{Name}
+use Rattle.refusal.specs.declared.Measure.TheVariants.{Name}
 use Rattle.prepared_spec.specs.DataTables.{over, index_names}
 use Rattle.rbu_input.proofs.Telling.{tells-alone, tells-front_of, tells-behind_of}
 use Rattle.rbu_input.proofs.table.check_other_names.Goals as goal

@@ -1,4 +1,4 @@
-use Rattle.std.proofs.Common.{Bool, false, arith}
+use Rattle.std.proofs.Common.{false, arith}
 use Rattle.prepared_spec.specs.MembersLaws.{true-false}
 use Rattle.rbu_input.proofs.Classes.{changes-go}
 use Rattle.rbu_input.proofs.Lists.{get-again}

@@ -8,7 +8,8 @@ use Rattle.tree_spec.specs.Worlds.{IsFree}
 use Rattle.put_spec.specs.Steps.{Releases}
 use Rattle.tree_pages.specs.Writers.{paged, sizes_of}
 use Rattle.tree_pages.specs.WritersLaws.{sizes-same}
-use Rattle.tree_pages.proofs.Given.{Giving, one-given, all-given, given-in_range, given-ends}
+use Rattle.tree_pages.proofs.Overflowed.{no-pages}
+use Rattle.tree_pages.proofs.Given.{Giving, none-given, one-given, all-given, given-in_range, given-ends}
 use Rattle.tree_pages.proofs.giving.give_back.Goals as goal
 
 pub loop-preserved : goal.loop-preserved
@@ -39,6 +40,20 @@ loop-preserved g c =
                 (subst (λ (m : ℕ). Giving (sizes_of S a) (paged S a old) chain trunks c.loop.number m x) many (b.2 chain trunks is free within)),
           );
     }
+
+pub returns-then-first-eq0-clause-given : goal.returns-then-first-eq0-clause-given
+returns-then-first-eq0-clause-given g c = λ old told. (
+  old,
+  told,
+  λ chain trunks is free within.
+      let S = g.S.PageRead in
+      let a = c.args.store.now in
+      let z = sizes_of S a in
+      let x = paged S a old in
+      let none : pages_for z.usable c.args.bytes ≡ 0 = ap (pages_for z.usable) c.if-bytes-eq0.true ∙ no-pages z.usable in
+      all-given z x chain trunks c.args.first x
+      (subst (λ (n : ℕ). Giving z x chain trunks c.args.first n x) none (none-given z x chain trunks c.args.first c.args.bytes is)),
+)
 
 pub returns-clause-given : goal.returns-clause-given
 returns-clause-given g c = λ old told.

@@ -1,4 +1,4 @@
-use Rattle.std.proofs.Common.{◌≡◌, ◌≤◌, ◌+◌, ◌-◌, ◌*◌, ℕ, suc, length, take, drop, refl, ap, ◌∙◌, subst, inl, arith}
+use Rattle.std.proofs.Common.{◌≡◌, ◌≤◌, ◌+◌, ◌-◌, ◌*◌, ℕ, suc, length, take, drop, eqb-true, refl, sym, ap, ◌∙◌, subst, inl, arith}
 use Rattle.std.proofs.Math.Path.{subst⁻¹}
 use Rattle.std.proofs.lemmas.Result.{err_from_is_err_and}
 use Rattle.page_spec.specs.Chains.{pages_for}
@@ -99,6 +99,21 @@ loop-left-preserved g c =
                 (subst (λ (m : ℕ). Writing (sizes_of S a) (paged S a old) trunks bytes next m x) one_more (b.2 trunks free)),
           );
     }
+
+pub returns-then-is_empty-clause-written : goal.returns-then-is_empty-clause-written
+returns-then-is_empty-clause-written g c = λ old told. (
+  old,
+  told,
+  λ trunks free.
+      let S = g.S.PageRead in
+      let a = c.args.store.now in
+      let z = sizes_of S a in
+      let x = paged S a old in
+      let bytes = c.args.bytes.now in
+      let none : length bytes ≡ 0 = eqb-true (length bytes) 0 (sym c.is_empty.ensures ∙ c.if-is_empty.true) in
+      let zero : pages_for z.usable (length bytes) ≡ 0 = ap (pages_for z.usable) none ∙ no-pages z.usable in
+      all-written z x trunks bytes c.requires.sizes.usable.least 0 x (subst (λ (n : ℕ). Writing z x trunks bytes 0 n x) zero (none-written z x trunks bytes c.requires.sizes.usable.least)),
+)
 
 pub returns-clause-written : goal.returns-clause-written
 returns-clause-written g c = λ old told.

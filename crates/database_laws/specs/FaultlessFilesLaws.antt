@@ -53,13 +53,26 @@ use Rattle.prepared_laws.specs.TablesMadeLaws.{Apart}
 use Rattle.prepared_laws.specs.ChangesMadeLaws.{last-is, entry-long, by_entry, by_entry-total, projection-some}
 use Rattle.database_laws.specs.RightFindings.{IsAfter, IsRightMember, IsRight, AreRight}
 use Rattle.database_laws.specs.FoundTreesLaws.{walk-tree}
-use Rattle.database_laws.specs.WalksMadeLaws.{Surely, surely, surely-then, surely-or}
 use Rattle.database_laws.specs.FindingsMadeLaws.{found-some}
 use Rattle.database_laws.specs.RightFindingsLaws.{right-front, right-join, wrong-front, wrong-back}
 use Rattle.database_laws.specs.FoundFreelistsLaws.{on-trunk}
 use Rattle.database_laws.specs.SubjectsLaws.{zip-has, has-zip, origin-of, table-stands, own_tree, own-tree, tree-own, read-number}
 use Rattle.database_laws.specs.RightFilesLaws.{all-of, in_tree, right-flawless, right-walk, right-sound}
 use Rattle.database_laws.specs.SoundFilesLaws.{pairs-to}
+
+-- What cannot be otherwise.
+
+abbrev pub Surely : Type 0 → Type 0
+Surely A = (A → ⊥) → ⊥
+
+pub surely : {A : Type 0} → A → Surely A
+surely a none = none a
+
+pub surely-then : {A B : Type 0} → Surely A → (A → Surely B) → Surely B
+surely-then one step none = one (λ a. step a none)
+
+pub surely-or : (A : Type 0) → Surely (A ⊎ (A → ⊥))
+surely-or A none = none (inr (λ a. none (inl a)))
 
 -- Of items some of which have P there is one, before which none of these stands.
 module _ {A : Type 0} (Before : A → A → Type 0) (P Fits : A → Type 0) (onward : (a b c : A) → Fits a → Fits b → Fits c → Before a b → Before b c → Before a c) (apart : (a b : A) → Before a b → Before b a → ⊥) where
@@ -462,5 +475,5 @@ faultless-sound sizes base catalog found first few has are none =
 pub sound-or_fault : (sizes : Sizes) (base : Paged) (catalog : Catalog) → IsRootNumber sizes base 1 → base.count ≤ greatest_count → HasCatalog sizes base catalog
     → ((db : Database) → ¬ IsSound sizes base catalog db) → ((fault : FileFault) → ¬ FileHasFault sizes base fault) → ⊥
 sound-or_fault sizes base catalog first few has unsound none =
-    found-some sizes base catalog has
-    (λ found. faultless-sound sizes base catalog found.0 first few has found.1 (λ fault wrong. none fault (inr (catalog, has, (found.0, found.1, wrong)))) (λ sound. unsound sound.0 sound.1))
+    let found = found-some sizes base catalog has in
+    faultless-sound sizes base catalog found.0 first few has found.1 (λ fault wrong. none fault (inr (catalog, has, (found.0, found.1, wrong)))) (λ sound. unsound sound.0 sound.1)

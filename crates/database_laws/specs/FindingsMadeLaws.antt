@@ -25,20 +25,20 @@ use Rattle.database_spec.specs.Catalogs.{is_table, is_index, index_rows, IsIndex
 use Rattle.database_spec.specs.RightRows.{is_virtual, has_name, repeats_name, rows_of, IsOwnRoot, IsRightTable, IsRightIndex, IsRight, AreFaultless, HasCatalog}
 use Rattle.database_spec.specs.ListsLaws.{PairsByRecursion, pairs-from}
 use Rattle.database_spec.specs.ItemsLaws.{Has, has-either, filter-has, decide, true-false}
-use Rattle.database_spec.specs.Rows.{TableRow, IsPlain}
 use Rattle.database_spec.specs.FileFindings.{Content, Entries, Anything, Subject, Walked, Found, Needs, table_kind, table_content, own_subject, IsIndexContent, IsIndexSubject, AreSubjectsOf, schema_subject, AreSubjects, IsWalked, freelist_found, pages_needed, tree_found, compared, AreFound}
 use Rattle.prepared_laws.specs.SortsLaws.{in_order, in_order-permutes, in_order-sorted}
 use Rattle.prepared_laws.specs.TablesMadeLaws.{pairs-with, pairs-weaken, pairs-join}
 use Rattle.prepared_laws.specs.ChangesMadeLaws.{pairs-filter}
 use Rattle.database_laws.specs.SubjectsLaws.{name-flip, name-join, right-row, row-root, index-row}
 use Rattle.database_laws.specs.RightFilesLaws.{all-of, all-has, false-any}
-use Rattle.database_laws.specs.WalksMadeLaws.{Surely, surely, surely-then, surely-or, walk-some}
+use Rattle.walk_laws.specs.RecordsDecidedLaws.{SomePlain, plain-decided}
+use Rattle.walk_laws.specs.WalksMadeLaws.{walk-found}
 
 -- Lists.
 
-zip-surely : {A B : Type 0} (R : A → B → Type 0) (xs : List A) → ((x : A) → Surely ((y : B) × R x y)) → Surely ((ys : List B) × AllZip R xs ys)
-zip-surely R [] each = surely ([], tt)
-zip-surely R (x ∷ xs) each = surely-then (each x) (λ one. surely-then (zip-surely R xs each) (λ rest. surely (one.0 ∷ rest.0, (one.1, rest.1))))
+zip-some : {A B : Type 0} (R : A → B → Type 0) (xs : List A) → ((x : A) → (y : B) × R x y) → (ys : List B) × AllZip R xs ys
+zip-some R [] each = ([], tt)
+zip-some R (x ∷ xs) each = let rest = zip-some R xs each in ((each x).0 ∷ rest.0, ((each x).1, rest.1))
 
 zip-join : {A B : Type 0} (R : A → B → Type 0) (xs : List A) (ys : List B) (zs : List A) (ws : List B) → AllZip R xs ys → AllZip R zs ws → AllZip R (xs ++ zs) (ys ++ ws)
 zip-join R [] [] zs ws one two = two
@@ -295,23 +295,22 @@ by_root-total : IsTotalOrder by_root
 by_root-total = on_total (λ (s : Subject). s.root) nat_cmp_total
 
 module _ (sizes : Sizes) (base : Paged) where
-  content-some : (entry : Entry) (meaning : Result Index SqlFault) → Surely ((content : Content) × IsIndexContent sizes base entry meaning content)
-  content-some entry (Err fault) = surely (Anything, λ index table rows e. absurd (let h : ⊥ = cc in h))
-  content-some entry (Ok index) =
-      surely-then (surely-or ((table : Table) × (rows : List TableRow) × IsPlain sizes base entry table rows))
-      (λ own. elim own [
-        | inl plain ↦ surely (Entries index plain.1, (refl, (plain.0, plain.2)))
-        | inr none ↦ surely (Anything, λ other table rows e plain. none (table, rows, plain))
-      ])
+  content-some : (entry : Entry) (meaning : Result Index SqlFault) → (content : Content) × IsIndexContent sizes base entry meaning content
+  content-some entry (Err fault) = (Anything, λ index table rows e. absurd (let h : ⊥ = cc in h))
+  content-some entry (Ok index) = by (plain-decided sizes base entry)
+    where
+      by : SomePlain sizes base entry ⊎ (SomePlain sizes base entry → ⊥) → (content : Content) × IsIndexContent sizes base entry (Ok index) content
+      by (inl plain) = (Entries index plain.1, (refl, (plain.0, plain.2)))
+      by (inr none) = (Anything, λ other table rows e plain. none (table, rows, plain))
 
-  index-some : (entry : Entry) (index : ℕ × Result Index SqlFault) → Surely ((subject : Subject) × IsIndexSubject sizes base entry index subject)
+  index-some : (entry : Entry) (index : ℕ × Result Index SqlFault) → (subject : Subject) × IsIndexSubject sizes base entry index subject
   index-some entry index =
-      surely-then (content-some entry index.1) (λ content. surely (record { root = index.0; kind = tree.Index; content = content.0 }, record { root = refl; kind = refl; content = content.1 }))
+      let content = content-some entry index.1 in (record { root = index.0; kind = tree.Index; content = content.0 }, record { root = refl; kind = refl; content = content.1 })
 
-  part-some : (named : NamedEntry) → Surely ((part : List Subject) × AreSubjectsOf sizes base named part)
+  part-some : (named : NamedEntry) → (part : List Subject) × AreSubjectsOf sizes base named part
   part-some named =
-      surely-then (zip-surely (IsIndexSubject sizes base named.entry) named.entry.indexes (index-some named.entry))
-      (λ indexes. surely (own_subject sizes base named.entry ++ indexes.0, (indexes.0, indexes.1, refl)))
+      let indexes = zip-some (IsIndexSubject sizes base named.entry) named.entry.indexes (index-some named.entry) in
+      (own_subject sizes base named.entry ++ indexes.0, (indexes.0, indexes.1, refl))
 
   own-zip : (row : SchemaRow) (entry : Entry) → entry.root ≡ row.root → AllZip SameRoot (own_row row) (own_subject sizes base entry)
   own-zip row entry root =
@@ -351,9 +350,8 @@ module _ (sizes : Sizes) (base : Paged) where
         (subst⁻¹ (AllZip SameRoot (own_row r ++ index_rows r.name rows)) made.2 own) (parts-zip tables entries parts one.1 two.1)
 
   -- the trees of a catalog in order of their roots
-  subjects-some : (catalog : Catalog) → HasCatalog sizes base catalog → Surely ((subjects : List Subject) × AreSubjects sizes base catalog subjects)
-  subjects-some catalog has =
-      surely-then (zip-surely (AreSubjectsOf sizes base) catalog.tables part-some) (λ parts. surely (made parts.0 parts.1))
+  subjects-some : (catalog : Catalog) → HasCatalog sizes base catalog → (subjects : List Subject) × AreSubjects sizes base catalog subjects
+  subjects-some catalog has = let parts = zip-some (AreSubjectsOf sizes base) catalog.tables part-some in made parts.0 parts.1
     where
       made : (parts : List (List Subject)) → AllZip (AreSubjectsOf sizes base) catalog.tables parts → (subjects : List Subject) × AreSubjects sizes base catalog subjects
       made parts are =
@@ -379,16 +377,14 @@ module _ (sizes : Sizes) (base : Paged) where
             record { parts = parts; are_parts = are; all = in_order-permutes by_root all; rise = pairs-from (λ (a b : Subject). a.root < b.root) (in_order by_root all) sorted },
           )
 
-  walked-some : (subject : Subject) → Surely ((walked : Walked) × IsWalked sizes base subject walked)
-  walked-some subject =
-      surely-then (walk-some sizes base subject.kind subject.root) (λ walk. surely (record { subject = subject; findings = walk.0 }, record { subject_is = refl; is_walk = walk.1 }))
+  walked-some : (subject : Subject) → (walked : Walked) × IsWalked sizes base subject walked
+  walked-some subject = let walk = walk-found sizes base subject.kind subject.root in (record { subject = subject; findings = walk.0 }, record { subject_is = refl; is_walk = walk.1 })
 
   -- something is found in a file with a catalog
-  pub found-some : (catalog : Catalog) → HasCatalog sizes base catalog → Surely ((found : List Found) × AreFound sizes base catalog found)
+  pub found-some : (catalog : Catalog) → HasCatalog sizes base catalog → (found : List Found) × AreFound sizes base catalog found
   found-some catalog has =
-      surely-then (subjects-some catalog has)
-      (λ subjects. surely-then (zip-surely (IsWalked sizes base) subjects.0 walked-some)
-      (λ walks. surely (
+      let subjects = subjects-some catalog has in
+      let walks = zip-some (IsWalked sizes base) subjects.0 walked-some in (
         flat_map tree_found walks.0 ++ (freelist_found sizes base ++ (map Needs (pages_needed sizes base) ++ flat_map compared walks.0)),
         record { subjects = subjects.0; are_subjects = subjects.1; walks = walks.0; are_walks = walks.1; found_are = refl },
-      )))
+      )

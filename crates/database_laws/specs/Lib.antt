@@ -5,6 +5,5 @@ pub mod FoundFreelistsLaws
 pub mod SubjectsLaws
 pub mod RightFilesLaws
 pub mod SoundFilesLaws
-pub mod WalksMadeLaws
 pub mod FindingsMadeLaws
 pub mod FaultlessFilesLaws

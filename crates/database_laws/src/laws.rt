@@ -22,12 +22,13 @@ pub fn walks_without_a_flaw_find_trees()
         → IsWalk sizes base kind root findings → AllByRecursion (IsFlawless deepest) findings → FoundRoot sizes base kind root findings }
 {}
 
-/// A file with a catalog is sound exactly where all that is found in it is right, each thing after all that was found before it. Page 1 is a page of the file, and it has at most 2^24 pages.
+/// A file with a catalog is sound exactly where all that is found in it is right, each thing after all that was found before it, and something is found in each. Page 1 is a page of the file, and it has at most 2^24 pages.
 pub fn sound_files_are_right()
     ensures right { (sizes : Sizes) (base : Paged) (catalog : Catalog) (db : Database) (found : List Found)
         → IsSound sizes base catalog db → AreFound sizes base catalog found → AreRight [] found }
     ensures sound { (sizes : Sizes) (base : Paged) (catalog : Catalog) (found : List Found) → IsRootNumber sizes base 1 → base.count ≤ greatest_count
         → HasCatalog sizes base catalog → AreFound sizes base catalog found → AreRight [] found → (db : Database) × IsSound sizes base catalog db }
+    ensures found { (sizes : Sizes) (base : Paged) (catalog : Catalog) → HasCatalog sizes base catalog → (found : List Found) × AreFound sizes base catalog found }
 {}
 
 /// What is right is not wrong, so a sound file has no fault: a file with a catalog is one sound database, or has one first fault, and it cannot be that it is neither.

@@ -1,3 +1,4 @@
+use Rattle.database_laws.specs.FindingsMadeLaws.{found-some}
 use Rattle.database_laws.specs.RightFilesLaws.{right-sound}
 use Rattle.database_laws.specs.SoundFilesLaws.{sound-right}
 use Rattle.database_laws.proofs.laws.sound_files_are_right.Goals as goal
@@ -7,3 +8,6 @@ returns-clause-right c sizes base catalog db found is are = sound-right sizes ba
 
 pub returns-clause-sound : goal.returns-clause-sound
 returns-clause-sound c sizes base catalog found first few has are right = right-sound sizes base catalog found first few has are right
+
+pub returns-clause-found : goal.returns-clause-found
+returns-clause-found c = found-some

@@ -108,7 +108,11 @@ pub fn size_of(order: Order, rowid: u32) -> u32
 }
 
 /// Puts the rows from 1 to 3000 into the table at root 2.
-pub fn fill(alloc: Global, store: &mut PlainStore, order: Order) -> Result<(), TreeFault<AllocError>> {
+pub fn fill(
+    alloc: Global,
+    store: &mut PlainStore,
+    order: Order,
+) -> Result<(), TreeFault<AllocError>> {
     for at in 1..3001 {
         let rowid = rowid_at(order, at);
         put_row(

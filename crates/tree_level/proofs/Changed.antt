@@ -214,6 +214,18 @@ module _ (sizes : Sizes) (page : TreePage) (change : Change) (comes : List (List
           few,
         )
 
+    -- or than a page and a third
+    pub made-third : IsUsable sizes.usable → 3 * needs comes ≤ page_room page.kind sizes.usable → 3 * needs made ≤ 4 * page_room page.kind sizes.usable
+    made-third fits few =
+        let read = spelled-read sizes.usable page decoded in
+        omega (
+          arith,
+          ap needs (is sizes.usable read.0 read.1),
+          needs-changed_most (bytes_in read.0) change.at change.goes comes,
+          page-needs page.bytes page.number sizes.usable page.kind (bytes_in read.0) page.right fits read.1.is_page,
+          few,
+        )
+
   -- the cells that the page is to have, spelled
   spelled-changed : (cells coming : List Spelled) → HasSpelled sizes.usable page cells → AreSpelled page.kind sizes.usable coming comes
       → AreSpelled page.kind sizes.usable (changed cells change.at change.goes coming) (bytes_changed cells change comes)

@@ -301,6 +301,36 @@ few-less room (suc zero) left few over = omega arith
 few-less room (suc (suc zero)) left few over = absurd (omega arith)
 few-less room (suc (suc (suc n))) left few over = absurd few
 
+-- Where cells of a table's interior page need no more than one page and a third have room for, there is one front at most.
+
+-- after so many fronts the cells that are left need so much
+abbrev pub AreOnce : ℕ → ℕ → List (List ℕ) → Type 0
+AreOnce room zero left = 3 * needs left ≤ 4 * room
+AreOnce room (suc zero) left = needs left ≤ room
+AreOnce room (suc (suc n)) left = ⊥
+
+-- a cell of such a page needs a third of its room at most
+pub head-need : (kind : PageKind) (usable : ℕ) (cells : List (List ℕ)) → kind ≡ TableInterior → IsUsable usable → All (IsOneCell kind usable) cells → 3 * needs (take 1 cells) ≤ page_room kind usable
+head-need kind usable cells same fits all =
+    subst⁻¹ (λ (k : PageKind). 3 * needs (take 1 cells) ≤ page_room k usable) same (head cells (subst (λ (k : PageKind). All (IsOneCell k usable) cells) same all))
+  where
+    head : (xs : List (List ℕ)) → All (IsOneCell TableInterior usable) xs → 3 * needs (take 1 xs) ≤ page_room TableInterior usable
+    head [] each = omega arith
+    head (x ∷ xs) each = omega (arith, cell-need TableInterior usable x fits (each 0 x (omega arith)))
+
+pub once-more : (room n used : ℕ) (left : List (List ℕ)) → 3 * needs (take 1 (drop used left)) ≤ room → room < needs left → (needs left ≤ 2 * room → 2 * needs (drop (used + 1) left) ≤ needs left)
+    → AreOnce room n left → AreOnce room (suc n) (drop used left)
+once-more room zero used left head over half once =
+    let behind : needs (drop 1 (drop used left)) ≡ needs (drop (used + 1) left) = ap needs (drop-drop 1 used left) in
+    omega (arith, behind, needs-parts (drop used left) 1, head, half (omega (arith, once)), once)
+once-more room (suc zero) used left head over half once = omega (arith, once, over)
+once-more room (suc (suc n)) used left head over half once = once
+
+pub once-most : (room n : ℕ) (left : List (List ℕ)) → AreOnce room n left → n ≤ 1
+once-most room zero left once = omega arith
+once-most room (suc zero) left once = omega arith
+once-most room (suc (suc n)) left once = absurd once
+
 -- How many pages the fronts take.
 
 pub spreads-takes : (sizes : Sizes) (page_kind : PageKind) (bytes dividers left : List (List ℕ)) (a b : Paged) (trunks : List Trunk) → Spreads sizes page_kind bytes dividers left a b

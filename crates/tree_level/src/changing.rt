@@ -1,6 +1,7 @@
 // Changes a page that was read, and writes it.
-ghost use Rattle.std.specs.Prelude.{◌≡◌, ◌≤◌, ◌<◌, List, [], IfErr, IfOk, OnOk, length, max};
+ghost use Rattle.std.specs.Prelude.{◌≡◌, ◌*◌, ◌≤◌, ◌<◌, List, [], IfErr, IfOk, OnOk, length, max};
 ghost use Rattle.std.specs.List.{All};
+ghost use Rattle.format_spec.specs.declared.PageKind.TheVariants.{TableInterior};
 ghost use Rattle.page_spec.specs.Rooms.{IsOneCell, free_bytes, needs as bytes_needed, right_kept};
 ghost use Rattle.page_store.specs.Store.{HasSizes, IsNumber, OwesBy};
 ghost use Rattle.put_spec.specs.Steps.{Spelled};
@@ -143,6 +144,7 @@ fn settle_changed<S: PageWrite>(
     ensures changed { IfOk result (λ dividers. Becomes S.PageRead store.old store.new (Changes (sizes_of S.PageRead store.old) page change comes.items dividers.items)) }
     ensures dividers { IfOk result (λ dividers. All (IsOneCell (above_kind page.kind) (S.usable store.old)) dividers.items) }
     ensures few { IfOk result (λ dividers. bytes_needed comes.items ≤ page_room page.kind (S.usable store.old) → length dividers.items ≤ 2) }
+    ensures one { IfOk result (λ dividers. page.kind ≡ TableInterior → 3 * bytes_needed comes.items ≤ page_room page.kind (S.usable store.old) → length dividers.items ≤ 1) }
     ensures count { OnOk result (S.count store.old ≤ S.count store.new) }
     ensures most { OnOk result (S.count store.new ≤ max limit (S.count store.old)) }
     ensures rises { IfOk result (λ dividers. RisesBy S.PageRead (length dividers.items) store.old store.new) }
@@ -182,6 +184,7 @@ pub fn change_page<S: PageWrite>(
     ensures changed { IfOk result (λ dividers. Becomes S.PageRead store.old store.new (Changes (sizes_of S.PageRead store.old) page change comes.items dividers.items)) }
     ensures dividers { IfOk result (λ dividers. All (IsOneCell (above_kind page.kind) (S.usable store.old)) dividers.items) }
     ensures few { IfOk result (λ dividers. bytes_needed comes.items ≤ page_room page.kind (S.usable store.old) → length dividers.items ≤ 2) }
+    ensures one { IfOk result (λ dividers. page.kind ≡ TableInterior → 3 * bytes_needed comes.items ≤ page_room page.kind (S.usable store.old) → length dividers.items ≤ 1) }
     ensures count { OnOk result (S.count store.old ≤ S.count store.new) }
     ensures most { OnOk result (S.count store.new ≤ max limit (S.count store.old)) }
     ensures rises { IfOk result (λ dividers. RisesBy S.PageRead (length dividers.items) store.old store.new) }

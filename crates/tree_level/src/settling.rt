@@ -1,6 +1,7 @@
 // Writes the cells that a page is to have.
 ghost use Rattle.std.specs.Prelude.{◌≡◌, ◌≤◌, ◌<◌, ◌*◌, [], IfOk, OnOk, length, max};
 ghost use Rattle.std.specs.List.{All};
+ghost use Rattle.format_spec.specs.declared.PageKind.TheVariants.{TableInterior};
 ghost use Rattle.page_spec.specs.Rooms.{IsOneCell, free_bytes, needs as bytes_needed};
 ghost use Rattle.page_store.specs.Store.{HasSizes, IsNumber, OwesBy};
 ghost use Rattle.tree_balance.specs.Cuts.{page_room};
@@ -35,6 +36,7 @@ pub fn settle<S: PageWrite>(
     ensures settled { IfOk result (λ dividers. Becomes S.PageRead store.old store.new (Settles (sizes_of S.PageRead store.old) node cells.now dividers.items)) }
     ensures dividers { IfOk result (λ dividers. All (IsOneCell (above_kind node.kind) (S.usable store.old)) dividers.items) }
     ensures few { IfOk result (λ dividers. bytes_needed cells.now ≤ 2 * page_room node.kind (S.usable store.old) → length dividers.items ≤ 2) }
+    ensures one { IfOk result (λ dividers. node.kind ≡ TableInterior → 3 * bytes_needed cells.now ≤ 4 * page_room node.kind (S.usable store.old) → length dividers.items ≤ 1) }
     ensures count { OnOk result (S.count store.old ≤ S.count store.new) }
     ensures most { OnOk result (S.count store.new ≤ max limit (S.count store.old)) }
     ensures rises { IfOk result (λ dividers. RisesBy S.PageRead (length dividers.items) store.old store.new) }

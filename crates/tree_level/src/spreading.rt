@@ -1,6 +1,7 @@
 // Spreads cells that one page has no room for.
 ghost use Rattle.std.specs.Prelude.{◌≡◌, ◌≤◌, ◌<◌, ◌+◌, ◌*◌, [], ◌∷◌, ◌++◌, IfOk, OnOk, length, drop, max};
 ghost use Rattle.std.specs.List.{All};
+ghost use Rattle.format_spec.specs.declared.PageKind.TheVariants.{TableInterior};
 ghost use Rattle.page_spec.specs.Rooms.{IsOneCell, needs as bytes_needed};
 ghost use Rattle.page_store.specs.Store.{HasSizes, OwesBy};
 ghost use Rattle.tree_balance.specs.Cuts.{page_room, risen as cells_risen};
@@ -111,6 +112,7 @@ pub fn spread_cells<S: PageWrite>(
     ensures fits { IfOk result (λ spread. bytes_needed (drop spread.start cells.now) ≤ page_room kind (S.usable store.old)) }
     ensures over { IfOk result (λ spread. page_room kind (S.usable store.old) < bytes_needed cells.now → 1 ≤ length spread.dividers.items) }
     ensures few { IfOk result (λ spread. bytes_needed cells.now ≤ 2 * page_room kind (S.usable store.old) → length spread.dividers.items ≤ 2) }
+    ensures one { IfOk result (λ spread. kind ≡ TableInterior → 3 * bytes_needed cells.now ≤ 4 * page_room kind (S.usable store.old) → length spread.dividers.items ≤ 1) }
     ensures count { OnOk result (S.count store.old ≤ S.count store.new) }
     ensures most { OnOk result (S.count store.new ≤ max limit (S.count store.old)) }
     ensures rises { IfOk result (λ spread. RisesBy S.PageRead (length spread.dividers.items) store.old store.new) }

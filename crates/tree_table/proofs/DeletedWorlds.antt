@@ -1,5 +1,5 @@
 -- A row deleted from a table of a world.
-use Rattle.std.proofs.Common.{◌≡◌, ℕ, ℤ, ◌≤◌, List, Option, subst}
+use Rattle.std.proofs.Common.{◌≡◌, ℕ, ℤ, ◌≤◌, List, Option, Result, Ok, Err, OnOk, subst}
 use Rattle.std.proofs.Math.Path.{subst⁻¹}
 use Rattle.page_spec.specs.Freelists.{Trunk}
 use Rattle.page_spec.specs.Pages.{Pages}
@@ -34,6 +34,10 @@ world-deleted sizes gone front old back p a b c root first bytes world kind is i
       none = λ m there. ((taken-members gone (list_in old) (list_in w.new) w.list rises m).0 there).1;
       header = w.turns.header;
     }
+
+pub on-ok_all : {T E P : Type 0} (result : Result T E) → P → OnOk result P
+on-ok_all (Ok x) holds = holds
+on-ok_all (Err e) holds = tt
 
 -- The same delete, with its numbers under other names.
 

@@ -1,5 +1,5 @@
 -- What an interior page is to have once a child of it is left in some way.
-use Rattle.std.proofs.Common.{◌≡◌, ℕ, ℤ, zero, suc, ◌<◌, ◌≤◌, true, false, List, [], ◌∷◌, ◌++◌, length, take, drop, slice_index_or, inl, inr, refl, sym, ap, ◌∙◌, subst, arith}
+use Rattle.std.proofs.Common.{◌≡◌, ℕ, ℤ, zero, suc, ◌*◌, ◌<◌, ◌≤◌, true, false, List, [], ◌∷◌, ◌++◌, length, take, drop, slice_index_or, inl, inr, refl, sym, ap, ◌∙◌, subst, arith}
 use Rattle.std.proofs.Math.Path.{subst⁻¹}
 use Rattle.std.proofs.Math.Seq.{take-append_seam, drop-append_seam}
 use Rattle.std.proofs.lemmas.List.{append-nil, drop_all, take_all}
@@ -11,6 +11,8 @@ use Rattle.format_spec.specs.Cell.{IsCell}
 use Rattle.format_spec.specs.Sizes.{IsUsable}
 use Rattle.page_spec.specs.Rooms.{IsOneCell, needs, right_kept}
 use Rattle.tree_balance.specs.Cuts.{page_room}
+use Rattle.tree_balance.specs.NeedsLaws.{cell-need, thrice-below}
+use Rattle.std.proofs.Math.Nat.{mul-le-mul_left}
 use Rattle.tree_spec.specs.declared.TreeKind.TheVariants.{Table}
 use Rattle.tree_spec.specs.Standing.{Sizes, Paged}
 use Rattle.put_spec.specs.Steps.{Spelled, HasCells, IsSettled, Releases, child_page, with_dividers}
@@ -25,7 +27,7 @@ use Rattle.tree_level.specs.Levels.{AreSpelled}
 use Rattle.tree_table.specs.declared.taking.Taken.{Taken}
 use Rattle.tree_table.specs.Deletes.{IsChildAt, IsKey, LosesLeaf, Opens, gone_of}
 use Rattle.tree_table.proofs.Takings.{middle, none-spelled, view-at, views-many}
-use Rattle.tree_table.proofs.Unders.{has-cells, row-fits, same-spelled}
+use Rattle.tree_table.proofs.Unders.{has-cells, same-spelled}
 
 -- the cell that comes down is one cell of an interior page, which has room for it
 pub key-one : (usable : ℕ) (page : TreePage) (at child : ℕ) (bytes : List (List ℕ)) (kind : PageKind) → kind ≡ TableInterior → IsKey page at child bytes → All (IsOneCell kind usable) bytes
@@ -37,8 +39,15 @@ key-one usable page at child bytes kind same key =
     first zero d low = refl
     first (suc k) d low = absurd (omega arith)
 
-pub key-fits : (usable : ℕ) (page : TreePage) (at child : ℕ) (bytes : List (List ℕ)) (kind : PageKind) → kind ≡ TableInterior → IsUsable usable → IsKey page at child bytes → needs bytes ≤ page_room kind usable
-key-fits usable page at child bytes kind same fits key = row-fits usable bytes kind fits (key-one usable page at child bytes kind same key) (omega (arith, ap length key.1))
+-- one cell of an interior page at most
+pub once-fits : (usable : ℕ) (cells : List (List ℕ)) (kind : PageKind) → kind ≡ TableInterior → IsUsable usable → All (IsOneCell TableInterior usable) cells → length cells ≤ 1 → 3 * needs cells ≤ page_room kind usable
+once-fits usable cells kind same fits all few =
+    let room = page_room TableInterior usable in
+    let thrice : 3 * needs cells ≤ length cells * room = thrice-below room cells (λ k d low. omega (arith, cell-need TableInterior usable (slice_index_or cells k d) fits (all k d low))) in
+    omega (arith, thrice, mul-le-mul_left room few, ap (λ (k : PageKind). page_room k usable) same)
+
+pub key-once : (usable : ℕ) (page : TreePage) (at child : ℕ) (bytes : List (List ℕ)) (kind : PageKind) → kind ≡ TableInterior → IsUsable usable → IsKey page at child bytes → 3 * needs bytes ≤ page_room kind usable
+key-once usable page at child bytes kind same fits key = once-fits usable bytes kind same fits (key-one usable page at child bytes TableInterior refl key) (omega (arith, ap length key.1))
 
 -- dividers between two parts
 with-seam : {A : Type 0} (front back grew : List A) → take (length front) (front ++ back) ++ (grew ++ drop (length front) (front ++ back)) ≡ front ++ (grew ++ back)

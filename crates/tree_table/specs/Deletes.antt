@@ -26,6 +26,10 @@ use Rattle.tree_table.specs.declared.taking.Left.TheVariants.{Cells, NoCell, Onl
 use Rattle.tree_table.specs.declared.taking.Removed.{Removed}
 use Rattle.tree_table.specs.declared.taking.Taken.{Taken}
 
+-- how many pages a delete takes at most: two for each level of a tree, and some more (the lock-byte page counted)
+abbrev pub delete_pages : ℕ
+delete_pages = 54
+
 -- the member that goes
 abbrev pub gone_of : ℤ → Taken → Member
 gone_of rowid row = record { rowid = rowid; payload = row.payload }
@@ -60,9 +64,9 @@ IsStill (Cells dividers) = dividers.items ≡ []
 IsStill NoCell = ⊥
 IsStill (OnlyChild only) = ⊥
 
--- the cells that go up are cells, and two at most
+-- the cells that go up are cells, and one at most
 abbrev pub IsFit : ℕ → Left → Type 0
-IsFit usable (Cells dividers) = All (IsOneCell TableInterior usable) dividers.items × (length dividers.items ≤ 2)
+IsFit usable (Cells dividers) = All (IsOneCell TableInterior usable) dividers.items × (length dividers.items ≤ 1)
 IsFit usable NoCell = Unit {0}
 IsFit usable (OnlyChild only) = Unit {0}
 

@@ -5,6 +5,7 @@ ghost use Rattle.format_spec.specs.declared.PageKind.TheVariants.{TableInterior}
 ghost use Rattle.page_spec.specs.Rooms.{IsOneCell};
 ghost use Rattle.page_store.specs.Store.{HasSizes, IsNumber, OwesBy};
 ghost use Rattle.tree_level.specs.Changes.{behind};
+ghost use Rattle.tree_pages.specs.Takes.{RisesBy};
 ghost use Rattle.tree_pages.specs.Writers.{Becomes, sizes_of};
 ghost use Rattle.tree_spec.specs.Faults.{fault_in};
 ghost use Rattle.tree_walk.specs.Pages.{IsDecoded};
@@ -51,11 +52,12 @@ fn close_page<S: PageWrite>(
     requires kind { page.kind ≡ TableInterior }
     requires within { behind opened.change.at opened.change.goes ≤ length page.views }
     requires comes { All (IsOneCell TableInterior (S.usable store.old)) opened.comes.items }
-    requires few { length opened.comes.items ≤ 2 }
+    requires few { length opened.comes.items ≤ 1 }
     ensures left { IfOk result (λ left. Becomes S.PageRead store.old store.new (Closes (sizes_of S.PageRead store.old) page opened left)) }
     ensures fit { IfOk result (IsFit (S.usable store.old)) }
     ensures count { OnOk result (S.count store.old ≤ S.count store.new) }
     ensures most { OnOk result (S.count store.new ≤ max limit (S.count store.old)) }
+    ensures rises { OnOk result (RisesBy S.PageRead 1 store.old store.new) }
     ensures owes { OwesBy S.PageRead fault_in store.old store.new result }
 {
     if is_emptied(&page, &opened) {
@@ -88,6 +90,7 @@ pub fn pass_on<S: PageWrite>(
     ensures fit { IfOk result (IsFit (S.usable store.old)) }
     ensures count { OnOk result (S.count store.old ≤ S.count store.new) }
     ensures most { OnOk result (S.count store.new ≤ max limit (S.count store.old)) }
+    ensures rises { OnOk result (RisesBy S.PageRead 2 store.old store.new) }
     ensures owes { OwesBy S.PageRead fault_in store.old store.new result }
 {
     if is_still(&below) {

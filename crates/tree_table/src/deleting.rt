@@ -1,11 +1,12 @@
 // Deletes a row from the tree of a root.
-ghost use Rattle.std.specs.Prelude.{◌≡◌, ◌≤◌, IfOk, OnOk, length, max};
+ghost use Rattle.std.specs.Prelude.{◌≡◌, ◌+◌, ◌≤◌, IfOk, OnOk, length, max};
 ghost use Rattle.format_spec.specs.declared.PageKind.TheVariants.{TableLeaf};
 ghost use Rattle.page_store.specs.Store.{HasSizes, OwesBy};
+ghost use Rattle.tree_pages.specs.Takes.{RisesBy};
 ghost use Rattle.tree_pages.specs.Writers.{Becomes, sizes_of};
 ghost use Rattle.tree_spec.specs.Faults.{fault_in};
 ghost use Rattle.tree_walk.specs.Pages.{IsDecoded};
-ghost use Rattle.tree_table.specs.Deletes.{DeletesInto, DeletesRow};
+ghost use Rattle.tree_table.specs.Deletes.{DeletesInto, DeletesRow, delete_pages};
 
 use crate::opening::step_below;
 use crate::removing::delete_below;
@@ -64,6 +65,7 @@ fn delete_root<S: PageWrite>(
     ensures deleted { IfOk result (λ taken. Becomes S.PageRead store.old store.new (DeletesInto (sizes_of S.PageRead store.old) root rowid taken)) }
     ensures count { OnOk result (S.count store.old ≤ S.count store.new) }
     ensures most { OnOk result (S.count store.new ≤ max limit (S.count store.old)) }
+    ensures rises { OnOk result (RisesBy S.PageRead 50 store.old store.new) }
     ensures owes { OwesBy S.PageRead fault_in store.old store.new result }
 {
     let page = read_page(alloc, store, root)?;
@@ -103,6 +105,7 @@ pub fn delete<S: PageWrite>(
     ensures deleted { IfOk result (λ payload. Becomes S.PageRead store.old store.new (DeletesRow (sizes_of S.PageRead store.old) root rowid limit payload)) }
     ensures count { OnOk result (S.count store.old ≤ S.count store.new) }
     ensures most { OnOk result (S.count store.new ≤ max limit (S.count store.old)) }
+    ensures rises { OnOk result (S.count store.new ≤ S.count store.old + delete_pages) }
     ensures owes { OwesBy S.PageRead fault_in store.old store.new result }
 {
     let taken = delete_root(alloc, store, root, rowid, limit)?;

@@ -6,6 +6,7 @@ ghost use Rattle.page_spec.specs.Pages.{Pages};
 ghost use Rattle.page_spec.specs.Rooms.{IsOneCell};
 ghost use Rattle.page_store.specs.Store.{HasSizes, IsNumber, OwesBy};
 ghost use Rattle.tree_level.specs.Changes.{behind};
+ghost use Rattle.tree_pages.specs.Takes.{RisesBy};
 ghost use Rattle.tree_pages.specs.Writers.{Becomes, sizes_of};
 ghost use Rattle.tree_spec.specs.Faults.{fault_in};
 ghost use Rattle.tree_walk.specs.Pages.{IsDecoded};
@@ -82,9 +83,10 @@ pub fn join_next<S: PageWrite>(
     ensures opened { IfOk result (λ opened. Becomes S.PageRead store.old store.new (OpensOver (sizes_of S.PageRead store.old) page.now step.child (OnlyChild only_child) opened)) }
     ensures within { IfOk result (λ opened. behind opened.change.at opened.change.goes ≤ length page.now.views) }
     ensures comes { IfOk result (λ opened. All (IsOneCell TableInterior (S.usable store.old)) opened.comes.items) }
-    ensures few { IfOk result (λ opened. length opened.comes.items ≤ 2) }
+    ensures few { IfOk result (λ opened. length opened.comes.items ≤ 1) }
     ensures count { OnOk result (S.count store.old ≤ S.count store.new) }
     ensures most { OnOk result (S.count store.new ≤ max limit (S.count store.old)) }
+    ensures rises { OnOk result (RisesBy S.PageRead 1 store.old store.new) }
     ensures owes { OwesBy S.PageRead fault_in store.old store.new result }
 {
     let beside = read_neighbour(alloc, store, page, step.at + 1)?;
@@ -125,9 +127,10 @@ pub fn join_last<S: PageWrite>(
     ensures opened { IfOk result (λ opened. Becomes S.PageRead store.old store.new (OpensOver (sizes_of S.PageRead store.old) page.now step.child (OnlyChild only_child) opened)) }
     ensures within { IfOk result (λ opened. behind opened.change.at opened.change.goes ≤ length page.now.views) }
     ensures comes { IfOk result (λ opened. All (IsOneCell TableInterior (S.usable store.old)) opened.comes.items) }
-    ensures few { IfOk result (λ opened. length opened.comes.items ≤ 2) }
+    ensures few { IfOk result (λ opened. length opened.comes.items ≤ 1) }
     ensures count { OnOk result (S.count store.old ≤ S.count store.new) }
     ensures most { OnOk result (S.count store.new ≤ max limit (S.count store.old)) }
+    ensures rises { OnOk result (RisesBy S.PageRead 1 store.old store.new) }
     ensures owes { OwesBy S.PageRead fault_in store.old store.new result }
 {
     let end = step.at - 1;

@@ -1,6 +1,7 @@
 // Deletes a row below a page.
-ghost use Rattle.std.specs.Prelude.{◌≡◌, ◌≤◌, ◌<◌, IfErr, IfOk, IfSome, None, OnOk, length, max};
+ghost use Rattle.std.specs.Prelude.{◌≡◌, ◌*◌, ◌≤◌, ◌<◌, IfErr, IfOk, IfSome, None, OnOk, length, max};
 ghost use Rattle.page_store.specs.Store.{HasSizes, IsNumber, OwesBy};
+ghost use Rattle.tree_pages.specs.Takes.{RisesBy};
 ghost use Rattle.tree_pages.specs.Writers.{Becomes, sizes_of};
 ghost use Rattle.tree_spec.specs.Faults.{fault_in};
 ghost use Rattle.tree_table.specs.Deletes.{DeletesUnder, IsFit};
@@ -46,6 +47,7 @@ pub fn delete_below<S: PageWrite>(
     ensures fit { IfOk result (λ removed. IfSome removed (λ it. IsFit (S.usable store.old) it.left)) }
     ensures count { OnOk result (S.count store.old ≤ S.count store.new) }
     ensures most { OnOk result (S.count store.new ≤ max limit (S.count store.old)) }
+    ensures rises { OnOk result (RisesBy S.PageRead (2 * levels) store.old store.new) }
     ensures owes { OwesBy S.PageRead fault_in store.old store.new result }
 {
     let page = read_page(alloc, store, number)?;

@@ -7,6 +7,7 @@ ghost use Rattle.page_spec.specs.Rooms.{IsOneCell};
 ghost use Rattle.page_store.specs.Store.{HasSizes, IsNumber, OwesBy};
 ghost use Rattle.tree_level.specs.Changes.{behind};
 ghost use Rattle.tree_level.specs.Levels.{WritesNode};
+ghost use Rattle.tree_pages.specs.Takes.{RisesBy};
 ghost use Rattle.tree_pages.specs.Writers.{Becomes, sizes_of};
 ghost use Rattle.tree_spec.specs.Faults.{fault_in};
 ghost use Rattle.tree_walk.specs.Pages.{IsDecoded};
@@ -71,6 +72,7 @@ fn pass_to_first<S: PageWrite>(
     ensures passes { OnOk result (Becomes S.PageRead store.old store.new (PassesRoot (sizes_of S.PageRead store.old) page child below)) }
     ensures count { OnOk result (S.count store.old ≤ S.count store.new) }
     ensures most { OnOk result (S.count store.new ≤ max limit (S.count store.old)) }
+    ensures rises { OnOk result (RisesBy S.PageRead 3 store.old store.new) }
     ensures owes { OwesBy S.PageRead fault_in store.old store.new result }
 {
     match below {
@@ -141,6 +143,7 @@ fn take_only_child<S: PageWrite>(
     ensures closes { OnOk result (Becomes S.PageRead store.old store.new (ClosesRoot (sizes_of S.PageRead store.old) page opened)) }
     ensures count { OnOk result (S.count store.old ≤ S.count store.new) }
     ensures most { OnOk result (S.count store.new ≤ max limit (S.count store.old)) }
+    ensures rises { OnOk result (RisesBy S.PageRead 3 store.old store.new) }
     ensures owes { OwesBy S.PageRead fault_in store.old store.new result }
 {
     let only = opened.change.right;
@@ -168,10 +171,11 @@ fn close_root<S: PageWrite>(
     requires kind { page.kind ≡ TableInterior }
     requires within { behind opened.change.at opened.change.goes ≤ length page.views }
     requires comes { All (IsOneCell TableInterior (S.usable store.old)) opened.comes.items }
-    requires few { length opened.comes.items ≤ 2 }
+    requires few { length opened.comes.items ≤ 1 }
     ensures closes { OnOk result (Becomes S.PageRead store.old store.new (ClosesRoot (sizes_of S.PageRead store.old) page opened)) }
     ensures count { OnOk result (S.count store.old ≤ S.count store.new) }
     ensures most { OnOk result (S.count store.new ≤ max limit (S.count store.old)) }
+    ensures rises { OnOk result (RisesBy S.PageRead 3 store.old store.new) }
     ensures owes { OwesBy S.PageRead fault_in store.old store.new result }
 {
     if is_emptied(&page, &opened) {
@@ -203,6 +207,7 @@ pub fn pass_to_root<S: PageWrite>(
     ensures passes { OnOk result (Becomes S.PageRead store.old store.new (PassesRoot (sizes_of S.PageRead store.old) page step.child below)) }
     ensures count { OnOk result (S.count store.old ≤ S.count store.new) }
     ensures most { OnOk result (S.count store.new ≤ max limit (S.count store.old)) }
+    ensures rises { OnOk result (RisesBy S.PageRead 4 store.old store.new) }
     ensures owes { OwesBy S.PageRead fault_in store.old store.new result }
 {
     if is_still(&below) {

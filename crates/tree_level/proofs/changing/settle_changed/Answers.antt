@@ -12,7 +12,7 @@ use Rattle.tree_level.specs.declared.writing.Node.{Node}
 use Rattle.tree_level.specs.Changes.{bytes_changed}
 use Rattle.tree_level.specs.Levels.{above_kind, Settles}
 use Rattle.tree_level.proofs.Raised.{if-ok_map}
-use Rattle.tree_level.proofs.Changed.{made-cells, made-over, made-twice, readable, some-needed, settles-changed}
+use Rattle.tree_level.proofs.Changed.{made-cells, made-over, made-third, made-twice, readable, some-needed, settles-changed}
 use Rattle.tree_level.proofs.changing.settle_changed.Goals as goal
 
 pub changed_cells-requires-clause-page : goal.changed_cells-requires-clause-page
@@ -58,6 +58,15 @@ pub returns-clause-dividers : goal.returns-clause-dividers
 returns-clause-dividers g c =
     let u = g.S.PageRead.usable c.args.store.now in
     if-ok_map c.settle.result (λ dividers all. subst (λ (n : Node). All (IsOneCell (above_kind n.kind) u) dividers.items) c.node_of-node.ensures all) c.settle.ensures.dividers
+
+pub returns-clause-one : goal.returns-clause-one
+returns-clause-one g c =
+    let a = c.args in
+    let u = g.S.PageRead.usable a.store.now in
+    let z = sizes_of g.S.PageRead a.store.now in
+    if-ok_map c.settle.result (λ dividers one. λ interior low.
+    let third = made-third z a.page a.change a.comes.items c.requires.page c.in_ok-cells.cells.items c.in_ok-cells.ensures c.requires.sizes.usable low in
+    one (ap (λ (n : Node). n.kind) c.node_of-node.ensures ∙ interior) (omega (arith, third, ap needs c.as_slice.ensures.value, ap (λ (n : Node). page_room n.kind u) c.node_of-node.ensures))) c.settle.ensures.one
 
 pub returns-clause-few : goal.returns-clause-few
 returns-clause-few g c =

@@ -9,7 +9,7 @@ use Rattle.tree_pages.specs.WritersLaws.{Becomes-weaken}
 use Rattle.tree_level.specs.declared.writing.Node.{Node}
 use Rattle.tree_level.specs.Levels.{Settles}
 use Rattle.tree_level.proofs.Raised.{if-ok_map}
-use Rattle.tree_level.proofs.Changed.{made-cells, made-some, made-twice, readable, settles-at}
+use Rattle.tree_level.proofs.Changed.{made-cells, made-some, made-third, made-twice, readable, settles-at}
 use Rattle.tree_level.proofs.moving.settle_elsewhere.Goals as goal
 
 pub changed_cells-requires-clause-page : goal.changed_cells-requires-clause-page
@@ -45,6 +45,14 @@ returns-clause-settled g c =
     Becomes-weaken S a.store.now c.settle.new.store (λ (x y : Paged) (s : Settles z node l dividers.items x y).
     settles-at z a.page a.change a.comes.items a.number dividers.items x y (λ cells has.
     subst (λ (m : List (List ℕ)). Settles z node m dividers.items x y) (c.as_slice.ensures.value ∙ c.in_ok-cells.ensures z.usable cells has) s)) settled) c.settle.ensures.settled
+
+pub returns-clause-one : goal.returns-clause-one
+returns-clause-one g c =
+    let a = c.args in
+    let z = sizes_of g.S.PageRead a.store.now in
+    if-ok_map c.settle.result (λ dividers one. λ interior low.
+    let third = made-third z a.page a.change a.comes.items c.requires.page c.in_ok-cells.cells.items c.in_ok-cells.ensures c.requires.sizes.usable low in
+    one interior (omega (arith, third, ap needs c.as_slice.ensures.value))) c.settle.ensures.one
 
 pub returns-clause-few : goal.returns-clause-few
 returns-clause-few g c =

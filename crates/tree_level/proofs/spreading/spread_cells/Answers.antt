@@ -1,4 +1,4 @@
-use Rattle.std.proofs.Common.{◌≡◌, ◌+◌, ◌-◌, ◌<◌, ◌≤◌, ℕ, suc, List, [], ◌∷◌, ◌++◌, length, take, drop, inl, ap, ◌∙◌, subst, arith, length-append}
+use Rattle.std.proofs.Common.{◌≡◌, ◌+◌, ◌-◌, ◌*◌, ◌<◌, ◌≤◌, ℕ, suc, List, [], ◌∷◌, ◌++◌, length, take, drop, inl, ap, ◌∙◌, subst, arith, length-append}
 use Rattle.std.proofs.Math.Path.{subst⁻¹}
 use Rattle.std.proofs.lemmas.List.{drop-drop, length-drop}
 use Rattle.std.proofs.lemmas.Result.{err_from_is_err_and}
@@ -13,7 +13,7 @@ use Rattle.tree_balance.specs.Cuts.{page_room}
 use Rattle.tree_pages.specs.Writers.{paged, sizes_of}
 use Rattle.tree_pages.specs.WritersLaws.{sizes-same}
 use Rattle.tree_level.specs.Levels.{Spreads, above_kind}
-use Rattle.tree_level.proofs.Fronts.{AreFew, cells-behind, few-less, few-more, spreads-short, spreads-takes, spreads-then, rest-of, all-more}
+use Rattle.tree_level.proofs.Fronts.{AreFew, AreOnce, cells-behind, few-less, few-more, head-need, once-more, once-most, spreads-short, spreads-takes, spreads-then, rest-of, all-more}
 use Rattle.tree_level.proofs.spreading.spread_cells.Goals as goal
 
 pub write_front-requires-clause-cells : goal.write_front-requires-clause-cells
@@ -68,6 +68,13 @@ loop-alloc-preserved g c =
           (subst (AreFew room (suc (length done))) next
           (few-more room (length done) used (drop start cells) f.some over
           (λ low. omega (arith, behind, needed, f.half (omega (arith, needed, room_at, low)))) (inv.few twice)));
+      one = λ interior third.
+          subst⁻¹ (λ (n : ℕ). AreOnce room n (drop (start + used) cells)) many
+          (subst (AreOnce room (suc (length done))) next
+          (once-more room (length done) used (drop start cells)
+          (subst⁻¹ (λ (l : List (List ℕ)). 3 * needs (take 1 l) ≤ room) next
+          (head-need kind (S.usable a) (drop (start + used) cells) interior c.requires.sizes.usable (cells-behind (IsOneCell kind (S.usable a)) (start + used) cells c.requires.cells))) over
+          (λ low. omega (arith, behind, needed, f.half (omega (arith, needed, room_at, low)))) (inv.one interior third)));
       spread = λ old told.
           let b = inv.spread old told in
           let n = f.spread b.0 b.1 in
@@ -84,6 +91,10 @@ loop-alloc-preserved g c =
                 (spreads-then (sizes_of S a) kind cells (drop start cells) (drop used (drop start cells)) done (divider ∷ []) x y z b.2 s)),
           );
     }
+
+pub returns-clause-one : goal.returns-clause-one
+returns-clause-one g c = λ interior third.
+    once-most (page_room c.args.kind (g.S.PageRead.usable c.args.store.now)) (length c.loop-alloc.dividers.items) (drop c.loop-alloc.start c.args.cells.now) (c.loop-alloc.invariant.one interior third)
 
 pub returns-in_err-front-clause-refuses : goal.returns-in_err-front-clause-refuses
 returns-in_err-front-clause-refuses g c = λ twice m trunks told free.

@@ -1,12 +1,13 @@
 use Rattle.std.proofs.Common.{◌≡◌, ◌≤◌, ◌<◌, ◌+◌, ◌*◌, length, drop, ◌-◌, max}
 use Rattle.std.specs.List.{All}
+use Rattle.format_spec.specs.declared.PageKind.TheVariants.{TableInterior}
 use Rattle.page_spec.specs.Rooms.{IsOneCell, needs}
 use Rattle.page_store.specs.Store.{Stays}
 use Rattle.tree_balance.specs.Cuts.{page_room}
 use Rattle.tree_level.specs.Levels.{Spreads, above_kind}
 use Rattle.tree_pages.specs.Takes.{RisesBy}
 use Rattle.tree_pages.specs.Writers.{Becomes, sizes_of}
-use Rattle.tree_level.proofs.Fronts.{AreFew}
+use Rattle.tree_level.proofs.Fronts.{AreFew, AreOnce}
 use Rattle.tree_level.proofs.spreading.spread_cells.Given as goal
 
 abbrev pub invariant-loop-alloc : goal.invariant-loop-alloc
@@ -21,6 +22,8 @@ invariant-loop-alloc g l = record {
   over : length l.dividers.items ≡ 0 → l.start ≡ 0;
   dividers : All (IsOneCell (above_kind l.kind) (g.S.PageRead.usable l.fn.store)) l.dividers.items;
   few : needs l.cells ≤ 2 * page_room l.kind (g.S.PageRead.usable l.fn.store) → AreFew (page_room l.kind (g.S.PageRead.usable l.fn.store)) (length l.dividers.items) (drop l.start l.cells);
+  one : l.kind ≡ TableInterior → 3 * needs l.cells ≤ 4 * page_room l.kind (g.S.PageRead.usable l.fn.store)
+      → AreOnce (page_room l.kind (g.S.PageRead.usable l.fn.store)) (length l.dividers.items) (drop l.start l.cells);
   spread : Becomes g.S.PageRead l.fn.store l.store (Spreads (sizes_of g.S.PageRead l.fn.store) l.kind l.cells l.dividers.items (drop l.start l.cells));
 }
 

@@ -1,4 +1,4 @@
-use Rattle.std.proofs.Common.{subst}
+use Rattle.std.proofs.Common.{subst, arith}
 use Rattle.std.proofs.Math.Path.{subst⁻¹}
 use Rattle.std.specs.List.{All}
 use Rattle.format_spec.specs.declared.PageKind.{PageKind}
@@ -8,7 +8,7 @@ use Rattle.tree_level.specs.Levels.{above_kind}
 use Rattle.tree_table.specs.Deletes.{IsEmptied}
 use Rattle.tree_table.proofs.Closings.{emptied-closes, settled-closes}
 use Rattle.tree_table.proofs.Takings.{none-long}
-use Rattle.tree_table.proofs.Unders.{dividers-fit}
+use Rattle.tree_table.proofs.Openings.{once-fits}
 use Rattle.tree_table.proofs.closing.close_page.Goals as goal
 
 pub returns-then-is_emptied-clause-left : goal.returns-then-is_emptied-clause-left
@@ -43,5 +43,14 @@ pub returns-clause-fit : goal.returns-clause-fit
 returns-clause-fit g c =
     let u = g.S.PageRead.usable c.args.store.now in (
       subst (λ (k : PageKind). All (IsOneCell (above_kind k) u) c.in_ok-dividers.dividers.items) c.requires.kind c.in_ok-dividers.ensures.dividers,
-      c.in_ok-dividers.ensures.few (dividers-fit u c.args.opened.comes.items c.args.page.kind c.requires.kind c.requires.sizes.usable c.requires.comes c.requires.few),
+      c.in_ok-dividers.ensures.one c.requires.kind (once-fits u c.args.opened.comes.items c.args.page.kind c.requires.kind c.requires.sizes.usable c.requires.comes c.requires.few),
+    )
+
+pub returns-clause-rises : goal.returns-clause-rises
+returns-clause-rises g c =
+    let u = g.S.PageRead.usable c.args.store.now in
+    omega (
+      arith,
+      c.in_ok-dividers.ensures.one c.requires.kind (once-fits u c.args.opened.comes.items c.args.page.kind c.requires.kind c.requires.sizes.usable c.requires.comes c.requires.few),
+      c.in_ok-dividers.ensures.rises,
     )

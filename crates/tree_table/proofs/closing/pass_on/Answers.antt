@@ -5,6 +5,8 @@ use Rattle.tree_pages.specs.Writers.{paged, sizes_of}
 use Rattle.tree_pages.specs.WritersLaws.{sizes-same}
 use Rattle.tree_table.specs.Deletes.{Closes}
 use Rattle.tree_table.proofs.Closings.{still-left}
+use Rattle.tree_pages.specs.TakesLaws.{rises-then}
+use Rattle.std.proofs.lemmas.Result.{on_ok_weaker}
 use Rattle.tree_table.proofs.closing.pass_on.Goals as goal
 
 pub returns-then-is_still-clause-left : goal.returns-then-is_still-clause-left
@@ -36,3 +38,8 @@ returns-clause-left g c =
       k.1,
       λ rowid row base there leaves. closed rowid row base there (n.2 rowid row base there leaves),
     )) c.close_page.ensures.left
+
+pub returns-clause-rises : goal.returns-clause-rises
+returns-clause-rises g c =
+    let o = c.in_ok-opened.ensures in
+    on_ok_weaker c.close_page.result (rises-then g.S.PageRead c.args.store.now c.open_page.new.store c.close_page.new.store 1 1 o.owes.stays.size o.rises) c.close_page.ensures.rises

@@ -11,6 +11,8 @@ use Rattle.tree_pages.specs.WritersLaws.{sizes-same}
 use Rattle.tree_table.specs.declared.taking.Taken.{Taken}
 use Rattle.tree_table.specs.Deletes.{DeletesInto, gone_of, LeavesRoot}
 use Rattle.tree_table.proofs.DeletedWorlds.{world-deleted}
+use Rattle.tree_pages.specs.TakesLaws.{due_pages-least}
+use Rattle.page_spec.specs.FreePagesLaws.{due_pages-most}
 use Rattle.tree_table.proofs.deleting.delete.Goals as goal
 
 pub returns-in-None-clause-deleted : goal.returns-in-None-clause-deleted
@@ -57,4 +59,20 @@ returns-in_ok-give_back-in-Some-clause-deleted g c = λ old told.
       λ front table behind trunks world kind is limit.
           world-deleted z (gone_of c.args.rowid row) front table behind trunks x y w c.args.root row.old.first row.old.bytes world kind is into gives
           (omega (arith, c.in_ok-give_back-in-Some.ensures.count, c.in_ok-taken.ensures.most, world.few, limit)),
+    )
+
+pub returns-in-None-clause-rises : goal.returns-in-None-clause-rises
+returns-in-None-clause-rises g c =
+    let size = g.S.PageRead.size c.args.store.now in
+    omega (arith, c.in_ok-taken.ensures.rises, due_pages-least size (g.S.PageRead.count c.delete_root.new.store), due_pages-most size (g.S.PageRead.count c.args.store.now))
+
+pub returns-in_ok-give_back-in-Some-clause-rises : goal.returns-in_ok-give_back-in-Some-clause-rises
+returns-in_ok-give_back-in-Some-clause-rises g c =
+    let size = g.S.PageRead.size c.args.store.now in
+    omega (
+      arith,
+      c.in_ok-give_back-in-Some.ensures.count,
+      c.in_ok-taken.ensures.rises,
+      due_pages-least size (g.S.PageRead.count c.delete_root.new.store),
+      due_pages-most size (g.S.PageRead.count c.args.store.now),
     )

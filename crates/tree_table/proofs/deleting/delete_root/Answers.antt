@@ -1,4 +1,4 @@
-use Rattle.std.proofs.Common.{◌≡◌, ℕ, ℤ, Option, Some, None, refl, ◌∙◌, subst, to_z, of_z}
+use Rattle.std.proofs.Common.{◌≡◌, ℕ, ℤ, Option, Some, None, refl, ◌∙◌, subst, to_z, of_z, ap, arith}
 use Rattle.std.proofs.lemmas.Int.{to_z-of_z}
 use Rattle.std.specs.Int.{w64}
 use Rattle.page_store.specs.StoreLaws.{IfSome-told}
@@ -14,6 +14,9 @@ use Rattle.tree_table.specs.Deletes.{DeletesUnder, LeavesRoot, PassesRoot}
 use Rattle.tree_table.proofs.Closings.{inner-missing}
 use Rattle.tree_table.proofs.DeletedWorlds.{deletes-same}
 use Rattle.tree_table.proofs.Unders.{decoded-own, read-there}
+use Rattle.tree_pages.specs.TakesLaws.{rises-read, rises-then}
+use Rattle.page_spec.specs.FreePages.{due_pages}
+use Rattle.tree_table.proofs.DeletedWorlds.{on-ok_all}
 use Rattle.tree_table.proofs.deleting.delete_root.Goals as goal
 
 pub returns-in-None-clause-deleted : goal.returns-in-None-clause-deleted
@@ -79,3 +82,21 @@ returns-in_ok-pass_to_root-in-Some-clause-deleted g c = λ old told.
       k.1,
       subst (λ (m : ℕ). LeavesRoot z c.args.rowid removed.row m x w) decoded.number_is (passes c.args.rowid removed.row x there under),
     )
+
+pub returns-in-TableLeaf-clause-rises : goal.returns-in-TableLeaf-clause-rises
+returns-in-TableLeaf-clause-rises g c =
+    on-ok_all c.delete_in_root.result (omega (arith, ap (due_pages (g.S.PageRead.size c.args.store.now)) (c.delete_in_root.ensures.count ∙ c.in_ok-page.ensures.pages.count)))
+
+pub returns-in-None-clause-rises : goal.returns-in-None-clause-rises
+returns-in-None-clause-rises g c =
+    let rd = c.in_ok-page.ensures in
+    omega (arith, rises-read g.S.PageRead 46 c.args.store.now c.read_page.new.store c.delete_below.new.store rd.owes.stays.size rd.pages.count c.in_ok-below-in-TableInterior.ensures.rises)
+
+pub returns-in_ok-pass_to_root-in-Some-clause-rises : goal.returns-in_ok-pass_to_root-in-Some-clause-rises
+returns-in_ok-pass_to_root-in-Some-clause-rises g c =
+    let S = g.S.PageRead in
+    let a = c.args.store.now in
+    let b = c.delete_below.new.store in
+    let rd = c.in_ok-page.ensures in
+    let gr = c.in_ok-below-in-TableInterior.ensures in
+    rises-then S a b c.pass_to_root.new.store 46 4 (gr.owes.stays.size ∙ rd.owes.stays.size) (rises-read S 46 a c.read_page.new.store b rd.owes.stays.size rd.pages.count gr.rises) c.in_ok-pass_to_root-in-Some.ensures.rises

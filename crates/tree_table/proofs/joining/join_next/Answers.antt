@@ -1,4 +1,4 @@
-use Rattle.std.proofs.Common.{◌≡◌, ℕ, ◌+◌, false, ◌∙◌, subst, arith}
+use Rattle.std.proofs.Common.{◌≡◌, ℕ, ◌+◌, false, ◌∙◌, subst, arith, length}
 use Rattle.std.proofs.Math.Path.{subst⁻¹}
 use Rattle.std.specs.List.{All}
 use Rattle.format_spec.specs.declared.PageKind.{PageKind}
@@ -12,7 +12,8 @@ use Rattle.tree_pages.specs.WritersLaws.{sizes-same}
 use Rattle.tree_level.specs.declared.cells.Change.{Change}
 use Rattle.tree_level.specs.Changes.{Changes}
 use Rattle.tree_level.specs.Levels.{above_kind}
-use Rattle.tree_table.proofs.Openings.{key-fits, key-one, next-joins}
+use Rattle.tree_table.proofs.Openings.{key-once, key-one, next-joins}
+use Rattle.tree_pages.specs.TakesLaws.{rises-read}
 use Rattle.tree_table.proofs.joining.join_next.Goals as goal
 
 pub change_page-requires-clause-comes : goal.change_page-requires-clause-comes
@@ -31,7 +32,7 @@ returns-clause-few g c =
     let S = g.S.PageRead in
     let t = c.give_page.new.store in
     let fits : IsUsable (S.usable t) = subst⁻¹ IsUsable (c.in_ok-give_page.ensures.owes.stays.usable ∙ c.in_ok-beside.ensures.owes.stays.usable) c.requires.sizes.usable in
-    c.in_ok-comes.ensures.few (key-fits (S.usable t) c.args.page.now _ _ c.in_ok-middle.middle.items c.in_ok-beside.beside.kind c.in_ok-beside.ensures.kind fits c.in_ok-middle.ensures)
+    c.in_ok-comes.ensures.one c.in_ok-beside.ensures.kind (key-once (S.usable t) c.args.page.now _ _ c.in_ok-middle.middle.items c.in_ok-beside.beside.kind c.in_ok-beside.ensures.kind fits c.in_ok-middle.ensures)
 
 pub returns-clause-opened : goal.returns-clause-opened
 returns-clause-opened g c = λ old told.
@@ -63,3 +64,14 @@ returns-clause-opened g c = λ old told.
           next-joins z page c.requires.page c.requires.kind step.at step.child c.requires.child rowid row base there c.args.only_child x y w leaves beside be.read be.kind (be.there old told) middle comes c.requires.at (step.at + 1) (omega arith)
           be.child c.in_ok-middle.ensures gives changes,
     )
+
+pub returns-clause-rises : goal.returns-clause-rises
+returns-clause-rises g c =
+    let S = g.S.PageRead in
+    let a = c.args.store.now in
+    let t = c.give_page.new.store in
+    let be = c.in_ok-beside.ensures in
+    let given = c.in_ok-give_page.ensures in
+    let fits : IsUsable (S.usable t) = subst⁻¹ IsUsable (given.owes.stays.usable ∙ be.owes.stays.usable) c.requires.sizes.usable in
+    let few = c.in_ok-comes.ensures.one be.kind (key-once (S.usable t) c.args.page.now _ _ c.in_ok-middle.middle.items c.in_ok-beside.beside.kind be.kind fits c.in_ok-middle.ensures) in
+    omega (arith, few, rises-read S (length c.in_ok-comes.comes.items) a t c.change_page.new.store (given.owes.stays.size ∙ be.owes.stays.size) (given.count ∙ be.count) c.in_ok-comes.ensures.rises)

@@ -1,9 +1,11 @@
-use Rattle.std.proofs.Common.{subst}
+use Rattle.std.proofs.Common.{subst, ap, arith}
 use Rattle.std.proofs.lemmas.Result.{IfOk-weaker}
 use Rattle.tree_pages.specs.Writers.{paged, sizes_of}
 use Rattle.tree_table.specs.declared.taking.Left.{Left}
 use Rattle.tree_table.specs.Deletes.{Leaves}
 use Rattle.tree_table.proofs.Openings.{grown-opens}
+use Rattle.page_spec.specs.FreePages.{due_pages}
+use Rattle.std.proofs.lemmas.Result.{on_ok_weaker}
 use Rattle.tree_table.proofs.opening.open_page.Goals as goal
 
 pub returns-in-Cells-clause-opened : goal.returns-in-Cells-clause-opened
@@ -51,3 +53,6 @@ returns-else-step-as_slice-clause-opened g c =
       λ rowid row base there leaves.
           n.2 rowid row base there (subst (λ (l : Left). Leaves z rowid row c.args.step.child l base (paged g.S.PageRead c.args.store.now old)) c.in-OnlyChild.is leaves),
     )) c.join_last.ensures.opened
+
+pub returns-in-NoCell-clause-rises : goal.returns-in-NoCell-clause-rises
+returns-in-NoCell-clause-rises g c = on_ok_weaker c.drop_leaf.result (λ same. omega (arith, ap (due_pages (g.S.PageRead.size c.args.store.now)) same)) c.drop_leaf.ensures.count

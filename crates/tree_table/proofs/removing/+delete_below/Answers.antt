@@ -1,4 +1,4 @@
-use Rattle.std.proofs.Common.{◌≡◌, ℕ, ℤ, Option, None, refl, ◌∙◌, subst, to_z, of_z}
+use Rattle.std.proofs.Common.{◌≡◌, ℕ, ℤ, Option, None, refl, ◌∙◌, subst, to_z, of_z, ◌*◌, ◌-◌, ap, arith}
 use Rattle.std.proofs.lemmas.Int.{to_z-of_z}
 use Rattle.std.specs.Int.{w64}
 use Rattle.page_store.specs.StoreLaws.{IfSome-told}
@@ -13,6 +13,9 @@ use Rattle.tree_table.specs.Deletes.{DeletesUnder}
 use Rattle.tree_table.proofs.Closings.{inner-missing}
 use Rattle.tree_table.proofs.DeletedWorlds.{deletes-same}
 use Rattle.tree_table.proofs.Unders.{decoded-own, read-there}
+use Rattle.tree_pages.specs.TakesLaws.{rises-read, rises-then}
+use Rattle.page_spec.specs.FreePages.{due_pages}
+use Rattle.tree_table.proofs.DeletedWorlds.{on-ok_all}
 use Rattle.tree_table.proofs.removing.+delete_below.Goals as goal
 
 pub returns-in-None-clause-deleted : goal.returns-in-None-clause-deleted
@@ -46,3 +49,22 @@ returns-in-None-clause-deleted g t c = λ old told.
             (inner-missing z page (decoded-own c.args.number z.usable page rd.read) c.in-TableInterior.is x there c.args.rowid step.at step.child index st.child under.1),
       ),
     )
+
+pub returns-in-TableLeaf-clause-rises : goal.returns-in-TableLeaf-clause-rises
+returns-in-TableLeaf-clause-rises g t c =
+    on-ok_all c.delete_in_leaf.result (omega (arith, ap (due_pages (g.S.PageRead.size c.args.store.now)) (c.delete_in_leaf.ensures.count ∙ c.in_ok-page.ensures.pages.count)))
+
+pub returns-in-None-clause-rises : goal.returns-in-None-clause-rises
+returns-in-None-clause-rises g t c =
+    let rd = c.in_ok-page.ensures in
+    omega (arith, rises-read g.S.PageRead (2 * (c.args.levels - 1)) c.args.store.now c.read_page.new.store c.delete_below.new.store rd.owes.stays.size rd.pages.count c.in_ok-below-in-TableInterior.ensures.rises)
+
+pub returns-in_ok-left-in-Some-clause-rises : goal.returns-in_ok-left-in-Some-clause-rises
+returns-in_ok-left-in-Some-clause-rises g t c =
+    let S = g.S.PageRead in
+    let a = c.args.store.now in
+    let b = c.delete_below.new.store in
+    let rd = c.in_ok-page.ensures in
+    let gr = c.in_ok-below-in-TableInterior.ensures in
+    let below = rises-read S (2 * (c.args.levels - 1)) a c.read_page.new.store b rd.owes.stays.size rd.pages.count gr.rises in
+    omega (arith, c.in_ok-check_inner-in-TableInterior.ensures.deep, rises-then S a b c.pass_on.new.store (2 * (c.args.levels - 1)) 2 (gr.owes.stays.size ∙ rd.owes.stays.size) below c.in_ok-left-in-Some.ensures.rises)

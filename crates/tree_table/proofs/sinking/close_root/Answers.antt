@@ -7,13 +7,14 @@ use Rattle.tree_pages.specs.Writers.{paged, sizes_of}
 use Rattle.tree_table.proofs.Closings.{rooted-closes}
 use Rattle.tree_table.proofs.Takings.{none-long}
 use Rattle.tree_table.proofs.Unders.{dividers-fit}
+use Rattle.std.proofs.Common.{arith}
 use Rattle.tree_table.proofs.sinking.close_root.Goals as goal
 
 pub change_root-requires-clause-comes : goal.change_root-requires-clause-comes
 change_root-requires-clause-comes g c = subst⁻¹ (λ (k : PageKind). All (IsOneCell k (g.S.PageRead.usable c.args.store.now)) c.args.opened.comes.items) c.requires.kind c.requires.comes
 
 pub change_root-requires-clause-few : goal.change_root-requires-clause-few
-change_root-requires-clause-few g c = dividers-fit (g.S.PageRead.usable c.args.store.now) c.args.opened.comes.items c.args.page.kind c.requires.kind c.requires.sizes.usable c.requires.comes c.requires.few
+change_root-requires-clause-few g c = dividers-fit (g.S.PageRead.usable c.args.store.now) c.args.opened.comes.items c.args.page.kind c.requires.kind c.requires.sizes.usable c.requires.comes (omega (arith, c.requires.few))
 
 pub returns-clause-closes : goal.returns-clause-closes
 returns-clause-closes g c =

@@ -1,4 +1,4 @@
-use Rattle.std.proofs.Common.{◌≡◌, false, subst, arith}
+use Rattle.std.proofs.Common.{◌≡◌, false, subst, arith, ap, ◌∙◌}
 use Rattle.std.proofs.Math.Path.{subst⁻¹}
 use Rattle.std.proofs.lemmas.Result.{on_ok_weaker}
 use Rattle.std.specs.List.{All}
@@ -15,6 +15,7 @@ use Rattle.tree_table.specs.Deletes.{IsFit, Leaves}
 use Rattle.tree_table.proofs.Closings.{first-closes, first-interior, first-leaf}
 use Rattle.tree_table.proofs.Openings.{grown-opens}
 use Rattle.tree_table.proofs.Unders.{dividers-fit}
+use Rattle.page_spec.specs.FreePages.{due_pages}
 use Rattle.tree_table.proofs.sinking.pass_to_first.Goals as goal
 
 pub change_root-requires-clause-comes : goal.change_root-requires-clause-comes
@@ -27,7 +28,7 @@ pub change_root-requires-clause-few : goal.change_root-requires-clause-few
 change_root-requires-clause-few g c =
     let u = g.S.PageRead.usable c.args.store.now in
     let fit : IsFit u (Cells c.in-Cells.comes) = subst (IsFit u) c.in-Cells.is c.requires.fit in
-    dividers-fit u c.in-Cells.comes.items c.args.page.kind c.requires.kind c.requires.sizes.usable fit.0 fit.1
+    dividers-fit u c.in-Cells.comes.items c.args.page.kind c.requires.kind c.requires.sizes.usable fit.0 (omega (arith, fit.1))
 
 pub returns-in-Cells-clause-passes : goal.returns-in-Cells-clause-passes
 returns-in-Cells-clause-passes g c =
@@ -92,3 +93,11 @@ returns-in_ok-write_empty-in-OnlyChild-clause-passes g c =
           first-interior z c.args.page c.requires.page c.requires.kind base there rowid row c.requires.first c.requires.none child c.requires.child x y w gives c.in-OnlyChild.only
           (subst (λ (l : Left). Leaves z rowid row child l base x) c.in-OnlyChild.is leaves) n.2,
     )) c.give_page-in-OnlyChild.ensures.released
+
+pub returns-in_ok-write_empty-in-NoCell-clause-rises : goal.returns-in_ok-write_empty-in-NoCell-clause-rises
+returns-in_ok-write_empty-in-NoCell-clause-rises g c =
+    on_ok_weaker c.give_page.result (λ same. omega (arith, ap (due_pages (g.S.PageRead.size c.args.store.now)) (same ∙ c.in_ok-write_empty-in-NoCell.ensures.count))) c.give_page.ensures.count
+
+pub returns-in_ok-write_empty-in-OnlyChild-clause-rises : goal.returns-in_ok-write_empty-in-OnlyChild-clause-rises
+returns-in_ok-write_empty-in-OnlyChild-clause-rises g c =
+    on_ok_weaker c.give_page-in-OnlyChild.result (λ same. omega (arith, ap (due_pages (g.S.PageRead.size c.args.store.now)) (same ∙ c.in_ok-write_empty-in-OnlyChild.ensures.count))) c.give_page-in-OnlyChild.ensures.count

@@ -5,6 +5,7 @@ use Rattle.tree_pages.specs.Writers.{paged, sizes_of}
 use Rattle.tree_pages.specs.WritersLaws.{sizes-same}
 use Rattle.tree_table.specs.Deletes.{ClosesRoot}
 use Rattle.tree_table.proofs.Closings.{still-rooted}
+use Rattle.tree_pages.specs.TakesLaws.{rises-then}
 use Rattle.tree_table.proofs.sinking.pass_to_root.Goals as goal
 
 pub returns-then-is_still-clause-passes : goal.returns-then-is_still-clause-passes
@@ -36,3 +37,8 @@ returns-clause-passes g c =
       k.1,
       λ rowid row base there leaves. closed rowid row base there (n.2 rowid row base there leaves),
     )) c.close_root.ensures.closes
+
+pub returns-clause-rises : goal.returns-clause-rises
+returns-clause-rises g c =
+    let o = c.in_ok-opened.ensures in
+    on_ok_weaker c.close_root.result (rises-then g.S.PageRead c.args.store.now c.open_page.new.store c.close_root.new.store 1 3 o.owes.stays.size o.rises) c.close_root.ensures.rises

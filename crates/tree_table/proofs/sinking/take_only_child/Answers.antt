@@ -1,4 +1,4 @@
-use Rattle.std.proofs.Common.{◌≡◌, ℕ, Bool, true, ◌∙◌, subst}
+use Rattle.std.proofs.Common.{◌≡◌, ℕ, Bool, true, ◌∙◌, subst, ap, arith}
 use Rattle.std.proofs.lemmas.Result.{on_ok_weaker}
 use Rattle.tree_spec.specs.Standing.{Sizes, Paged}
 use Rattle.put_spec.specs.Steps.{Releases}
@@ -6,6 +6,8 @@ use Rattle.tree_pages.specs.Writers.{paged, sizes_of}
 use Rattle.tree_pages.specs.WritersLaws.{sizes-same}
 use Rattle.tree_level.specs.Changes.{ChangesRoot, MovesTo}
 use Rattle.tree_table.proofs.Closings.{first-closes, takes-child}
+use Rattle.tree_pages.specs.TakesLaws.{rises-read}
+use Rattle.page_spec.specs.FreePages.{due_pages}
 use Rattle.tree_table.proofs.sinking.take_only_child.Goals as goal
 
 pub returns-then-moved-clause-closes : goal.returns-then-moved-clause-closes
@@ -66,3 +68,13 @@ returns-clause-closes g c =
       k.1,
       λ rowid row base there opens. first-closes z page c.requires.page c.requires.kind base there rowid row change comes x c.requires.within c.requires.comes opens stays.1 w changes,
     )) c.change_root.ensures.changed
+
+pub returns-then-moved-clause-rises : goal.returns-then-moved-clause-rises
+returns-then-moved-clause-rises g c =
+    on_ok_weaker c.give_page.result (λ same. omega (arith, ap (due_pages (g.S.PageRead.size c.args.store.now)) (same ∙ c.in_ok-moved.ensures.count ∙ c.in_ok-child.ensures.count))) c.give_page.ensures.count
+
+pub returns-clause-rises : goal.returns-clause-rises
+returns-clause-rises g c =
+    let ch = c.in_ok-child.ensures in
+    let mv = c.in_ok-moved.ensures in
+    on_ok_weaker c.change_root.result (rises-read g.S.PageRead 3 c.args.store.now c.move_cells.new.store c.change_root.new.store (mv.owes.stays.size ∙ ch.owes.stays.size) (mv.count ∙ ch.count)) c.change_root.ensures.rises

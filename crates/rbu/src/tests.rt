@@ -58,6 +58,8 @@ impl Alloc for Machine {
 
 const WHOLE_UPDATE: &[&[u8]] = &[b"rbu", b"apply", b"a", b"b", b"c", b"4294967295"];
 
+const DUMP: &[&[u8]] = &[b"rbu", b"dump", b"a", b"b", b"c", b"sqlite_schema"];
+
 const NO_TEXT: &[&[u8]] = &[b"rbu", b"apply", b"a", b"b", b"c", b"\xff"];
 
 const TOO_FEW: &[&[u8]] = &[b"rbu", b"apply", b"a", b"b"];
@@ -91,6 +93,7 @@ fn ends_with(
 #[test]
 fn program_ends_with_each_status(rt: HostRuntime) -> Result<(), Fail> {
     ends_with(&rt, WHOLE_UPDATE, true, 4, "refused 1 NotYet target\n")?;
+    ends_with(&rt, DUMP, true, 4, "refused 30 NotADatabase\n")?;
     ends_with(&rt, NO_TEXT, true, 2, "usage\n")?;
     ends_with(&rt, TOO_FEW, true, 2, "usage\n")?;
     ends_with(&rt, &[], true, 2, "usage\n")?;

@@ -1,8 +1,8 @@
 //! The commands of the program, from the words in to the line out.
 //!
 //! The layer above makes a disk and an output, and calls `run_command`; `Ran` hands the disk back with the status.
-//! What words, answers and lines mean is said by `Words`, `Answer` and `Text` in the `specs/` of `update_spec`, and in
-//! this crate's `specs/` by:
+//! What words, answers and lines mean is said by `Words`, `Answer` and `Text` in the `specs/` of `update_spec`, what a dump
+//! prints by `SchemaDumps` in those of `dump_spec`, and in this crate's `specs/` by:
 //!
 //! - `Status`: what each status of a command says;
 //! - `Commands`: how a command ended, by what its words ask for;

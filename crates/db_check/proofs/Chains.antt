@@ -1,5 +1,5 @@
 -- What is found of an overflow chain.
-use Rattle.std.proofs.Common.{◌≡◌, ◌≢◌, ℕ, zero, suc, ◌+◌, ◌<◌, ◌≤◌, ◌⊎◌, Bool, List, [], ◌∷◌, ◌++◌, length, map, Result, Ok, Err, refl, sym, ap, ap₂, ◌∙◌, subst, inl, inr, arith, append_assoc, length-append}
+use Rattle.std.proofs.Common.{◌≡◌, ◌≢◌, ℕ, ◌+◌, ◌<◌, ◌≤◌, ◌⊎◌, Bool, List, [], ◌∷◌, ◌++◌, length, map, Ok, Err, refl, sym, ap, ap₂, ◌∙◌, subst, inl, inr, arith, append_assoc}
 use Rattle.std.proofs.Math.Path.{subst⁻¹}
 use Rattle.std.proofs.lemmas.Bool.{cases_lt}
 use Rattle.std.proofs.lemmas.List.{append-nil, length_push, map-append}
@@ -17,7 +17,7 @@ use Rattle.database_laws.specs.RightFindingsLaws.{right-join, wrong-back}
 use Rattle.db_check.specs.declared.fault.CheckFault.{CheckFault}
 use Rattle.db_check.specs.declared.fault.CheckFault.TheVariants.{Damaged}
 use Rattle.db_check.specs.Answers.{IsRefusal}
-use Rattle.db_check.specs.Passes.{IsMarked, Passes, chain_found, torn_found, EndsLink}
+use Rattle.db_check.specs.Passes.{IsMarked, Passes, chain_found, torn_found}
 use Rattle.db_check.proofs.Parts.{refusal-then, passed-wrong}
 
 chain-append : (subject : Subject) (xs ys : List ℕ) → chain_found subject (xs ++ ys) ≡ chain_found subject xs ++ chain_found subject ys

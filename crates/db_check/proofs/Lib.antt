@@ -2,3 +2,4 @@ pub mod Calls
 pub mod Parts
 pub mod Trunks
 pub mod Needs
+pub mod Chains

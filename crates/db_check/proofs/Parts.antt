@@ -1,8 +1,8 @@
 -- Flags of pages, and what is found in parts.
-use Rattle.std.proofs.Common.{◌≡◌, ℕ, zero, suc, ◌+◌, ◌-◌, ◌<◌, ◌||◌, Bool, true, false, List, [], ◌∷◌, ◌++◌, length, map, slice_index_or, if◌then◌else◌, refl, sym, ap, ap₂, ◌∙◌, subst, inl, inr, arith, append_assoc}
+use Rattle.std.proofs.Common.{◌≡◌, ℕ, zero, suc, ◌+◌, ◌-◌, ◌<◌, ◌==◌, ◌||◌, Bool, true, false, List, [], ◌∷◌, ◌++◌, length, map, slice_index_or, if◌then◌else◌, refl, sym, ap, ap₂, ◌∙◌, subst, inl, inr, arith, append_assoc}
 use Rattle.std.proofs.Math.Path.{subst⁻¹}
 use Rattle.std.specs.Prelude.{slice_set}
-use Rattle.std.specs.List.{range_with_len}
+use Rattle.std.specs.List.{list_any, range_with_len}
 use Rattle.std.proofs.lemmas.Bool.{cases_eq, eq-eqb, ne_eqb}
 use Rattle.std.proofs.lemmas.List.{get_or-set_same, get_or-set_other, length-set, map-append}
 use Rattle.std.proofs.lemmas.List.FromFn.{map-range_with_len_more}
@@ -12,10 +12,11 @@ use Rattle.tree_spec.specs.Standing.{Sizes, Paged, IsNumber}
 use Rattle.database_spec.specs.declared.fault.FileFault.{FileFault}
 use Rattle.database_spec.specs.declared.fault.FileFault.TheVariants as file
 use Rattle.database_spec.specs.ItemsLaws.{or-right}
-use Rattle.database_spec.specs.FileFindings.{Found, Frees, Tears, leaf_found}
+use Rattle.database_spec.specs.Walks.{Finds}
+use Rattle.database_spec.specs.FileFindings.{Subject, Found, InTree, Frees, Tears, leaf_found}
 use Rattle.database_spec.specs.FileFaults.{is_found, FirstWrong}
 use Rattle.database_laws.specs.RightFindings.{AreRight}
-use Rattle.database_laws.specs.RightFindingsLaws.{right-join, wrong-front, wrong-back, found-append}
+use Rattle.database_laws.specs.RightFindingsLaws.{numbers_in, right-join, wrong-front, wrong-back, found-append}
 use Rattle.database_laws.specs.FoundFreelistsLaws.{number-is}
 use Rattle.db_check.specs.declared.fault.CheckFault.{CheckFault}
 use Rattle.db_check.specs.declared.fault.CheckFault.TheVariants.{PageTwice, PageLost, KeyOrder, IndexDisagrees, Damaged, Store, Memory}
@@ -35,19 +36,28 @@ pub or-none : (s t : Bool) → t ≡ false → (s || t) ≡ s
 or-none true t e = refl
 or-none false t e = e
 
--- the flag of a free page is set
-pub marked-free : (flags : List Bool) (before : List Found) (page : ℕ) → page < length flags → IsMarked flags before → IsMarked (slice_set flags page true) (before ++ Frees page ∷ [])
-marked-free flags before page low marked n within =
+-- the flag of one page more is set
+marked-one : (flags : List Bool) (before : List Found) (page : ℕ) (one : Found) → numbers_in (one ∷ []) ≡ page ∷ [] → page < length flags → IsMarked flags before → IsMarked (slice_set flags page true) (before ++ one ∷ [])
+marked-one flags before page one is low marked n within =
     let some : n < length flags = omega (arith, within, length-set flags page true) in
+    let alone : is_found n (one ∷ []) ≡ ((page == n) || false) = ap (list_any (λ (x : ℕ). x == n)) is in
     elim (cases_eq page n) [
       | inl same ↦
           let here : slice_index_or (slice_set flags page true) n false ≡ true = ap (λ (k : ℕ). slice_index_or (slice_set flags page true) k false) (sym same) ∙ get_or-set_same flags page true false low in
-          let own : is_found n (Frees page ∷ []) ≡ true = ap (λ (t : Bool). t || false) (eq-eqb page n same) in
-          here ∙ sym (found-append n before (Frees page ∷ []) ∙ or-right (is_found n before) (is_found n (Frees page ∷ [])) own)
+          let own : is_found n (one ∷ []) ≡ true = alone ∙ ap (λ (t : Bool). t || false) (eq-eqb page n same) in
+          here ∙ sym (found-append n before (one ∷ []) ∙ or-right (is_found n before) (is_found n (one ∷ [])) own)
       | inr apart ↦
-          let own : is_found n (Frees page ∷ []) ≡ false = ap (λ (t : Bool). t || false) (ne_eqb page n apart) in
-          get_or-set_other flags page n true false (λ e. apart (sym e)) ∙ marked n some ∙ sym (found-append n before (Frees page ∷ []) ∙ or-none (is_found n before) (is_found n (Frees page ∷ [])) own)
+          let own : is_found n (one ∷ []) ≡ false = alone ∙ ap (λ (t : Bool). t || false) (ne_eqb page n apart) in
+          get_or-set_other flags page n true false (λ e. apart (sym e)) ∙ marked n some ∙ sym (found-append n before (one ∷ []) ∙ or-none (is_found n before) (is_found n (one ∷ [])) own)
     ]
+
+pub marked-free : (flags : List Bool) (before : List Found) (page : ℕ) → page < length flags → IsMarked flags before → IsMarked (slice_set flags page true) (before ++ Frees page ∷ [])
+marked-free flags before page low marked = marked-one flags before page (Frees page) refl low marked
+
+pub marked-page : (flags now : List Bool) (before : List Found) (subject : Subject) (page : ℕ) → page < length flags → now ≡ slice_set flags page true → IsMarked flags before
+    → IsMarked now (before ++ InTree subject (Finds page) ∷ [])
+marked-page flags now before subject page low set marked =
+    subst⁻¹ (λ (list : List Bool). IsMarked list (before ++ InTree subject (Finds page) ∷ [])) set (marked-one flags before page (InTree subject (Finds page)) refl low marked)
 
 pub range-split : (a k rest n : ℕ) → n ≡ k + rest → range_with_len a n ≡ range_with_len a k ++ range_with_len (a + k) rest
 range-split a zero rest n e = let here : a ≡ a + 0 = omega arith in let all : n ≡ rest = omega (arith, e) in ap₂ range_with_len here all

@@ -1,10 +1,11 @@
-// The freelists of small databases, sound and damaged.
+// Freelists, flags and chains of small databases, sound and damaged.
 ghost use Rattle.std.specs.Prelude.{◌≤◌, IsTrue};
 ghost use Rattle.page_store.specs.Store.{HasSizes};
 
+use crate::chain::pass_chain;
 use crate::fault::CheckFault;
 use crate::freelist::check_freelist;
-use crate::pages::page_flags;
+use crate::pages::{check_pages, page_flags};
 use byte_fields::put_u32;
 use page_store::{PageRead, PageWrite, PlainStore};
 use refusal::Rule;
@@ -209,4 +210,85 @@ fn freelists_are_checked(rt: HostRuntime) -> Result<(), Fail> {
         }
     }
     Ok(())
+}
+
+// Sets the flags of pages.
+fn set(flags: &mut [bool], pages: &[usize]) {
+    for page in pages {
+        if let Some(flag) = flags.get_mut(*page) {
+            *flag = true;
+        }
+    }
+}
+
+// The first of five pages that has no flag, or 0.
+fn first_lost(flags: &[bool]) -> Option<u32> {
+    if flags.len() != 6 {
+        return None;
+    }
+    let answer: Result<(), CheckFault<AllocError>> = check_pages(512, 5, flags);
+    match answer {
+        Ok(()) => Some(0),
+        Err(CheckFault::PageLost { page }) => Some(page),
+        Err(_) => None,
+    }
+}
+
+#[test]
+fn lost_pages_are_told(rt: HostRuntime) -> Result<(), Fail> {
+    let mut buffer = page_flags(rt.alloc(), 5)?;
+    let flags = buffer.as_mut_slice();
+    set(flags, &[1, 2, 3, 5]);
+    let lost = first_lost(flags);
+    set(flags, &[4]);
+    if lost == Some(4) && first_lost(flags) == Some(0) {
+        return Ok(());
+    }
+    Err(Fail::new("lost pages"))
+}
+
+// A store whose pages 3 and 5 are a chain of 600 bytes, behind which this number stands.
+fn chain_of(alloc: Global, behind: u32) -> Result<PlainStore, Fail> {
+    let mut store = PlainStore::new(alloc, 512, 512);
+    store.set_count(5)?;
+    let mut page = [0; 512];
+    put_u32(&mut page, 0, 5);
+    put_page(&mut store, 3, &page)?;
+    put_u32(&mut page, 0, behind);
+    put_page(&mut store, 5, &page)?;
+    Ok(store)
+}
+
+// Goes through that chain: the page of a refusal, or 0.
+fn pass(store: &mut PlainStore, flags: &mut [bool]) -> Option<u32> {
+    if !is_whole(store) || flags.len() != store.count() as usize + 1 || store.page_size() != 512 {
+        return None;
+    }
+    let mut page = [0; 512];
+    match pass_chain(store, 2, 3, 600, &mut page, flags) {
+        Ok(()) => Some(0),
+        Err(
+            CheckFault::Damaged {
+                page,
+                rule: Rule::Chain,
+            },
+        ) => Some(page),
+        Err(_) => None,
+    }
+}
+
+fn passes(alloc: Global, behind: u32, answer: u32) -> Result<bool, Fail> {
+    let mut store = chain_of(alloc, behind)?;
+    let mut flags = page_flags(alloc, 5)?;
+    let told = pass(&mut store, flags.as_mut_slice());
+    Ok(told == Some(answer) && flagged(flags.as_slice()) == 2)
+}
+
+#[test]
+fn chains_are_gone_through(rt: HostRuntime) -> Result<(), Fail> {
+    let alloc = rt.alloc();
+    if passes(alloc, 0, 0)? && passes(alloc, 4, 5)? {
+        return Ok(());
+    }
+    Err(Fail::new("a chain"))
 }

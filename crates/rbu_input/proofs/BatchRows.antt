@@ -16,6 +16,8 @@ use Rattle.tree_spec.specs.declared.TreeKind.TheVariants.{Table as TableTree}
 use Rattle.tree_spec.specs.Standing.{Sizes, Paged}
 use Rattle.database_spec.specs.declared.catalog.NamedEntry.{NamedEntry}
 use Rattle.database_spec.specs.declared.catalog.Catalog.{Catalog}
+use Rattle.rbu_rows.specs.declared.prepared.Batch.{Batch}
+use Rattle.database_spec.specs.Walks.{Finding, IsWalk}
 use Rattle.prepared_spec.specs.declared.input_fault.InputFault.{InputFault}
 use Rattle.prepared_spec.specs.declared.input_fault.InputFault.TheVariants.{NoTarget, TooMuch}
 use Rattle.prepared_spec.specs.DataTables.{DataTable, begins_with, first_fault, meaning_fault, over, columns_fault, meanings_fault, table_fault}

@@ -1,5 +1,5 @@
 -- The records of a targeted table that were checked, and what is left of them.
-use Rattle.std.proofs.Common.{◌≡◌, ℕ, List, length, ◌-◌, Bool, true, false, Some, Result, Ok, Err, ◌⊎◌, inl, inr}
+use Rattle.std.proofs.Common.{◌≡◌, ℕ, List, [], ◌∷◌, length, ◌-◌, Bool, true, false, Option, Some, Result, Ok, Err, ◌⊎◌, refl, sym, ap, ◌∙◌, subst, inl, inr}
 use Rattle.std.proofs.Math.Path.{subst⁻¹}
 use Rattle.rbu_value.specs.declared.value.Value.{Value}
 use Rattle.schema_spec.specs.declared.schema.Table.{Table}

@@ -11,20 +11,12 @@ use Rattle.tree_spec.specs.Standing.{Sizes, Paged}
 use Rattle.database_spec.specs.declared.catalog.Catalog.{Catalog}
 use Rattle.database_spec.specs.declared.fault.FileFault.{FileFault}
 use Rattle.database_spec.specs.declared.fault.FileFault.TheVariants.{PageTwice, PageLost, KeyOrder, IndexDisagrees, Damaged}
-use Rattle.database_spec.specs.Walks.{Finding, Finds, Ends, Holds, Breaks, Disorders, Bares}
+use Rattle.database_spec.specs.Walks.{Finding, Finds, Ends, Holds, Breaks, Disorders, Bares, page_in}
 use Rattle.database_spec.specs.RightRows.{HasCatalog, CatalogHasFault}
 use Rattle.database_spec.specs.Rows.{TableRow}
 use Rattle.database_spec.specs.Keys.{order_of, last_value, IsBefore, entry_of, Clash}
 use Rattle.database_spec.specs.Databases.{IsReadable}
 use Rattle.database_spec.specs.FileFindings.{Content, Rows, Entries, Anything, Subject, Found, InTree, Frees, Tears, Counts, Needs, Compares, AreFound}
-
-abbrev pub page_in : Finding → Option ℕ
-page_in (Finds page) = Some page
-page_in (Ends page depth) = None
-page_in (Holds page member) = None
-page_in (Breaks page rule) = None
-page_in (Disorders page) = None
-page_in (Bares page) = None
 
 abbrev pub page_found : Found → Option ℕ
 page_found (InTree subject finding) = page_in finding

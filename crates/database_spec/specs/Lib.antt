@@ -9,6 +9,7 @@ pub mod FileFindings
 pub mod FileFaults
 pub mod WalksLaws
 pub mod ListsLaws
+pub mod ItemsLaws
 pub mod CatalogsLaws
 pub mod RowsLaws
 pub mod KeysLaws

@@ -148,6 +148,26 @@ member_of (Bares page) = None
 abbrev pub members_found : List Finding → List Member
 members_found findings = filter_map member_of findings
 
+abbrev pub page_in : Finding → Option ℕ
+page_in (Finds page) = Some page
+page_in (Ends page depth) = None
+page_in (Holds page member) = None
+page_in (Breaks page rule) = None
+page_in (Disorders page) = None
+page_in (Bares page) = None
+
+abbrev pub pages_found : List Finding → List ℕ
+pages_found findings = filter_map page_in findings
+
+-- nothing is wrong with it, and a leaf stands so many pages from the root
+abbrev pub IsFlawless : ℕ → Finding → Type 0
+IsFlawless deepest (Finds page) = Unit {0}
+IsFlawless deepest (Ends page depth) = depth ≡ deepest
+IsFlawless deepest (Holds page member) = Unit {0}
+IsFlawless deepest (Breaks page rule) = ⊥
+IsFlawless deepest (Disorders page) = ⊥
+IsFlawless deepest (Bares page) = ⊥
+
 module _ (sizes : Sizes) (base : Paged) (kind : TreeKind) (root : ℕ) where
   -- these are all members that a cursor gives, which comes to the end
   abbrev pub IsList : List Member → Type 0

@@ -1,9 +1,7 @@
-//! Tests of the disks and the output in memory, and of saves of a state and whole commands over them.
+//! Tests of the disks and the output in memory, and of whole commands over them.
 //!
 //! Of the disks: each call once, calls that fail, and what crashes leave. Of commands: rows, refusals in their order, constraint faults,
-//! each failing call, crashes of an update that was stopped after each call, a failing output, and words.
-//!
-//! Of files under a log: what is read of a log of SQLite, and the overlay by it.
+//! each failing call, crashes of an update that was stopped after each call, a failing output, and words; dumps of the schema.
 //!
 //! They stand in a crate of their own, over the crates that they call, since a crate with tests is proved twice.
 #![tactic(auto)]
@@ -15,6 +13,8 @@ mod changes;
 #[cfg(test)]
 mod crashes;
 #[cfg(test)]
+mod dumps;
+#[cfg(test)]
 mod ensure;
 #[cfg(test)]
 mod example;
@@ -23,13 +23,9 @@ mod faults;
 #[cfg(test)]
 mod images;
 #[cfg(test)]
-mod logs;
-#[cfg(test)]
 mod refusals;
 #[cfg(test)]
 mod runs;
-#[cfg(test)]
-mod saves;
 #[cfg(test)]
 mod stops;
 #[cfg(test)]

@@ -12,8 +12,9 @@ use Rattle.refusal.specs.declared.Rule.{Rule}
 use Rattle.refusal.specs.declared.Refusal.{Refusal}
 use Rattle.refusal.specs.declared.Refusal.TheVariants.{NotYet, NotADatabase, PageSize, WalMode, Encoding, AutoVacuum, SizeMismatch, ReservedSpace, SchemaFormat, TreeDamaged, SchemaRow, JournalPresent}
 use Rattle.tree_spec.specs.declared.TreeKind.TheVariants.{Table}
-use Rattle.tree_spec.specs.Standing.{Sizes, Paged, IsTree}
+use Rattle.tree_spec.specs.Standing.{Sizes, Paged}
 use Rattle.tree_spec.specs.Trees.{Member}
+use Rattle.database_spec.specs.Walks.{IsList, StopsAt}
 use Rattle.dump_spec.specs.SchemaRows.{AreLines, IsFirstBad}
 
 -- a rollback journal is to be played back: it is not empty, and begins with another byte than 0 (Database File Format, section 3)
@@ -38,16 +39,12 @@ sizes_by header = record { size = header.page_size; usable = header.page_size - 
 abbrev pub pages_by : Header → List ℕ → Paged
 pages_by header bytes = record { count = header.pages; pages = λ n. page_at header.page_size n bytes }
 
--- the members of the table whose tree stands at page 1, if one does
-abbrev pub OfMembers : Sizes → Paged → (List Member → Type 0) → Type 0
-OfMembers sizes base P = (depth : ℕ) (members : List Member) (numbers : List ℕ) → IsTree sizes base 1 Table depth members numbers → P members
-
--- The answer of pages: where the tree of a table stands at page 1, the lines of its members, or the first that is no row of the schema; where none stands, that the tree is damaged, or any of these.
+-- The answer of pages: the damage that a cursor over the table at page 1 meets; where it comes to the end, the first member that is no row of the schema, or else the lines of all members.
 abbrev pub IsSchemaAnswer : Sizes → Paged → Result (List ℕ) Refusal → Type 0
 IsSchemaAnswer sizes base answer =
-    ((text : List ℕ) × (answer ≡ Ok text) × OfMembers sizes base (λ members. AreLines members text))
-    ⊎ (((rowid : ℤ) × (answer ≡ Err (SchemaRow rowid)) × OfMembers sizes base (λ members. IsFirstBad members rowid))
-    ⊎ ((page : ℕ) × (rule : Rule) × (answer ≡ Err (TreeDamaged page rule)) × OfMembers sizes base (λ members. ⊥)))
+    ((page : ℕ) × (rule : Rule) × (answer ≡ Err (TreeDamaged page rule)) × StopsAt sizes base Table 1 (page, rule))
+    ⊎ (((members : List Member) × (rowid : ℤ) × IsList sizes base Table 1 members × (answer ≡ Err (SchemaRow rowid)) × IsFirstBad members rowid)
+    ⊎ ((members : List Member) × (text : List ℕ) × IsList sizes base Table 1 members × (answer ≡ Ok text) × AreLines members text))
 
 -- the answer of the bytes of a target: the first refusal of its header, else that of its pages
 abbrev pub IsTargetAnswer : List ℕ → Result (List ℕ) Refusal → Type 0
@@ -61,12 +58,3 @@ IsSchemaDump files answer =
     (HasJournal files × (answer ≡ Err JournalPresent))
     ⊎ (((¬ HasJournal files) × IsSome (files Wal) × (answer ≡ Err (NotYet part.Log)))
     ⊎ ((¬ HasJournal files) × (files Wal ≡ None) × IsTargetAnswer (content files Target) answer))
-
--- the target of the files has the tree of a table at page 1
-pub record HasSchema (files : Files) : Type 0 where
-  pub header : Header
-  pub is_header : IsHeaderOf (take 100 (content files Target)) (length (content files Target)) header
-  pub depth : ℕ
-  pub members : List Member
-  pub numbers : List ℕ
-  pub stands : IsTree (sizes_by header) (pages_by header (content files Target)) 1 Table depth members numbers

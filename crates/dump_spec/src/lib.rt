@@ -7,7 +7,7 @@
 //! - `SchemaDumps`: what `dump sqlite_schema` answers of the files, by the first of its causes.
 //!
 //! `SchemaRowsLaws` says that members have one text or one first fault, as `schema_rows_have_one_answer` promises; `SchemaDumpsLaws`, that
-//! files whose schema stands have one answer, as `schema_dump_has_one_answer` does.
+//! files have one answer, as `schema_dump_has_one_answer` does.
 #![tactic(auto)]
 
 mod laws;

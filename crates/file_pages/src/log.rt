@@ -1,5 +1,5 @@
 // The log in a file, read frame by frame.
-ghost use Rattle.std.specs.Prelude.{◌≡◌, ◌+◌, ◌<◌, ◌^◌, ℕ, true, false, Ok, IfOk, IfErr, IfSome, IsTrue, MatchOption, OnOk, length, drop};
+ghost use Rattle.std.specs.Prelude.{◌≡◌, ◌+◌, ◌%◌, ◌<◌, ◌^◌, ℕ, true, false, Ok, IfOk, IfErr, IfSome, IsTrue, MatchOption, OnOk, length, take, drop};
 ghost use Rattle.common_spec.specs.Reading.{OrFault, Reads as ReadsAs};
 ghost use Rattle.file_spec.specs.Files.{content};
 ghost use Rattle.rbu_disk.specs.Disk.{Looks, Owes, OwesBy};
@@ -9,7 +9,7 @@ ghost use Rattle.wal_codec.specs.declared.log.LogFault.TheVariants.{LogHeader};
 ghost use Rattle.wal_codec.specs.LogReading.{HasLog, HasFault};
 ghost use Rattle.wal_codec.specs.FramesRead.{IsReading, frame_size, place_behind};
 ghost use Rattle.file_pages.specs.declared.log.FileLogFault.{FileLogFault};
-ghost use Rattle.file_pages.specs.LogFile.{IsFaultOf, ReadsAll, ReadsNext, SaysNothing, disk_fault};
+ghost use Rattle.file_pages.specs.LogFile.{IsFaultIn, IsFaultOf, ReadsAll, ReadsNext, SaysNothing, disk_fault, front_of};
 ghost use Rattle.file_pages.specs.Overlay.{HasPlaces};
 
 use page_store::page_buffer;
@@ -42,22 +42,31 @@ impl From<AllocError> for FileLogFault {
     }
 }
 
-// Reads the header: `None` where the bytes have none of a log.
+// The first bytes, so many, or all where there are fewer.
+fn front(bytes: &[u8], len: u64) -> &[u8]
+    ensures { result.now ≡ take len bytes.now }
+{
+    let count = (bytes.len() as u64).min(len);
+    &bytes[..count as usize]
+}
+
+// Reads the header of a log in the first bytes of a file: `None` where they have none of a log.
 fn begin_log<D: Disk>(
     alloc: Global,
     disk: &mut D,
     file: FileName,
+    len: u64,
     needed: u64,
 ) -> Result<Option<LogReader>, DiskFault>
     requires allowed { D.test disk.old (Reads file) ≡ true }
     ensures files { Looks D.Disk disk.old disk.new result (λ begun files.
-        MatchOption begun (HasFault (content files file) needed LogHeader) (λ reader. IsReading (content files file) needed (drop 32 (content files file)) reader)) }
+        MatchOption begun (HasFault (front_of file len files) needed LogHeader) (λ reader. IsReading (front_of file len files) needed (drop 32 (front_of file len files)) reader)) }
     ensures place { IfOk result (λ begun. IfSome begun (λ reader. place_behind reader ≡ 32)) }
     ensures calls { Owes D.Disk disk.old disk.new result }
 {
     let mut header = [0; 32];
     let n = disk.read_at(file, 0, &mut header)?;
-    Ok(LogReader::begin(alloc, &header[..n], needed))
+    Ok(LogReader::begin(alloc, front(&header[..n], len), needed))
 }
 
 // Reads the frame at a place, and answers whether it is valid.
@@ -82,7 +91,7 @@ fn next_of<D: Disk>(
     Ok(valid)
 }
 
-// Reads frame by frame, as long as they are valid, in a file of this length.
+// Reads frame by frame in the first bytes of a file, as long as they are valid.
 fn read_frames<D: Disk>(
     disk: &mut D,
     file: FileName,
@@ -93,7 +102,7 @@ fn read_frames<D: Disk>(
     requires allowed { D.test disk.old (Reads file) ≡ true }
     requires whole { length frame.old ≡ frame_size reader.old }
     requires place { place_behind reader.old ≡ 32 }
-    ensures files { Looks D.Disk disk.old disk.new result (λ _ files. len ≡ length (content files file) → ReadsAll file reader.old reader.new files) }
+    ensures files { Looks D.Disk disk.old disk.new result (λ _ files. ReadsAll file len reader.old reader.new files) }
     ensures place { OnOk result (place_behind reader.new < 2 ^ 64) }
     ensures memory { IfErr result SaysNothing }
     ensures calls { OwesBy D.Disk disk_fault disk.old disk.new result }
@@ -113,8 +122,34 @@ fn read_frames<D: Disk>(
     Ok(())
 }
 
-/// Reads the log in a file as `read_log` does over its bytes (Database File Format, section 4), one frame at a time: no more than a frame of it is in memory.
-/// So many first frames are needed, the last of them a commit.
+/// Reads the log in the first bytes of a file, or in all where there are fewer, as `read_log` does over these bytes (Database File Format, section 4), one frame at a time: no
+/// more than a frame of it is in memory. `len` is how many bytes; so many first frames are needed, the last of them a commit.
+pub fn front_log<D: Disk>(
+    alloc: Global,
+    disk: &mut D,
+    file: FileName,
+    len: u64,
+    needed: u64,
+) -> Result<Log, FileLogFault>
+    requires allowed { D.test disk.old (Reads file) ≡ true }
+    ensures files { Looks D.Disk disk.old disk.new result (λ log files. ReadsAs (OrFault (HasLog (front_of file len files) needed) (HasFault (front_of file len files) needed)) (Ok log)) }
+    ensures faults { IfErr result (IsFaultIn (D.shown disk.old) (front_of file len) needed) }
+    ensures places { IfOk result HasPlaces }
+    ensures words { IfOk result (λ log. log.page_size % 8 ≡ 0) }
+    ensures calls { OwesBy D.Disk disk_fault disk.old disk.new result }
+{
+    let Some(mut reader) = begin_log(alloc, disk, file, len, needed)? else {
+        return Err(FileLogFault::InBytes(LogFault::LogHeader));
+    };
+    let mut frame = page_buffer(alloc, reader.frame_size() as u32)?;
+    read_frames(disk, file, len, frame.as_mut_slice(), &mut reader)?;
+    match reader.finish() {
+        Ok(log) => Ok(log),
+        Err(fault) => Err(FileLogFault::InBytes(fault)),
+    }
+}
+
+/// Reads the log in a file as `front_log` does, all its bytes.
 pub fn file_log<D: Disk>(
     alloc: Global,
     disk: &mut D,
@@ -128,13 +163,8 @@ pub fn file_log<D: Disk>(
     ensures calls { OwesBy D.Disk disk_fault disk.old disk.new result }
 {
     let len = disk.len(file)?;
-    let Some(mut reader) = begin_log(alloc, disk, file, needed)? else {
-        return Err(FileLogFault::InBytes(LogFault::LogHeader));
-    };
-    let mut frame = page_buffer(alloc, reader.frame_size() as u32)?;
-    read_frames(disk, file, len, frame.as_mut_slice(), &mut reader)?;
-    match reader.finish() {
+    match front_log(alloc, disk, file, len, needed) {
         Ok(log) => Ok(log),
-        Err(fault) => Err(FileLogFault::InBytes(fault)),
+        Err(fault) => Err(fault),
     }
 }

@@ -14,8 +14,6 @@ mod logs;
 #[cfg(test)]
 mod records;
 #[cfg(test)]
-mod schema_texts;
-#[cfg(test)]
 mod small_files;
 #[cfg(test)]
 mod small_updates;

@@ -7,7 +7,8 @@ use Rattle.format_spec.specs.Header.{freelist_trunk}
 use Rattle.format_spec.specs.Sizes.{IsUsable}
 use Rattle.page_spec.specs.Pages.{Pages, IsInRange, with_page}
 use Rattle.page_spec.specs.Counts.{times}
-use Rattle.page_spec.specs.FreePages.{page_past}
+use Rattle.page_spec.specs.FreePages.{due_pages, page_past}
+use Rattle.page_spec.specs.FreePagesLaws.{due_pages-appended}
 use Rattle.page_spec.specs.PagesLaws.{page_past-cases}
 use Rattle.page_spec.specs.Freelists.{Trunk, IsFreelist, free_pages, leaf_count}
 use Rattle.page_store.specs.StoreLaws.{IfSome-told, Leads-told}
@@ -24,6 +25,12 @@ pub sizes-stayed : (P : ℕ → ℕ → ℕ → Type 0) {size usable count size1
     → P size1 usable1 count1 → P size usable count
 sizes-stayed P {size} {usable} {count} {size1} {usable1} {count1} a b c p =
     subst (λ (s : ℕ). P s usable count) a (subst (λ (u : ℕ). P size1 u count) b (subst (λ (n : ℕ). P size1 usable1 n) c p))
+
+-- with the next page past the end there is one page more
+pub past-rises : {F : Type 0} (size count limit now : ℕ) (result : Result ℕ (FreeFault F)) → IfOk result (λ page. (page ≡ page_past size count) × (page ≤ limit)) → IfOk result (λ page. now ≡ page)
+    → OnOk result (due_pages size now ≤ due_pages size count + 1)
+past-rises size count limit now (Err fault) next counts = tt
+past-rises size count limit now (Ok page) next counts = omega (arith, ap (due_pages size) (counts ∙ next.0), due_pages-appended size count)
 
 module _ (F : Type 0) (size usable limit count : ℕ) (m : Pages) (first : List ℕ) (is_first : first ≡ m 1) (is_usable : IsUsable usable) (within : usable ≤ size) (long : length first ≡ size) where
   first-long : 40 ≤ length (m 1)

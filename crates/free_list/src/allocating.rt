@@ -1,9 +1,9 @@
 // Takes a page.
-ghost use Rattle.std.specs.Prelude.{◌≡◌, ◌⊎◌, ◌^◌, ◌<◌, ◌≤◌, IfErr, IfOk, IfSome, OnOk, Some, List, length, max};
+ghost use Rattle.std.specs.Prelude.{◌≡◌, ◌⊎◌, ◌+◌, ◌^◌, ◌<◌, ◌≤◌, IfErr, IfOk, IfSome, OnOk, Some, List, length, max};
 ghost use Rattle.common_spec.specs.Reading.{OrFault, ReadsOrWants};
 ghost use Rattle.common_spec.specs.Told.{Leads};
 ghost use Rattle.page_spec.specs.Pages.{Pages, IsInRange};
-ghost use Rattle.page_spec.specs.FreePages.{page_past};
+ghost use Rattle.page_spec.specs.FreePages.{due_pages, page_past};
 ghost use Rattle.page_spec.specs.Freelists.{IsFreelist, Trunk};
 ghost use Rattle.page_store.specs.Store.{HasSizes, IsNumber, OwesBy};
 ghost use Rattle.free_list.specs.Answers.{IsFull, IsNext, IsOther, IsTakeFault, RefusesNext, fault_in};
@@ -103,7 +103,7 @@ fn take<S: PageWrite>(
 
 /// Takes a free page, or where there is none the next one past the end, which is not the lock-byte page, up to a limit. Its bytes are any. Refuses [50] where the first trunk, the number of its leaf pages, or the number that is taken is wrong, and [51] where the next page past the end would pass the limit.
 ///
-/// The store has at least one page. After a fault of the store a part of the change may be written.
+/// The store has at least one page, and gets one more at most, but for the lock-byte page. After a fault of the store a part of the change may be written.
 pub fn allocate<S: PageWrite>(
     alloc: Global,
     store: &mut S,
@@ -121,6 +121,7 @@ pub fn allocate<S: PageWrite>(
     ensures in_range { IfOk result (IsNumber S.PageRead store.new) }
     ensures count { OnOk result (S.count store.old ≤ S.count store.new) }
     ensures most { OnOk result (S.count store.new ≤ max limit (S.count store.old)) }
+    ensures rises { OnOk result (due_pages (S.size store.old) (S.count store.new) ≤ due_pages (S.size store.old) (S.count store.old) + 1) }
     ensures stays { StaysRefused S.PageRead store.old store.new result }
     ensures owes { OwesBy S.PageRead fault_in store.old store.new result }
 {

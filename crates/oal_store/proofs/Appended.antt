@@ -1,5 +1,5 @@
 -- What a write behind the log leaves of its bytes and of the moments.
-use Rattle.std.proofs.Common.{◌≡◌, ℕ, ◌+◌, ◌≤◌, Bool, List, [], ◌∷◌, ◌++◌, length, take, drop, Option, Result, refl, sym, ap, ◌∙◌, subst, arith, append_assoc, append-nil, length-append}
+use Rattle.std.proofs.Common.{◌≡◌, ℕ, ◌+◌, ◌≤◌, Bool, List, [], ◌∷◌, ◌++◌, length, take, drop, Option, Result, sym, ap, ◌∙◌, subst, arith, append_assoc, append-nil, length-append}
 use Rattle.std.proofs.lemmas.List.{take_at}
 use Rattle.common_spec.specs.Told.{Leads}
 use Rattle.common_spec.specs.ToldLaws.{Leads-here, Leads-then}
@@ -8,7 +8,7 @@ use Rattle.file_spec.specs.declared.FileName.TheVariants.{Oal}
 use Rattle.file_spec.specs.declared.DiskCall.TheVariants as call
 use Rattle.file_spec.specs.Files.{Files, content, after_write}
 use Rattle.file_spec.specs.Records.{Record}
-use Rattle.file_spec.specs.Trails.{Trail, Passes}
+use Rattle.file_spec.specs.Trails.{Trail}
 use Rattle.file_spec.specs.TrailsLaws.{Passes-none, Passes-kept}
 use Rattle.file_spec.specs.Steps.{Changes, Written, Torn, AfterWrite, AfterFailedWrite, AfterSync, AfterFailedSync, synced_at}
 use Rattle.format_spec.specs.Log.{Frame, frame_sums, frame_bytes, frames_bytes}

@@ -1,5 +1,5 @@
 -- What a commit leaves: the log with the frames that came, and its overlay.
-use Rattle.std.proofs.Common.{◌≡◌, ℕ, ◌+◌, ◌*◌, ◌^◌, ◌<◌, ◌≤◌, ◌==◌, is_some, Bool, true, false, cond, if◌then◌else◌, List, [], ◌∷◌, ◌++◌, length, map, Option, Some, None, IfSome, option_map, unwrap_or, Vec, All, refl, sym, ap, ◌∙◌, subst, inl, inr, arith, append_assoc, append-nil, length-append}
+use Rattle.std.proofs.Common.{◌≡◌, ℕ, ◌+◌, ◌*◌, ◌^◌, ◌<◌, ◌≤◌, ◌==◌, is_some, Bool, true, false, cond, if◌then◌else◌, List, [], ◌∷◌, ◌++◌, length, map, Option, Some, None, IfSome, unwrap_or, Vec, All, refl, sym, ap, ◌∙◌, subst, inl, inr, append_assoc, append-nil, length-append}
 use Rattle.std.specs.Global.{Global}
 use Rattle.std.specs.Option.{option_or}
 use Rattle.std.specs.List.{AllByRecursion, IsDistinct}
@@ -12,7 +12,6 @@ use Rattle.std.proofs.lemmas.List.Elements.{recursion_from_All}
 use Rattle.std.proofs.lemmas.Map.Keys.{IsDistinct-from_sorted}
 use Rattle.common_spec.specs.Told.{Leads}
 use Rattle.common_spec.specs.ToldLaws.{Leads-weaken, Leads-known, Leads-both}
-use Rattle.byte_fields.specs.Bytes.{resized}
 use Rattle.byte_fields.specs.Numbers.{page_at}
 use Rattle.file_spec.specs.declared.FileName.TheVariants.{Target, Oal}
 use Rattle.file_spec.specs.Files.{Files, content, OnlyChanges}
@@ -33,8 +32,8 @@ use Rattle.oal_store.specs.Appending.{frames_of, Appends}
 use Rattle.oal_store.specs.Changed.{IsChanged}
 use Rattle.oal_store.specs.Committing.{Grows}
 use Rattle.oal_store.specs.Growing.{KeepsGrowing}
-use Rattle.oal_store.specs.Stored.{changed_page, stored_pages, stored_map, KeepsLog, SameStore, HasPagesOf, IsKnown, IsCommitted}
-use Rattle.oal_store.proofs.FramesLaws.{frames_bytes-append, sums_behind-append, valid-append, last_commit-append, last_frame-append, last_place-append, last_place-more, count_after-append, HoldsPage, holds-page, held-page}
+use Rattle.oal_store.specs.Stored.{changed_page, stored_map, KeepsLog, SameStore, HasPagesOf, IsKnown, IsCommitted}
+use Rattle.oal_store.proofs.FramesLaws.{frames_bytes-append, sums_behind-append, valid-append, last_commit-append, last_frame-append, last_place-append, last_place-more, count_after-append, holds-page, held-page}
 use Rattle.oal_store.proofs.PageFrames.{Entry, last_commit-frames_of, numbers-frames_of, valid-frames_of, last_frame-frames_of, length-frames, length-frames_of, compares-back}
 
 -- the pages by their places are those of the frames, over the target's

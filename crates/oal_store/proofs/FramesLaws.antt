@@ -1,10 +1,10 @@
 -- Frames behind others, and where their pages stand.
-use Rattle.std.proofs.Common.{◌≡◌, ℕ, suc, ◌+◌, ◌*◌, ◌<◌, ◌==◌, ◌&&◌, ◌||◌, not, is_some, Bool, true, false, if◌then◌else◌, List, [], ◌∷◌, ◌++◌, length, map, drop, Option, Some, None, unwrap_or, refl, sym, ap, ap₂, ◌∙◌, subst, arith, append_assoc, length-append, ne_eqb}
+use Rattle.std.proofs.Common.{◌≡◌, ℕ, suc, ◌+◌, ◌*◌, ◌==◌, ◌||◌, not, is_some, Bool, true, false, if◌then◌else◌, List, [], ◌∷◌, ◌++◌, length, map, drop, Option, Some, None, unwrap_or, refl, sym, ap, ◌∙◌, subst, arith, append_assoc, length-append}
 use Rattle.std.specs.Option.{option_or}
 use Rattle.std.proofs.lemmas.List.{take_at, drop_at}
 use Rattle.byte_fields.specs.Bytes.{resized}
 use Rattle.byte_fields.specs.BytesLaws.{resized-short}
-use Rattle.format_spec.specs.Log.{Frame, frame_sums, frame_header, frame_bytes, frames_bytes, sums_behind, IsFrame, AreFrames, committed, last_commit, last_frame_of, count_after}
+use Rattle.format_spec.specs.Log.{Frame, frame_sums, frame_header, frame_bytes, frames_bytes, sums_behind, AreFrames, last_commit, last_frame_of, count_after}
 use Rattle.format_spec.specs.LogLaws.{length-frame_header}
 use Rattle.oal_store.specs.OalLog.{last_place}
 

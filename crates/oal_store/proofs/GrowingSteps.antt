@@ -1,14 +1,11 @@
 -- A write behind the hidden log keeps it in every image, and so does a sync.
-use Rattle.std.proofs.Common.{◌≡◌, ◌≢◌, ℕ, ◌+◌, ◌-◌, ◌<◌, ◌≤◌, min, max, List, ◌++◌, length, take, drop, slice_index, Option, Some, None, refl, sym, ap, ◌∙◌, subst, inl, inr, arith, length-append}
+use Rattle.std.proofs.Common.{◌≡◌, ℕ, ◌≤◌, List, ◌++◌, length, take, drop, slice_index, Some, refl, sym, ap, ◌∙◌, subst, inl, inr, arith}
 use Rattle.std.proofs.lemmas.Bool.{cases_lt}
-use Rattle.std.proofs.lemmas.List.{places, length-take-le, get_or-take, get_or_append_left, take_at, take-append-drop}
-use Rattle.file_spec.specs.declared.FileName.{FileName}
+use Rattle.std.proofs.lemmas.List.{places, length-take-le, get_or-take, get_or_append_left, take_at}
 use Rattle.file_spec.specs.declared.FileName.TheVariants.{Oal}
-use Rattle.file_spec.specs.Files.{Files, content, with_file, OnlyChanges}
-use Rattle.file_spec.specs.FilesLaws.{with_file-again, with_file-same}
-use Rattle.file_spec.specs.Faults.{IsTorn}
-use Rattle.file_spec.specs.Records.{Range, Untouched, Stored, MayHold, stable, Names, Record, MayName, HoldsAt, IsImage, Every, IsSound, IsStill, shown_files}
-use Rattle.file_spec.specs.RecordsLaws.{stable-only, HoldsAt-weaken, shown-image, stored-here, stored-other, others-stay, more-images}
+use Rattle.file_spec.specs.Files.{content, with_file}
+use Rattle.file_spec.specs.Records.{Stored, MayHold, stable, Names, Record, Every, IsSound, IsStill, shown_files}
+use Rattle.file_spec.specs.RecordsLaws.{stable-only, shown-image, stored-here, stored-other, others-stay, more-images}
 use Rattle.file_spec.specs.Steps.{write_pending, Written, Torn, with_stored, ChangesAt, Changes, synced_at}
 use Rattle.file_spec.specs.StepsLaws.{sound-changes, sound-written, sound-torn, sound-synced}
 use Rattle.oal_store.specs.Growing.{BeginsWith, IsGrowing}

@@ -1,5 +1,5 @@
 -- What a crash leaves while the hidden log grows, and after a commit.
-use Rattle.std.proofs.Common.{◌≡◌, ℕ, ◌≤◌, true, false, List, [], ◌∷◌, ◌++◌, length, drop, Option, Some, None, unwrap_or, option_map, IfSome, refl, sym, ap, ap₂, ◌∙◌, subst, inl, inr, arith}
+use Rattle.std.proofs.Common.{◌≡◌, ℕ, true, false, List, [], ◌∷◌, ◌++◌, drop, Option, Some, None, unwrap_or, option_map, IfSome, refl, sym, ap, ap₂, ◌∙◌, subst, inl, arith}
 use Rattle.common_spec.specs.Told.{Leads}
 use Rattle.common_spec.specs.ToldLaws.{Leads-weaken, Leads-known, Leads-both}
 use Rattle.file_spec.specs.declared.FileName.{FileName}
@@ -9,7 +9,7 @@ use Rattle.file_spec.specs.Files.{Files, content, is_name, with_file}
 use Rattle.file_spec.specs.FilesLaws.{with_file-again, with_file-same}
 use Rattle.file_spec.specs.Records.{Stored, MayHold, stable, Names, Record, IsAmong, MayName, HoldsAt, HoldsAll, IsImage, Every, IsSound, IsStill, shown_files}
 use Rattle.file_spec.specs.RecordsLaws.{HoldsAt-weaken, shown-image, stable-only, stored-here}
-use Rattle.file_spec.specs.Trails.{Trail, Passes}
+use Rattle.file_spec.specs.Trails.{Trail}
 use Rattle.file_spec.specs.TrailsLaws.{Passes-weaken, Passes-now}
 use Rattle.file_spec.specs.Steps.{AfterSync, synced_at}
 use Rattle.format_spec.specs.Log.{Frame, IsOverlay}

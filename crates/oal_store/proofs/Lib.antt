@@ -8,3 +8,4 @@ mod Images
 mod Entries
 mod StoreSteps
 mod Placings
+mod Starts

@@ -1,5 +1,6 @@
 -- Where the pages of frames stand, as they are noted one by one.
-use Rattle.std.proofs.Common.{◌≡◌, suc, ◌+◌, ◌*◌, ◌^◌, ◌<◌, ◌==◌, Bool, true, false, cond, if◌then◌else◌, ℕ, List, [], ◌∷◌, Option, Some, None, length, refl, sym, ap, ◌∙◌, subst, arith}
+use Rattle.std.proofs.Common.{◌≡◌, suc, ◌+◌, ◌*◌, ◌^◌, ◌<◌, ◌==◌, Bool, true, false, cond, if◌then◌else◌, ℕ, List, [], ◌∷◌, Option, Some, None, length, refl, sym, ap, ◌∙◌, subst, arith, ◌≤◌, ◌-◌, take, drop, get_or}
+use Rattle.std.proofs.lemmas.List.{take_rest}
 use Rattle.std.specs.Option.{option_or}
 use Rattle.std.specs.Ordering.{is_eq, nat_cmp}
 use Rattle.oal_store.specs.OalLog.{last_place}
@@ -26,3 +27,17 @@ fits-more size at all number rest e h =
     let long : length all ≡ suc (length rest) = ap length e in
     let split : suc (length rest) * (24 + size) ≡ length rest * (24 + size) + (24 + size) = omega arith in
     omega (arith, subst (λ (n : ℕ). at + n * (24 + size) < 2 ^ 64) long h, split)
+
+-- a list without items
+pub no-items : {A : Type 0} (xs : List A) → length xs ≡ 0 → xs ≡ []
+no-items [] none = refl
+no-items (x ∷ xs) none = absurd (omega (arith, none))
+
+-- a list is its first item and what is left
+pub first-and-rest : (left : List ℕ) → 1 ≤ length left → left ≡ get_or left 0 0 ∷ take (length left - 1) (drop 1 left)
+first-and-rest [] some = absurd (omega (arith, some))
+first-and-rest (x ∷ left) some = ap (λ (rest : List ℕ). x ∷ rest) (sym (take_rest (x ∷ left) 1))
+
+pub or-nothing : {A : Type 0} (x : Option A) → option_or x None ≡ x
+or-nothing None = refl
+or-nothing (Some y) = refl

@@ -1,5 +1,5 @@
 -- The pages of a store after one was written.
-use Rattle.std.proofs.Common.{◌≡◌, ℕ, ◌==◌, Bool, if◌then◌else◌, List, [], Option, Some, None, option_map, unwrap_or, Vec, sym, ap, ◌∙◌, inl, inr, ne_eqb, eq-eqb, ◌⊎◌}
+use Rattle.std.proofs.Common.{◌≡◌, ℕ, ◌==◌, Bool, if◌then◌else◌, List, [], Option, Some, None, option_map, unwrap_or, Vec, ap, ◌∙◌, inl, inr, ne_eqb, eq-eqb, ◌⊎◌}
 use Rattle.std.specs.Global.{Global}
 use Rattle.std.specs.Map.{lookup}
 use Rattle.std.specs.BTreeMap.{is_at}

@@ -6,3 +6,6 @@ pub mod Committing
 pub mod Stored
 pub mod Faults
 pub mod Lent
+pub mod Saved
+pub mod SavedLaws
+pub mod Starting

@@ -1,9 +1,12 @@
 // Why a call on a growing log fails.
 ghost use Rattle.std.specs.Prelude.{◌≡◌};
 ghost use Rattle.oal_store.specs.declared.fault.OalFault.{OalFault};
+ghost use Rattle.oal_store.specs.Faults.{log_fault};
 
+use file_pages::FileLogFault;
 use rbu_disk::DiskFault;
 use std::alloc::AllocError;
+use wal_codec::LogFault;
 
 /// Why the hidden log is not the one that was saved, or a call on it fails.
 #[derive(Debug, Clone, Copy, PartialEq, Eq)]
@@ -34,5 +37,18 @@ impl From<AllocError> for OalFault {
 
     fn from(fault: AllocError) -> OalFault {
         OalFault::Memory(fault)
+    }
+}
+
+impl From<FileLogFault> for OalFault {
+    ghost from_gives = { λ fault result. result ≡ log_fault fault };
+
+    fn from(fault: FileLogFault) -> OalFault {
+        match fault {
+            FileLogFault::InBytes(LogFault::LogHeader) => OalFault::LogHeader,
+            FileLogFault::InBytes(LogFault::LogFrame { number }) => OalFault::OalFrame { number },
+            FileLogFault::InBytes(LogFault::Memory(error)) => OalFault::Memory(error),
+            FileLogFault::OfDisk(fault) => OalFault::Disk(fault),
+        }
     }
 }

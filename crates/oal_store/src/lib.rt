@@ -1,10 +1,11 @@
 //! The hidden log of an update, which grows behind the target until it is whole (Database File Format, section 4).
 //!
-//! The layer above lends an `OalPages`, which it makes of an `OalStore` and a disk as a literal, to whatever reads and writes pages, and then calls
-//! `commit`, which appends the pages that were written and makes the log stable. `size` and `sums` say where the log ends then.
+//! The layer above opens the log that was saved by `OalStore::start`. It lends an `OalPages`, which it makes of the store and a disk as a literal, to whatever reads and writes
+//! pages, and then calls `commit`, which appends the pages that were written and makes the log stable. `size` and `sums` say where the log ends then.
 //!
-//! In `specs/`, `OalLog` says which bytes the log has that a store keeps, `Stored` which pages it has over files, and what a commit leaves of them and of
-//! each image; `Lent` is what stays while it is lent, and `Faults` the fault of a call. `Appending`, `Changed`, `Committing` and `Growing` are of use to this crate alone.
+//! In `specs/`, `OalLog` says which bytes the log has that a store keeps, `Saved` when a file has the log that was saved, and why it has not, `Stored` which pages a store has over
+//! files, and what a commit leaves of them and of each image; `Lent` is what stays while it is lent, and `Faults` the fault of a call. `SavedLaws` has that the answer of a start is the only one.
+//! `Appending`, `Changed`, `Committing`, `Growing` and `Starting` are of use to this crate alone.
 #![tactic(auto)]
 
 mod appending;
@@ -13,6 +14,7 @@ mod fault;
 mod log;
 mod pages;
 mod placing;
+mod start;
 mod store;
 
 pub use fault::OalFault;

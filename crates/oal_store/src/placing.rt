@@ -1,5 +1,5 @@
-// Where the pages of appended frames stand.
-ghost use Rattle.std.specs.Prelude.{◌≡◌, ◌+◌, ◌*◌, ◌^◌, ◌<◌, ℕ, OnOk, length};
+// Where the pages of frames stand.
+ghost use Rattle.std.specs.Prelude.{◌≡◌, ◌+◌, ◌*◌, ◌^◌, ◌<◌, ℕ, IfOk, OnOk, length};
 ghost use Rattle.std.specs.Option.{option_or};
 ghost use Rattle.std.specs.BTreeMap.{get, keys, btree_map_len};
 ghost use Rattle.std.specs.Ordering.{nat_cmp};
@@ -7,8 +7,28 @@ ghost use Rattle.oal_store.specs.OalLog.{last_place};
 
 use crate::appending::End;
 use crate::log::OalLog;
-use std::alloc::AllocError;
+use std::alloc::{AllocError, Global};
 use std::collections::BTreeMap;
+
+// Where the pages of a whole log's frames stand, by their numbers.
+pub(crate) fn frame_places(
+    alloc: Global,
+    numbers: &[u32],
+    page_size: u32,
+) -> Result<BTreeMap<u32, u64>, AllocError>
+    requires { 32 + length numbers.now * (24 + page_size) < 2 ^ 64 }
+    ensures { IfOk result (λ places. (n : ℕ) → get nat_cmp places n ≡ last_place page_size 32 n numbers.now) }
+{
+    let mut places = BTreeMap::new(alloc);
+    let mut at = 32;
+    let mut left = numbers;
+    while let [number, rest @ ..] = left {
+        places.insert(*number, at + 24)?;
+        at += 24 + u64::from(page_size);
+        left = rest;
+    }
+    Ok(places)
+}
 
 // Notes where the pages stand whose frames were appended to a log of so many bytes.
 pub(crate) fn place_pages(

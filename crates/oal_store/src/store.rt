@@ -52,6 +52,13 @@ impl OalStore {
         self.log.sums
     }
 
+    /// How many pages there are.
+    pub fn count(&self) -> u32
+        ensures { result ≡ self.now.count }
+    {
+        self.count
+    }
+
     // Keeps a page until the next commit.
     pub(crate) fn put(&mut self, number: u32, bytes: &[u8]) -> Result<(), AllocError>
         requires first { 1 ≤ number }

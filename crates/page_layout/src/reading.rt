@@ -55,6 +55,21 @@ struct PlacedView {
     view: CellView,
 }
 
+// The same view, field by field: what was written in small parts, and is copied in large ones, keeps a processor waiting.
+fn in_parts(view: &CellView) -> CellView
+    ensures { result ≡ view.now }
+{
+    CellView {
+        size: view.size,
+        rowid: view.rowid,
+        child: view.child,
+        payload: view.payload,
+        local_at: view.local_at,
+        local: view.local,
+        overflow: view.overflow,
+    }
+}
+
 // The cell that the array of a page has at an index. `None` where it does not decode, or leaves its bounds.
 fn read_view(
     page: &[u8],
@@ -83,7 +98,10 @@ fn read_view(
     if place + room(view.size as usize) > usable as usize {
         return None;
     }
-    Some(PlacedView { place, view })
+    Some(PlacedView {
+        place,
+        view: in_parts(&view),
+    })
 }
 
 // The views of the cells of a page that counts so many. `None` where one does not decode, leaves its bounds, or overlaps another.

@@ -5,7 +5,8 @@ use page_store::{PageRead, PlainStore};
 use refusal::Rule;
 use std::alloc::{AllocError, Global};
 use std::test::Fail;
-use tree_walk::{Cursor, Row, TreeFault};
+use tree_rows::{next_row, table_rows};
+use tree_walk::{Cursor, Row, TreeFault, TreeKind};
 
 // The rowids of the table. Its interior pages have 20, 45, 60 and 80: SQLite leaves 45 where it was greatest and its row is deleted.
 const ROWIDS: [u8; 10] = [10, 20, 30, 40, 50, 60, 70, 80, 90, 100];
@@ -88,12 +89,16 @@ fn index(alloc: Global) -> Result<PlainStore, Fail> {
     Ok(store)
 }
 
-// Stands at the first row of the table at root 2.
-fn first(alloc: Global, store: &mut PlainStore) -> Result<Cursor, TreeFault<AllocError>> {
+// Stands at the first member of the tree of a kind at root 2.
+fn first(
+    alloc: Global,
+    store: &mut PlainStore,
+    kind: TreeKind,
+) -> Result<Cursor, TreeFault<AllocError>> {
     if !is_whole(store) || store.count() < 2 {
         return Err(TreeFault::TrunkDamaged { page: 0 });
     }
-    Cursor::first(alloc, store, 2)
+    Cursor::first(alloc, store, 2, kind)
 }
 
 // Stands at the first row of that table whose rowid is not less.
@@ -176,7 +181,7 @@ fn finds_none(alloc: Global, store: &mut PlainStore, sought: i64) -> Result<bool
 fn rows_of_three_levels_come_in_order(rt: HostRuntime) -> Result<(), Fail> {
     let alloc = rt.alloc();
     let mut store = table(alloc)?;
-    let mut cursor = first(alloc, &mut store)?;
+    let mut cursor = first(alloc, &mut store, TreeKind::Table)?;
     for rowid in ROWIDS {
         ensure(
             stands_at(alloc, &mut store, &cursor, rowid)?,
@@ -192,7 +197,7 @@ fn rows_of_three_levels_come_in_order(rt: HostRuntime) -> Result<(), Fail> {
 fn entries_of_three_levels_come_in_order(rt: HostRuntime) -> Result<(), Fail> {
     let alloc = rt.alloc();
     let mut store = index(alloc)?;
-    let mut cursor = first(alloc, &mut store)?;
+    let mut cursor = first(alloc, &mut store, TreeKind::Index)?;
     for value in 1..15u8 {
         ensure(
             stands_at_entry(alloc, &mut store, &cursor, value)?,
@@ -238,7 +243,7 @@ fn page_that_stands_twice_breaks_the_order(rt: HostRuntime) -> Result<(), Fail> 
     let mut store = store_of(alloc, 4)?;
     put_page(&mut store, 2, &interior(4, 10, 4))?;
     put_page(&mut store, 4, &leaf(1, 2))?;
-    let mut cursor = first(alloc, &mut store)?;
+    let mut cursor = first(alloc, &mut store, TreeKind::Table)?;
     ensure(next(alloc, &mut store, &mut cursor)?, "the second row")?;
     ensure(stands_at(alloc, &mut store, &cursor, 2)?, "its rowid")?;
     let third = next(alloc, &mut store, &mut cursor);
@@ -252,7 +257,92 @@ fn page_below_itself_is_too_deep(rt: HostRuntime) -> Result<(), Fail> {
     put_page(&mut store, 2, &interior(2, 10, 4))?;
     put_page(&mut store, 4, &leaf(1, 2))?;
     ensure(
-        is_damage(first(alloc, &mut store), 2, Rule::Depth),
+        is_damage(first(alloc, &mut store, TreeKind::Table), 2, Rule::Depth),
         "page 2 below itself",
     )
+}
+
+#[test]
+fn root_of_the_other_kind_is_refused(rt: HostRuntime) -> Result<(), Fail> {
+    let alloc = rt.alloc();
+    let mut rows = table(alloc)?;
+    let entries = first(alloc, &mut rows, TreeKind::Index);
+    ensure(is_damage(entries, 2, Rule::Kind), "a table is no index")?;
+    let mut store = index(alloc)?;
+    let table = first(alloc, &mut store, TreeKind::Table);
+    ensure(is_damage(table, 2, Rule::Kind), "an index is no table")?;
+    let sought = seek(alloc, &mut store, 1);
+    ensure(is_damage(sought, 2, Rule::Kind), "and has no rowids")
+}
+
+// All rows of the table at root 2.
+fn all_rows(alloc: Global, store: &mut PlainStore) -> Result<Vec<Row>, TreeFault<AllocError>> {
+    if !is_whole(store) || store.count() < 2 {
+        return Err(TreeFault::TrunkDamaged { page: 0 });
+    }
+    table_rows(alloc, store, 2)
+}
+
+// Whether rows have the rowids of the table.
+fn have_rowids(rows: &[Row]) -> bool {
+    let mut all = rows.len() == ROWIDS.len();
+    for at in 0..rows.len().min(ROWIDS.len()) {
+        all = all && rows[at].rowid == i64::from(ROWIDS[at]);
+    }
+    all
+}
+
+#[test]
+fn rows_of_a_table_are_read_whole(rt: HostRuntime) -> Result<(), Fail> {
+    let alloc = rt.alloc();
+    let mut rows = table(alloc)?;
+    let read = all_rows(alloc, &mut rows)?;
+    ensure(have_rowids(read.as_slice()), "each row in order")?;
+    let mut entries = index(alloc)?;
+    ensure(
+        is_damage(all_rows(alloc, &mut entries), 2, Rule::Kind),
+        "an index is no table",
+    )?;
+    put_page(&mut rows, 9, &leaf(81, 80))?;
+    ensure(
+        is_damage(all_rows(alloc, &mut rows), 9, Rule::Cells),
+        "the last page is out of order",
+    )
+}
+
+// The row at which a cursor stands, which it leaves.
+fn leave(
+    alloc: Global,
+    store: &mut PlainStore,
+    cursor: &mut Cursor,
+) -> Result<Option<Row>, TreeFault<AllocError>> {
+    if !is_whole(store) {
+        return Err(TreeFault::TrunkDamaged { page: 0 });
+    }
+    next_row(alloc, store, cursor)
+}
+
+// A leaf with two rows, of which the second has 600 bytes; page 9 is to hold 508 of them.
+fn torn_leaf() -> [u8; 512] {
+    let mut page = page_of(b"\x0d\x00\x00\x00\x02\x01\x97\x00\x01\x97\x01\x9d", &[9]);
+    let cells = [4, 1, 3, 0, 1, 1, 132, 88, 2];
+    for at in 0..9 {
+        page[407 + at] = cells[at];
+    }
+    page
+}
+
+#[test]
+fn chain_that_breaks_is_met_behind_the_rows_before(rt: HostRuntime) -> Result<(), Fail> {
+    let alloc = rt.alloc();
+    let mut store = store_of(alloc, 3)?;
+    put_page(&mut store, 2, &torn_leaf())?;
+    let mut cursor = first(alloc, &mut store, TreeKind::Table)?;
+    let first_row = match leave(alloc, &mut store, &mut cursor)? {
+        Some(row) => row.rowid == 1,
+        None => false,
+    };
+    ensure(first_row, "the first row")?;
+    let torn = leave(alloc, &mut store, &mut cursor);
+    ensure(is_damage(torn, 2, Rule::Chain), "page 9 is out of range")
 }

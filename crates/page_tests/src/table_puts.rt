@@ -8,10 +8,10 @@ use page_store::{PageRead, PlainStore};
 use std::alloc::{AllocError, Global};
 use std::test::Fail;
 use tree_table::{TreeFault, put};
-use tree_walk::Cursor;
+use tree_walk::{Cursor, TreeKind};
 
-// Pages 1 and 2: the first says how many pages there are, the second is a leaf without cells.
-fn empty_table(alloc: Global) -> Result<PlainStore, Fail> {
+/// Pages 1 and 2: the first says how many pages there are, the second is a leaf without cells.
+pub fn empty_table(alloc: Global) -> Result<PlainStore, Fail> {
     let mut store = store_of(alloc, 2)?;
     let mut first = [0; 512];
     put_u32(&mut first, 28, 2);
@@ -23,8 +23,8 @@ fn empty_table(alloc: Global) -> Result<PlainStore, Fail> {
     Ok(store)
 }
 
-// Puts a row of so many bytes into the table at a root.
-fn put_row(
+/// Puts a row of so many bytes into the table at a root.
+pub fn put_row(
     alloc: Global,
     store: &mut PlainStore,
     root: u32,
@@ -48,7 +48,7 @@ fn first(
     if !is_whole(store) || root < 1 || store.count() < root {
         return Err(TreeFault::TrunkDamaged { page: 0 });
     }
-    Cursor::first(alloc, store, root)
+    Cursor::first(alloc, store, root, TreeKind::Table)
 }
 
 // Whether a cursor stands at the row of a rowid, which has so many bytes.
@@ -77,16 +77,16 @@ fn next(alloc: Global, store: &mut PlainStore, cursor: &mut Cursor) -> Result<bo
     Ok(cursor.next(alloc, store)?)
 }
 
-// The order in which the rows of a test are put.
+/// The order in which the rows of a test are put, or deleted.
 #[derive(Clone, Copy)]
-enum Order {
+pub enum Order {
     Rising,
     Falling,
     Shuffled,
 }
 
-// The rowid that is put at a place in an order.
-fn rowid_at(order: Order, at: u32) -> u32
+/// The rowid that is put at a place in an order.
+pub fn rowid_at(order: Order, at: u32) -> u32
     requires { at ≤ 3000 }
     ensures { result ≤ 3001 }
 {
@@ -97,8 +97,8 @@ fn rowid_at(order: Order, at: u32) -> u32
     }
 }
 
-// How many bytes the row of a rowid has.
-fn size_of(order: Order, rowid: u32) -> u32
+/// How many bytes the row of a rowid has.
+pub fn size_of(order: Order, rowid: u32) -> u32
     requires { rowid ≤ 3001 }
 {
     match order {
@@ -107,8 +107,8 @@ fn size_of(order: Order, rowid: u32) -> u32
     }
 }
 
-// Puts the rows from 1 to 3000 into the table at root 2.
-fn fill(alloc: Global, store: &mut PlainStore, order: Order) -> Result<(), TreeFault<AllocError>> {
+/// Puts the rows from 1 to 3000 into the table at root 2.
+pub fn fill(alloc: Global, store: &mut PlainStore, order: Order) -> Result<(), TreeFault<AllocError>> {
     for at in 1..3001 {
         let rowid = rowid_at(order, at);
         put_row(
@@ -204,8 +204,8 @@ fn put_at_the_limit_tells_both_numbers(rt: HostRuntime) -> Result<(), Fail> {
     ensure(full, "both numbers")
 }
 
-// Page 1 as a leaf without cells, behind a header that is 7 but for the size and the freelist.
-fn first_page_alone(alloc: Global) -> Result<PlainStore, Fail> {
+/// Page 1 as a leaf without cells, behind a header that is 7 but for the size and the freelist.
+pub fn first_page_alone(alloc: Global) -> Result<PlainStore, Fail> {
     let mut store = store_of(alloc, 1)?;
     let mut page = [0; 512];
     for at in 0..100 {
@@ -220,8 +220,8 @@ fn first_page_alone(alloc: Global) -> Result<PlainStore, Fail> {
     Ok(store)
 }
 
-// Whether the header of page 1 is what it was, but for the size and the freelist.
-fn keeps_header(store: &mut PlainStore) -> Result<bool, Fail> {
+/// Whether the header of page 1 is what it was, but for the size and the freelist.
+pub fn keeps_header(store: &mut PlainStore) -> Result<bool, Fail> {
     for at in 0..25 {
         let word = field(store, 4 * at)?;
         if (at < 7 || 10 <= at) && word != 117901063 {

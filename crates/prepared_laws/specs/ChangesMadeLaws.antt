@@ -46,7 +46,7 @@ all-filter : {A : Type 0} (P : A → Type 0) (p : A → Bool) (xs : List A) → 
 all-filter P p [] all = tt
 all-filter P p (x ∷ xs) all = on-if (AllByRecursion P) (p x) (x ∷ filter p xs) (filter p xs) (λ e. (all.0, all-filter P p xs all.1)) (λ e. all-filter P p xs all.1)
 
-pairs-filter : {A : Type 0} (S : A → A → Type 0) (p : A → Bool) (xs : List A) → PairsByRecursion S xs → PairsByRecursion S (filter p xs)
+pub pairs-filter : {A : Type 0} (S : A → A → Type 0) (p : A → Bool) (xs : List A) → PairsByRecursion S xs → PairsByRecursion S (filter p xs)
 pairs-filter S p [] pairs = tt
 pairs-filter S p (x ∷ xs) pairs =
     on-if (PairsByRecursion S) (p x) (x ∷ filter p xs) (filter p xs) (λ e. (all-filter (S x) p xs pairs.0, pairs-filter S p xs pairs.1)) (λ e. pairs-filter S p xs pairs.1)
@@ -81,7 +81,7 @@ module _ (index : Index) where
   abbrev order : List (Collation × Bool)
   order = order_of index
 
-  last-is : (row : TableRow) → last_value order (entry_of index row) ≡ Int row.rowid
+  pub last-is : (row : TableRow) → last_value order (entry_of index row) ≡ Int row.rowid
   last-is row =
       last-of (map (λ column. slice_index_or row.values column.0 Null) index.columns) (Int row.rowid) Null (length order)
       (length-map index.columns (λ column. (column.1, column.2)) ∙ sym (length-map index.columns (λ column. slice_index_or row.values column.0 Null)))
@@ -89,7 +89,7 @@ module _ (index : Index) where
   abbrev Long : List Value → Type 0
   Long entry = length order ≤ length entry
 
-  entry-long : (row : TableRow) → Long (entry_of index row)
+  pub entry-long : (row : TableRow) → Long (entry_of index row)
   entry-long row =
       let values = map (λ column. slice_index_or row.values column.0 Null) index.columns in
       let columns : length order ≡ length index.columns = length-map index.columns (λ column. (column.1, column.2)) in
@@ -113,10 +113,10 @@ module _ (index : Index) where
   entries-long [] = tt
   entries-long (row ∷ rows) = (entry-long row, entries-long rows)
 
-  abbrev by_entry : List Value → List Value → Ordering
+  abbrev pub by_entry : List Value → List Value → Ordering
   by_entry a b = ordering_then (padded_cmp order a b) (value_cmp Binary (last_value order a) (last_value order b))
 
-  by_entry-total : IsTotalOrder by_entry
+  pub by_entry-total : IsTotalOrder by_entry
   by_entry-total = then_total (padded-total order) (on_total (last_value order) (value_cmp-total Binary))
 
   -- rows have a projection

@@ -464,7 +464,7 @@ module _ (sizes : Sizes) (kind : TreeKind) where
   right-same levels zero (child ∷ children) last home page = refl
   right-same levels (suc i) (child ∷ children) last home page = right-same levels i children last home page
 
-  child-page : (base : Paged) (levels i : ℕ) (children : List (TreeOf levels × TreeCell)) (last : TreeOf levels) → AllByRecursion (StandsBefore sizes base kind levels) children
+  pub child-page : (base : Paged) (levels i : ℕ) (children : List (TreeOf levels × TreeCell)) (last : TreeOf levels) → AllByRecursion (StandsBefore sizes base kind levels) children
       → page_of levels (child_at i children last) ≡ child_page i (map spelled (cells_behind children)) (page_of levels last)
   child-page base levels i [] last all = refl
   child-page base levels zero (child ∷ children) last all = sym all.0.0.names

@@ -1,5 +1,5 @@
 -- The answer of a dump, of what was read.
-use Rattle.std.proofs.Common.{◌≡◌, ◌↔◌, ℕ, false, IsTrue, List, Option, Some, None, IsSome, Result, Ok, Err, Vec, Global, length, take, refl, ap, subst, inl, inr}
+use Rattle.std.proofs.Common.{◌≡◌, ◌↔◌, ℕ, false, IsTrue, List, Option, Some, None, IsSome, Result, Ok, Err, length, take, refl, ap, subst, inl, inr}
 use Rattle.std.proofs.lemmas.Bool.{false≢true}
 use Rattle.common_spec.specs.Reading.{OrFault}
 use Rattle.file_spec.specs.declared.FileName.TheVariants.{Target, Wal}
@@ -11,37 +11,32 @@ use Rattle.file_pages.specs.Overlay.{IsStart, file_start}
 use Rattle.page_store.specs.Store.{IsCause}
 use Rattle.refusal.specs.declared.Refusal.{Refusal}
 use Rattle.refusal.specs.declared.Refusal.TheVariants as refusal
-use Rattle.tree_spec.specs.declared.TreeKind.TheVariants.{Table}
 use Rattle.tree_spec.specs.declared.fault.TreeFault.{TreeFault}
 use Rattle.tree_spec.specs.declared.fault.TreeFault.TheVariants as tree
-use Rattle.tree_spec.specs.Faults.{fault_in}
+use Rattle.tree_spec.specs.declared.TreeKind.TheVariants.{Table}
+use Rattle.tree_spec.specs.Faults.{fault_in, IsDamageOrOther}
 use Rattle.tree_spec.specs.Standing.{Sizes, Paged}
-use Rattle.tree_spec.specs.Trees.{Member}
 use Rattle.tree_walk.specs.declared.cursor.Row.{Row}
-use Rattle.dump_spec.specs.SchemaRows.{AreLines, IsFirstBad}
+use Rattle.database_spec.specs.Walks.{IsList, StopsAt}
+use Rattle.tree_rows.specs.Rows.{members_of}
 use Rattle.dump_spec.specs.SchemaDumps.{HasJournal, IsSchemaAnswer, IsSchemaDump, header_refusal, pages_by, sizes_by}
 use Rattle.rbu_dump.specs.Dumps.{IsReadHeader, IsRefusedBy, IsSchemaOf}
-use Rattle.rbu_dump.specs.Rows.{ReadsRows}
 
 module _ (F : Type 0) (sizes : Sizes) (base : Paged) where
-  -- the rows of the tree at page 1 were read
-  pub answer-of_rows : (rows : Vec Row Global) (answer : Result (List ℕ) Refusal) → (let read : Result (Vec Row Global) (TreeFault F) = Ok rows in ReadsRows sizes base 1 read)
-      → IsSchemaOf rows.items answer → IsSchemaAnswer sizes base answer
-  answer-of_rows rows answer reads (inl lines) =
-      inl (lines.0, lines.1, λ depth members numbers stands. subst (λ (ms : List Member). AreLines ms lines.0) (reads Table depth members numbers stands) lines.2)
-  answer-of_rows rows answer reads (inr bad) =
-      inr (inl (bad.0, bad.1, λ depth members numbers stands. subst (λ (ms : List Member). IsFirstBad ms bad.0) (reads Table depth members numbers stands) bad.2))
+  -- the rows of the table at page 1 were read
+  pub answer-of_rows : (rows : List Row) (answer : Result (List ℕ) Refusal) → IsList sizes base Table 1 (members_of rows) → IsSchemaOf rows answer → IsSchemaAnswer sizes base answer
+  answer-of_rows rows answer is_list (inl lines) = inr (inr (members_of rows, lines.0, is_list, lines.1, lines.2))
+  answer-of_rows rows answer is_list (inr bad) = inr (inl (members_of rows, bad.0, is_list, bad.1, bad.2))
 
-  -- the tree is damaged
-  pub answer-of_damage : (fault : TreeFault F) (refused : Refusal) → (let read : Result (Vec Row Global) (TreeFault F) = Err fault in ReadsRows sizes base 1 read)
-      → IsRefusedBy fault (Ok refused) → IsSchemaAnswer sizes base (Err refused)
-  answer-of_damage (tree.TreeDamaged page rule) refused reads is =
+  -- its tree is damaged
+  pub answer-of_damage : (fault : TreeFault F) (refused : Refusal) → IsDamageOrOther (λ page rule. StopsAt sizes base Table 1 (page, rule)) fault → IsRefusedBy fault (Ok refused) → IsSchemaAnswer sizes base (Err refused)
+  answer-of_damage (tree.TreeDamaged page rule) refused stops is =
       let same : refused ≡ refusal.TreeDamaged page rule = cc in
-      inr (inr (page, rule, ap Err same, λ depth members numbers stands. reads Table depth members numbers stands))
-  answer-of_damage (tree.TrunkDamaged page) refused reads is = absurd (cc)
-  answer-of_damage (tree.TargetFull pages limit) refused reads is = absurd (cc)
-  answer-of_damage (tree.Store fault) refused reads is = absurd (cc)
-  answer-of_damage (tree.Memory error) refused reads is = absurd (cc)
+      inl (page, rule, ap Err same, stops)
+  answer-of_damage (tree.TrunkDamaged page) refused stops is = absurd (cc)
+  answer-of_damage (tree.TargetFull pages limit) refused stops is = absurd (cc)
+  answer-of_damage (tree.Store fault) refused stops is = absurd (cc)
+  answer-of_damage (tree.Memory error) refused stops is = absurd (cc)
 
 -- the store did not fail where the tree is damaged, and else the fault is what it was
 pub damage-still : {S F : Type 0} (Fails : S → S → F → Type 0) (f h : S) (fault : TreeFault F) (refused : Refusal) → IsRefusedBy fault (Ok refused) → IsCause Fails (fault_in fault) f h → h ≡ f

@@ -1,5 +1,4 @@
 mod Lines
 mod Records
-mod Walking
 mod Dumps
 mod Loans

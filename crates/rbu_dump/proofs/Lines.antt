@@ -9,7 +9,8 @@ use Rattle.dump_spec.specs.SchemaRows.{IsFirstBad}
 use Rattle.dump_spec.specs.SchemaRowsLaws.{schema_rows-one}
 use Rattle.rbu_dump.specs.declared.schema.SchemaFault.{SchemaFault}
 use Rattle.rbu_dump.specs.declared.schema.SchemaFault.TheVariants.{SchemaRow, Memory}
-use Rattle.rbu_dump.specs.Rows.{members_of, HasLine, HasLines, HasFault, IsMemory, IsNoRow, Appends}
+use Rattle.tree_rows.specs.Rows.{members_of}
+use Rattle.rbu_dump.specs.Rows.{HasLine, HasLines, HasFault, IsMemory, IsNoRow, Appends}
 
 -- what holds of the rows that are left gives what holds of all
 pub record Continues (all left : List Row) (text : List ℕ) : Type 0 where

@@ -16,7 +16,8 @@ use Rattle.tree_walk.specs.declared.cursor.Row.{Row}
 use Rattle.dump_spec.specs.SchemaRows.{IsFirstBad}
 use Rattle.rbu_dump.specs.declared.halt.Halt.{Halt}
 use Rattle.rbu_dump.specs.declared.halt.Halt.TheVariants.{Fault, Memory}
-use Rattle.rbu_dump.specs.Rows.{members_of, HasLines}
+use Rattle.tree_rows.specs.Rows.{members_of}
+use Rattle.rbu_dump.specs.Rows.{HasLines}
 
 -- the fault of the disk that ends a dump, if one does
 abbrev pub fault_in : Halt → Option DiskFault

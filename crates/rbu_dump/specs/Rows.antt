@@ -1,38 +1,12 @@
--- The rows that are read of a tree, and the lines of those of the schema table.
-use Rattle.std.specs.Prelude.{◌≡◌, ℕ, ℤ, List, ◌++◌, Option, Result, Ok, Err, Vec, drop, map}
-use Rattle.std.specs.Global.{Global}
+-- The lines of the rows of the schema table.
+use Rattle.std.specs.Prelude.{◌≡◌, ℕ, ℤ, List, ◌++◌, Result, Ok, Err}
 use Rattle.rbu_value.specs.declared.value.Value.{Value}
-use Rattle.tree_spec.specs.declared.TreeKind.{TreeKind}
-use Rattle.tree_spec.specs.declared.fault.TreeFault.{TreeFault}
-use Rattle.tree_spec.specs.Faults.{IsOther}
-use Rattle.tree_spec.specs.Standing.{Sizes, Paged, IsTree}
-use Rattle.tree_spec.specs.Trees.{Member}
-use Rattle.tree_walk.specs.declared.path.Cursor.{Cursor}
-use Rattle.tree_walk.specs.Walks.{IsFirstRow, StandsAt}
 use Rattle.tree_walk.specs.declared.cursor.Row.{Row}
+use Rattle.tree_rows.specs.Rows.{members_of}
 use Rattle.dump_spec.specs.Printing.{row_line}
 use Rattle.dump_spec.specs.SchemaRows.{IsSchemaRecord, AreLines, IsFirstBad}
 use Rattle.rbu_dump.specs.declared.schema.SchemaFault.{SchemaFault}
 use Rattle.rbu_dump.specs.declared.schema.SchemaFault.TheVariants.{SchemaRow, Memory}
-
--- the members of which rows were read
-abbrev pub members_of : List Row → List Member
-members_of = map (λ row. record { rowid = row.rowid; payload = row.payload })
-
--- a cursor that stands in a tree gives its member and moves to the next one
-abbrev pub LeavesRow : {F : Type 0} → Sizes → Paged → Cursor → Cursor → Result (Option Row) (TreeFault F) → Type 0
-LeavesRow sizes base old new (Ok row) = (kind : TreeKind) (rest : List Member) → StandsAt sizes base kind rest old → IsFirstRow rest row × StandsAt sizes base kind (drop 1 rest) new
-LeavesRow sizes base old new (Err fault) = (kind : TreeKind) (rest : List Member) → StandsAt sizes base kind rest old → IsOther fault
-
--- the members that are left of a tree in which a cursor stands
-abbrev pub ReadsFrom : {F : Type 0} → Sizes → Paged → Cursor → Result (Vec Row Global) (TreeFault F) → Type 0
-ReadsFrom sizes base cursor (Ok rows) = (kind : TreeKind) (rest : List Member) → StandsAt sizes base kind rest cursor → members_of rows.items ≡ rest
-ReadsFrom sizes base cursor (Err fault) = (kind : TreeKind) (rest : List Member) → StandsAt sizes base kind rest cursor → IsOther fault
-
--- all members of the tree at a root
-abbrev pub ReadsRows : {F : Type 0} → Sizes → Paged → ℕ → Result (Vec Row Global) (TreeFault F) → Type 0
-ReadsRows sizes base root (Ok rows) = (kind : TreeKind) (depth : ℕ) (members : List Member) (numbers : List ℕ) → IsTree sizes base root kind depth members numbers → members_of rows.items ≡ members
-ReadsRows sizes base root (Err fault) = (kind : TreeKind) (depth : ℕ) (members : List Member) (numbers : List ℕ) → IsTree sizes base root kind depth members numbers → IsOther fault
 
 -- the lines of rows
 abbrev pub HasLines : List Row → List ℕ → Type 0

@@ -12,7 +12,6 @@ ghost use Rattle.dump_spec.specs.SchemaDumps.{HasJournal, IsSchemaAnswer, IsSche
 ghost use Rattle.rbu_dump.specs.Dumps.{Counts, HasHeader, IsReadHeader, IsRefusedBy, IsSchemaOf, fault_in};
 
 use crate::halt::Halt;
-use crate::rows::table_rows;
 use crate::schema::{SchemaFault, schema_lines};
 use db_header::{Header, HeaderFault, read_header};
 use file_pages::{FilePages, file_start};
@@ -21,6 +20,7 @@ use rbu_disk::{Disk, DiskFault, FileName};
 use rbu_value::Bytes;
 use refusal::{Part, Refusal};
 use std::alloc::{AllocError, Global};
+use tree_rows::table_rows;
 use tree_walk::{Row, TreeFault};
 
 // Whether a rollback journal is to be played back.

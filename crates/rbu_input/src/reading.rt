@@ -23,7 +23,7 @@ use page_store::PageRead;
 use rbu_rows::Prepared;
 use schema_spec::Table;
 use std::alloc::{AllocError, Global};
-use tree_walk::{Cursor, Row};
+use tree_walk::{Cursor, Row, TreeKind};
 
 /// A prepared row, and the sums with it.
 #[derive(Drop)]
@@ -163,7 +163,7 @@ pub(crate) fn read_rows<S: PageRead>(
     ensures pages { SeesTree S.PageRead store.old store.new (λ sizes base. ReadsRows sizes base source.now target.now own.now root sums result) }
     ensures owes { OwesBy S.PageRead fault_in store.old store.new result }
 {
-    match Cursor::first(alloc, store, root) {
+    match Cursor::first(alloc, store, root, TreeKind::Table) {
         Ok(cursor) => rows_from(alloc, store, cursor, source, target, own, layout, sums),
         Err(fault) => Err(of_tree(fault)),
     }

@@ -1,10 +1,13 @@
 -- What the status of an answer says of the files.
-use Rattle.std.proofs.Common.{◌≡◌, ◌≢◌, ◌≤◌, ◌⊎◌, ℕ, IsTrue, List, Option, None, refl, sym, ap, ◌∙◌, subst, inl, inr, arith}
+use Rattle.std.proofs.Common.{◌≡◌, ◌≢◌, ◌≤◌, ◌⊎◌, ℕ, IsTrue, List, Option, None, IfSome, Result, Ok, Err, refl, sym, ap, ◌∙◌, subst, inl, inr, arith}
 use Rattle.std.proofs.lemmas.Bool.{false≢true}
+use Rattle.common_spec.specs.Reading.{Reads}
+use Rattle.common_spec.specs.ReadingLaws.{Reads-one}
 use Rattle.common_spec.specs.Told.{Leads}
-use Rattle.common_spec.specs.ToldLaws.{Leads-same, Leads-weaken, same-Leads}
+use Rattle.common_spec.specs.ToldLaws.{Leads-known, Leads-same, Leads-weaken, same-Leads}
 use Rattle.file_spec.specs.Files.{Files}
-use Rattle.refusal.specs.declared.Part.TheVariants as part
+use Rattle.refusal.specs.declared.Part.{Part}
+use Rattle.refusal.specs.declared.Refusal.{Refusal}
 use Rattle.refusal.specs.declared.Refusal.TheVariants.{NotYet}
 use Rattle.rbu_disk.specs.declared.disk.Disk as disk
 use Rattle.rbu_disk.specs.declared.disk.DiskFault.{DiskFault}
@@ -15,57 +18,26 @@ use Rattle.update_spec.specs.declared.Outcome.{Outcome}
 use Rattle.update_spec.specs.declared.Outcome.TheVariants.{Done, KeyPresent, Refused}
 use Rattle.update_spec.specs.declared.Answer.{Answer}
 use Rattle.update_spec.specs.declared.Answer.TheVariants.{Usage, Ended, Printed, Fault, NoMemory}
-use Rattle.update_spec.specs.declared.Command.TheVariants.{Apply}
-use Rattle.update_spec.specs.Words.{IsUsage, AsksUpdate, AsksMore}
-use Rattle.update_spec.specs.Answer.{IsUpdateAnswer, IsAnswer}
+use Rattle.update_spec.specs.declared.Command.TheVariants.{Apply, DumpSchema}
+use Rattle.update_spec.specs.Words.{IsUsage, AsksUpdate, AsksDump, AsksMore}
+use Rattle.update_spec.specs.WordsLaws.{update-no_dump, needed-one}
+use Rattle.update_spec.specs.Answer.{IsUpdateAnswer, IsPrinted, IsAnswer}
 use Rattle.update_spec.specs.Text.{answer_status, outcome_status}
 use Rattle.small_spec.specs.SmallUpdate.{IsFinished, small_inserts}
 use Rattle.small_spec.specs.SmallLaws.{IsFinished-done}
+use Rattle.dump_spec.specs.SchemaDumps.{IsSchemaDump}
+use Rattle.dump_spec.specs.SchemaDumpsLaws.{schema_dump-one}
+use Rattle.rbu_run.specs.Commands.{EndsUpdate, EndsDump, EndsCommand}
 use Rattle.rbu_run.specs.Ending.{EndsAs}
 use Rattle.rbu_run.specs.Told.{IsTold}
-use Rattle.rbu_run.specs.Status.{KeepsOnFault, KeepsOnRefusal, IsHalted, HasStatusOf, IsStatus, IsOutcome, IsOfUpdate, IsOfWords, answer_fault, IsCounted, IsOwed, TellsFault, CountsCalls, CountsWrites}
+use Rattle.rbu_run.specs.Status.{KeepsOnFault, KeepsOnRefusal, IsHalted, HasStatusOf, IsStatus, IsOutcome, IsOfUpdate, answer_fault, IsCounted, IsOwed, TellsDump, TellsFault, CountsCalls, CountsWrites}
 use Rattle.rbu_run.proofs.Endings.{outcome-ends, fault-ends}
-
--- an answer of the words, and what it left of the files
-pub record Settled (salt : ℕ × ℕ) (words : List (List ℕ)) (before after : Option Files) (answer : Answer) : Type 0 where
-  pub of_words : IsOfWords words answer
-  pub files : AsksUpdate words → Leads (EndsAs salt answer) before after
-  pub idle : (¬ AsksUpdate words) → after ≡ before
 
 -- the answer that is told: that of the command, or want of memory where its text takes memory
 abbrev pub IsTellable : Answer → Answer → Type 0
 IsTellable answer told = (told ≡ answer) ⊎ ((told ≡ NoMemory) × IsTrue (takes_memory answer))
 
-pub usage-asks_no_update : (words : List (List ℕ)) → IsUsage words → ¬ AsksUpdate words
-usage-asks_no_update words usage asks = usage (Apply 4294967295) asks
-
--- an answer whose text takes memory leaves the files as they were
-memory-stays : (salt : ℕ × ℕ) (answer : Answer) → IsTrue (takes_memory answer) → (f g : Files) → EndsAs salt answer f g → g ≡ f
-memory-stays salt Usage takes f g ends = absurd ends
-memory-stays salt (Ended Done) takes f g ends = absurd (false≢true takes)
-memory-stays salt (Ended (KeyPresent table id)) takes f g ends = ends.0.1
-memory-stays salt (Ended (Refused refusal)) takes f g ends = ends.0.1
-memory-stays salt (Printed text) takes f g ends = absurd ends
-memory-stays salt (Fault file call) takes f g ends = absurd (false≢true takes)
-memory-stays salt NoMemory takes f g same = same
-
-settled-no_memory : (salt : ℕ × ℕ) (words : List (List ℕ)) (a b : Option Files) (answer : Answer) → IsTrue (takes_memory answer) → Settled salt words a b answer → Settled salt words a b NoMemory
-settled-no_memory salt words a b answer takes settled = record {
-  of_words = asked settled.of_words;
-  files = λ asks. Leads-weaken (settled.files asks) (memory-stays salt answer takes);
-  idle = settled.idle;
-}
-  where
-    asked : IsOfWords words answer → IsOfWords words NoMemory
-    asked (inl asks) = inl (asks.0, tt)
-    asked (inr (inl more)) = absurd (false≢true (subst (λ (x : Answer). IsTrue (takes_memory x)) more.1 takes))
-    asked (inr (inr usage)) = absurd (false≢true (subst (λ (x : Answer). IsTrue (takes_memory x)) usage.1 takes))
-
-pub settled-told : (salt : ℕ × ℕ) (words : List (List ℕ)) (a b : Option Files) (answer told : Answer) → Settled salt words a b answer → IsTellable answer told → Settled salt words a b told
-settled-told salt words a b answer told settled (inl same) = subst (Settled salt words a b) (sym same) settled
-settled-told salt words a b answer told settled (inr short) = subst (Settled salt words a b) (sym short.0) (settled-no_memory salt words a b answer short.1 settled)
-
--- no call on the disk has failed behind such an answer
+-- no call on the disk has failed behind an answer whose text takes memory
 memory-no_fault : (answer : Answer) → IsTrue (takes_memory answer) → answer_fault answer ≡ None
 memory-no_fault Usage takes = refl
 memory-no_fault (Ended outcome) takes = refl
@@ -79,166 +51,98 @@ counted-told {d = d} {before = before} {after = after} answer told counted (inr 
     let cause : IsCause None (d.failures before) (d.failures after) = subst (λ (fault : Option DiskFault). IsCause fault (d.failures before) (d.failures after)) (memory-no_fault answer short.1) counted.cause in
     subst (IsCounted d before after) (sym short.0) (record { later = counted.later; cause = cause })
 
--- a fact of the files however the update ended, and of files that stay
-pub settled-however : (salt : ℕ × ℕ) (words : List (List ℕ)) (a b : Option Files) (answer : Answer) {Q : Files → Files → Type 0} → Settled salt words a b answer →
-    ((f g : Files) → EndsAs salt answer f g → Q f g) → ((f : Files) → Q f f) → Leads Q a b
-settled-however salt words a b answer {Q = Q} settled ends stays = by settled.of_words
-  where
-    by : IsOfWords words answer → Leads Q a b
-    by (inl asks) = Leads-weaken (settled.files asks.0) ends
-    by (inr (inl more)) = Leads-same (settled.idle more.0.0) stays
-    by (inr (inr usage)) = Leads-same (settled.idle (usage-asks_no_update words usage.0)) stays
+-- what the statuses of an update say of the files
+module _ (salt : ℕ × ℕ) where
+  -- an answer whose text takes memory leaves them as they were
+  memory-stays : (answer : Answer) → IsTrue (takes_memory answer) → (f g : Files) → EndsAs salt answer f g → g ≡ f
+  memory-stays Usage takes f g ends = absurd ends
+  memory-stays (Ended Done) takes f g ends = absurd (false≢true takes)
+  memory-stays (Ended (KeyPresent table id)) takes f g ends = ends.0.1
+  memory-stays (Ended (Refused refusal)) takes f g ends = ends.0.1
+  memory-stays (Printed text) takes f g ends = absurd ends
+  memory-stays (Fault file call) takes f g ends = absurd (false≢true takes)
+  memory-stays NoMemory takes f g same = same
 
--- the answer of the words and the files
-IsUpdateAnswer-from_ending : (salt : ℕ × ℕ) (a b : Option Files) (answer : Answer) → IsOfUpdate answer → Leads (EndsAs salt answer) a b → IsUpdateAnswer small_inserts a b answer
-IsUpdateAnswer-from_ending salt a b Usage other led = absurd other
-IsUpdateAnswer-from_ending salt a b (Ended Done) other led = Leads-weaken led (λ f g ends. IsFinished-done f g ends.0)
-IsUpdateAnswer-from_ending salt a b (Ended (KeyPresent table id)) other led = Leads-weaken led (λ f g ends. ends.0)
-IsUpdateAnswer-from_ending salt a b (Ended (Refused refusal)) other led = Leads-weaken led (λ f g ends. ends.0)
-IsUpdateAnswer-from_ending salt a b (Printed text) other led = absurd other
-IsUpdateAnswer-from_ending salt a b (Fault file call) other led = Leads-weaken led (fault-ends salt file call)
-IsUpdateAnswer-from_ending salt a b NoMemory other led = same-Leads led
+  done-finished : (answer : Answer) → answer_status answer ≡ 0 → (f g : Files) → EndsAs salt answer f g → IsFinished f g
+  done-finished Usage zero f g ends = absurd ends
+  done-finished (Ended Done) zero f g ends = ends.0
+  done-finished (Ended (KeyPresent table id)) zero f g ends = absurd (omega (arith, zero))
+  done-finished (Ended (Refused refusal)) zero f g ends = absurd (omega (arith, zero))
+  done-finished (Printed text) zero f g ends = absurd ends
+  done-finished (Fault file call) zero f g ends = absurd (omega (arith, zero))
+  done-finished NoMemory zero f g ends = absurd (omega (arith, zero))
 
-pub settled-answers : (salt : ℕ × ℕ) (words : List (List ℕ)) (a b : Option Files) (answer : Answer) → Settled salt words a b answer → IsAnswer small_inserts words a b answer
-settled-answers salt words a b answer settled = by settled.of_words
-  where
-    by : IsOfWords words answer → IsAnswer small_inserts words a b answer
-    by (inl asks) = inl (asks.0, IsUpdateAnswer-from_ending salt a b answer asks.1 (settled.files asks.0))
-    by (inr (inl more)) = inr (inl (more.0, more.1, settled.idle more.0.0))
-    by (inr (inr usage)) = inr (inr (usage.0, usage.1, settled.idle (usage-asks_no_update words usage.0)))
+  constraint-keeps : (answer : Answer) → answer_status answer ≡ 3 → (f g : Files) → EndsAs salt answer f g → KeepsOnFault f g
+  constraint-keeps Usage three f g ends = absurd ends
+  constraint-keeps (Ended Done) three f g ends = absurd (omega (arith, three))
+  constraint-keeps (Ended (KeyPresent table id)) three f g ends = ((table, id, ends.0.0), ends.0.1)
+  constraint-keeps (Ended (Refused refusal)) three f g ends = absurd (omega (arith, three))
+  constraint-keeps (Printed text) three f g ends = absurd ends
+  constraint-keeps (Fault file call) three f g ends = absurd (omega (arith, three))
+  constraint-keeps NoMemory three f g ends = absurd (omega (arith, three))
 
-module _ (salt : ℕ × ℕ) (words : List (List ℕ)) (a b : Option Files) where
-  -- only the update has this answer
-  settled-asked : (answer : Answer) → (answer ≢ Ended (Refused (NotYet part.Words))) → (answer ≢ Usage) → Settled salt words a b answer → AsksUpdate words × Leads (EndsAs salt answer) a b
-  settled-asked answer other also settled = by settled.of_words
-    where
-      by : IsOfWords words answer → AsksUpdate words × Leads (EndsAs salt answer) a b
-      by (inl asks) = (asks.0, settled.files asks.0)
-      by (inr (inl more)) = absurd (other more.1)
-      by (inr (inr usage)) = absurd (also usage.1)
+  refused-keeps : (answer : Answer) → answer_status answer ≡ 4 → (f g : Files) → EndsAs salt answer f g → KeepsOnRefusal f g
+  refused-keeps Usage four f g ends = absurd ends
+  refused-keeps (Ended Done) four f g ends = absurd (omega (arith, four))
+  refused-keeps (Ended (KeyPresent table id)) four f g ends = absurd (omega (arith, four))
+  refused-keeps (Ended (Refused refusal)) four f g ends = ((refusal, ends.0.0), ends.0.1)
+  refused-keeps (Printed text) four f g ends = absurd ends
+  refused-keeps (Fault file call) four f g ends = absurd (omega (arith, four))
+  refused-keeps NoMemory four f g ends = absurd (omega (arith, four))
 
-  settled-done : (answer : Answer) → Settled salt words a b answer → answer_status answer ≡ 0 → AsksUpdate words × Leads IsFinished a b
-  settled-done Usage settled zero = absurd (omega (arith, zero))
-  settled-done (Ended Done) settled zero =
-      let is = settled-asked (Ended Done) (λ e. let same : Ended Done ≡ Ended (Refused (NotYet part.Words)) = e in cc) (λ e. let same : Ended Done ≡ Usage = e in cc) settled in
-      (is.0, Leads-weaken is.1 (λ f g ends. ends.0))
-  settled-done (Ended (KeyPresent table id)) settled zero = absurd (omega (arith, zero))
-  settled-done (Ended (Refused refusal)) settled zero = absurd (omega (arith, zero))
-  settled-done (Printed text) settled zero =
-      let is = settled-asked (Printed text) (λ e. let same : Printed text ≡ Ended (Refused (NotYet part.Words)) = e in cc) (λ e. let same : Printed text ≡ Usage = e in cc) settled in
-      (is.0, Leads-weaken is.1 (λ f g ends. absurd ends))
-  settled-done (Fault file call) settled zero = absurd (omega (arith, zero))
-  settled-done NoMemory settled zero = absurd (omega (arith, zero))
+  no_memory-keeps : (answer : Answer) → answer_status answer ≡ 7 → (f g : Files) → EndsAs salt answer f g → g ≡ f
+  no_memory-keeps Usage seven f g ends = absurd ends
+  no_memory-keeps (Ended Done) seven f g ends = absurd (omega (arith, seven))
+  no_memory-keeps (Ended (KeyPresent table id)) seven f g ends = absurd (omega (arith, seven))
+  no_memory-keeps (Ended (Refused refusal)) seven f g ends = absurd (omega (arith, seven))
+  no_memory-keeps (Printed text) seven f g ends = absurd ends
+  no_memory-keeps (Fault file call) seven f g ends = absurd (omega (arith, seven))
+  no_memory-keeps NoMemory seven f g same = same
 
-  settled-constraint : (answer : Answer) → Settled salt words a b answer → answer_status answer ≡ 3 → AsksUpdate words × Leads KeepsOnFault a b
-  settled-constraint Usage settled three = absurd (omega (arith, three))
-  settled-constraint (Ended Done) settled three = absurd (omega (arith, three))
-  settled-constraint (Ended (KeyPresent table id)) settled three =
-      let is = settled-asked (Ended (KeyPresent table id)) (λ e. let same : Ended (KeyPresent table id) ≡ Ended (Refused (NotYet part.Words)) = e in cc) (λ e. let same : Ended (KeyPresent table id) ≡ Usage = e in cc) settled in
-      (is.0, Leads-weaken is.1 (λ f g ends. ((table, id, ends.0.0), ends.0.1)))
-  settled-constraint (Ended (Refused refusal)) settled three = absurd (omega (arith, three))
-  settled-constraint (Printed text) settled three = absurd (omega (arith, three))
-  settled-constraint (Fault file call) settled three = absurd (omega (arith, three))
-  settled-constraint NoMemory settled three = absurd (omega (arith, three))
+  -- the answer of the update and the files
+  update-answers : (a b : Option Files) (answer : Answer) → IsOfUpdate answer → Leads (EndsAs salt answer) a b → IsUpdateAnswer small_inserts a b answer
+  update-answers a b Usage other led = absurd other
+  update-answers a b (Ended Done) other led = Leads-weaken led (λ f g ends. IsFinished-done f g ends.0)
+  update-answers a b (Ended (KeyPresent table id)) other led = Leads-weaken led (λ f g ends. ends.0)
+  update-answers a b (Ended (Refused refusal)) other led = Leads-weaken led (λ f g ends. ends.0)
+  update-answers a b (Printed text) other led = absurd other
+  update-answers a b (Fault file call) other led = Leads-weaken led (fault-ends salt file call)
+  update-answers a b NoMemory other led = same-Leads led
 
-  settled-refused : (answer : Answer) → Settled salt words a b answer → answer_status answer ≡ 4 → AsksMore words ⊎ (AsksUpdate words × Leads KeepsOnRefusal a b)
-  settled-refused Usage settled four = absurd (omega (arith, four))
-  settled-refused (Ended Done) settled four = absurd (omega (arith, four))
-  settled-refused (Ended (KeyPresent table id)) settled four = absurd (omega (arith, four))
-  settled-refused (Ended (Refused refusal)) settled four = by settled.of_words
-    where
-      by : IsOfWords words (Ended (Refused refusal)) → AsksMore words ⊎ (AsksUpdate words × Leads KeepsOnRefusal a b)
-      by (inl asks) = inr (asks.0, Leads-weaken (settled.files asks.0) (λ f g ends. ((refusal, ends.0.0), ends.0.1)))
-      by (inr (inl more)) = inl more.0
-      by (inr (inr usage)) = absurd (let e = usage.1 in cc)
-  settled-refused (Printed text) settled four = absurd (omega (arith, four))
-  settled-refused (Fault file call) settled four = absurd (omega (arith, four))
-  settled-refused NoMemory settled four = absurd (omega (arith, four))
+-- an update has no usage, and a dump neither that nor a constraint fault
+update-no_usage : (answer : Answer) → IsOfUpdate answer → answer_status answer ≢ 2
+update-no_usage Usage other two = other
+update-no_usage (Ended Done) other two = omega (arith, two)
+update-no_usage (Ended (KeyPresent table id)) other two = omega (arith, two)
+update-no_usage (Ended (Refused refusal)) other two = omega (arith, two)
+update-no_usage (Printed text) other two = other
+update-no_usage (Fault file call) other two = omega (arith, two)
+update-no_usage NoMemory other two = omega (arith, two)
 
-  settled-memory : (answer : Answer) → Settled salt words a b answer → answer_status answer ≡ 7 → Leads (λ f g. g ≡ f) a b
-  settled-memory Usage settled seven = absurd (omega (arith, seven))
-  settled-memory (Ended Done) settled seven = absurd (omega (arith, seven))
-  settled-memory (Ended (KeyPresent table id)) settled seven = absurd (omega (arith, seven))
-  settled-memory (Ended (Refused refusal)) settled seven = absurd (omega (arith, seven))
-  settled-memory (Printed text) settled seven = absurd (omega (arith, seven))
-  settled-memory (Fault file call) settled seven = absurd (omega (arith, seven))
-  settled-memory NoMemory settled seven = settled-however salt words a b NoMemory settled (λ f g same. same) (λ f. refl)
+dump-no_usage : (files : Option Files) (answer : Answer) → IsPrinted IsSchemaDump files answer → answer_status answer ≢ 2
+dump-no_usage files Usage prints two = prints
+dump-no_usage files (Ended Done) prints two = prints
+dump-no_usage files (Ended (KeyPresent table id)) prints two = prints
+dump-no_usage files (Ended (Refused refusal)) prints two = omega (arith, two)
+dump-no_usage files (Printed text) prints two = omega (arith, two)
+dump-no_usage files (Fault file call) prints two = omega (arith, two)
+dump-no_usage files NoMemory prints two = omega (arith, two)
 
-  settled-usage : (answer : Answer) → Settled salt words a b answer → answer_status answer ≡ 2 → IsUsage words
-  settled-usage Usage settled two = by settled.of_words
-    where
-      by : IsOfWords words Usage → IsUsage words
-      by (inl asks) = absurd asks.1
-      by (inr (inl more)) = absurd (let e = more.1 in cc)
-      by (inr (inr usage)) = usage.0
-  settled-usage (Ended Done) settled two = absurd (omega (arith, two))
-  settled-usage (Ended (KeyPresent table id)) settled two = absurd (omega (arith, two))
-  settled-usage (Ended (Refused refusal)) settled two = absurd (omega (arith, two))
-  settled-usage (Printed text) settled two = absurd (omega (arith, two))
-  settled-usage (Fault file call) settled two = absurd (omega (arith, two))
-  settled-usage NoMemory settled two = absurd (omega (arith, two))
+dump-no_constraint : (files : Option Files) (answer : Answer) → IsPrinted IsSchemaDump files answer → answer_status answer ≢ 3
+dump-no_constraint files Usage prints three = prints
+dump-no_constraint files (Ended Done) prints three = prints
+dump-no_constraint files (Ended (KeyPresent table id)) prints three = prints
+dump-no_constraint files (Ended (Refused refusal)) prints three = omega (arith, three)
+dump-no_constraint files (Printed text) prints three = omega (arith, three)
+dump-no_constraint files (Fault file call) prints three = omega (arith, three)
+dump-no_constraint files NoMemory prints three = omega (arith, three)
 
-  status-of_outcome : (answer : Answer) (outcome : Outcome) (status : ℕ) → IsOutcome outcome answer → status ≡ answer_status answer → (status ≡ outcome_status outcome) ⊎ IsHalted status
-  status-of_outcome Usage outcome status is told = absurd is
-  status-of_outcome (Ended other) outcome status is told = inl (told ∙ ap outcome_status (sym is))
-  status-of_outcome (Printed text) outcome status is told = absurd is
-  status-of_outcome (Fault file call) outcome status is told = inr (omega (arith, told), omega (arith, told))
-  status-of_outcome NoMemory outcome status is told = inr (omega (arith, told), omega (arith, told))
-
-  module _ {O : Type 0} {o : sink.Ghosts O} (x y : O) (answer : Answer) (status : ℕ) (settled : Settled salt words a b answer) (told : IsTold o answer x y status) where
-    pub told-at_status : {Q : Type 0} (n : ℕ) → n ≢ 8 → (answer_status answer ≡ n → Q) → status ≡ n → Q
-    told-at_status {Q} n other q is = by told
-      where
-        by : IsTold o answer x y status → Q
-        by (inl line) = q (sym line.0 ∙ is)
-        by (inr failed) = absurd (other (sym is ∙ failed.0))
-
-    pub told-done : status ≡ 0 → AsksUpdate words × Leads IsFinished a b
-    told-done = told-at_status 0 (λ e. omega (arith, e)) (settled-done answer settled)
-
-    pub told-constraint : status ≡ 3 → AsksUpdate words × Leads KeepsOnFault a b
-    told-constraint = told-at_status 3 (λ e. omega (arith, e)) (settled-constraint answer settled)
-
-    pub told-refused : status ≡ 4 → AsksMore words ⊎ (AsksUpdate words × Leads KeepsOnRefusal a b)
-    told-refused = told-at_status 4 (λ e. omega (arith, e)) (settled-refused answer settled)
-
-    pub told-memory : status ≡ 7 → Leads (λ f g. g ≡ f) a b
-    told-memory = told-at_status 7 (λ e. omega (arith, e)) (settled-memory answer settled)
-
-    pub told-usage : status ≡ 2 → IsUsage words
-    told-usage = told-at_status 2 (λ e. omega (arith, e)) (settled-usage answer settled)
-
-    -- words that ask for no update have one answer
-    pub told-only_one : (other : Answer) → answer ≡ other → (status ≡ answer_status other) ⊎ (status ≡ 8)
-    told-only_one other same = by told
-      where
-        by : IsTold o answer x y status → (status ≡ answer_status other) ⊎ (status ≡ 8)
-        by (inl line) = inl (line.0 ∙ ap answer_status same)
-        by (inr failed) = inr failed.0
-
-    pub told-not_built : AsksMore words → (status ≡ 4) ⊎ (status ≡ 8)
-    told-not_built more = by settled.of_words
-      where
-        by : IsOfWords words answer → (status ≡ 4) ⊎ (status ≡ 8)
-        by (inl asks) = absurd (more.0 asks.0)
-        by (inr (inl is)) = told-only_one (Ended (Refused (NotYet part.Words))) is.1
-        by (inr (inr usage)) = absurd (usage.0 more.1.0 more.1.1)
-
-    pub told-usage_only : IsUsage words → (status ≡ 2) ⊎ (status ≡ 8)
-    told-usage_only usage = by settled.of_words
-      where
-        by : IsOfWords words answer → (status ≡ 2) ⊎ (status ≡ 8)
-        by (inl asks) = absurd (usage-asks_no_update words usage asks.0)
-        by (inr (inl more)) = absurd (usage more.0.1.0 more.0.1.1)
-        by (inr (inr is)) = told-only_one Usage is.1
-
-    -- the status is that of the files' outcome unless the call was halted
-    pub told-complete : AsksUpdate words → Leads (λ f _. HasStatusOf status f) a b
-    told-complete asks = Leads-weaken (settled.files asks) (λ f g ends outcome has. by outcome (outcome-ends salt answer f g ends outcome has) told)
-      where
-        by : (outcome : Outcome) → IsOutcome outcome answer → IsTold o answer x y status → (status ≡ outcome_status outcome) ⊎ IsHalted status
-        by outcome is (inl line) = status-of_outcome answer outcome status is line.0
-        by outcome is (inr failed) = inr (omega (arith, failed.0), omega (arith, failed.0))
+status-of_outcome : (answer : Answer) (outcome : Outcome) (status : ℕ) → IsOutcome outcome answer → status ≡ answer_status answer → (status ≡ outcome_status outcome) ⊎ IsHalted status
+status-of_outcome Usage outcome status is told = absurd is
+status-of_outcome (Ended other) outcome status is told = inl (told ∙ ap outcome_status (sym is))
+status-of_outcome (Printed text) outcome status is told = absurd is
+status-of_outcome (Fault file call) outcome status is told = inr (omega (arith, told), omega (arith, told))
+status-of_outcome NoMemory outcome status is told = inr (omega (arith, told), omega (arith, told))
 
 -- the statuses of answers
 status-answer : (answer : Answer) → IsStatus (answer_status answer)
@@ -271,38 +175,194 @@ told-counts_writes x y answer status (inl line) = record {
 }
 told-counts_writes x y answer status (inr failed) = record { later = failed.1.later; none = λ other. absurd (other failed.0); rose = λ eight. failed.1.rose }
 
-pub settled-owed : {D : Type 0} {d : disk.Ghosts D} (salt : ℕ × ℕ) (words : List (List ℕ)) (before after : D) (answer : Answer) → Settled salt words (d.shown before) (d.shown after) answer →
-    IsCounted d before after answer → IsOwed d words before after answer
-settled-owed {d = d} salt words before after answer settled counted = record {
-  answers = settled-answers salt words (d.shown before) (d.shown after) answer settled;
-  outcome = λ asks. Leads-weaken (settled.files asks) (outcome-ends salt answer);
-  calls = counted;
-}
+-- what a status below 8 says of the answer
+told-at_status : {O : Type 0} {o : sink.Ghosts O} {Q : Type 0} (x y : O) (status : ℕ) (answer : Answer) (n : ℕ) → n ≢ 8 → IsTold o answer x y status → (answer_status answer ≡ n → Q) → status ≡ n → Q
+told-at_status x y status answer n other (inl line) q is = q (sym line.0 ∙ is)
+told-at_status x y status answer n other (inr failed) q is = absurd (other (sym is ∙ failed.0))
 
--- the disk and the output of a call
-module _ {D O : Type 0} {d : disk.Ghosts D} {o : sink.Ghosts O} (salt : ℕ × ℕ) (words : List (List ℕ)) (before after : D) (x y : O) where
-  settled-fault : (answer : Answer) (status : ℕ) → Settled salt words (d.shown before) (d.shown after) answer → IsCounted d before after answer → IsTold o answer x y status →
-      answer_status answer ≡ 6 → TellsFault d o before after x y status
-  settled-fault Usage status settled counted told six = absurd (omega (arith, six))
-  settled-fault (Ended Done) status settled counted told six = absurd (omega (arith, six))
-  settled-fault (Ended (KeyPresent table id)) status settled counted told six = absurd (omega (arith, six))
-  settled-fault (Ended (Refused refusal)) status settled counted told six = absurd (omega (arith, six))
-  settled-fault (Printed text) status settled counted told six = absurd (omega (arith, six))
-  settled-fault (Fault file call) status settled counted told six =
-      (file, call, counted.cause, settled-however salt words (d.shown before) (d.shown after) (Fault file call) settled (fault-ends salt file call) (λ f. inl refl), told)
-  settled-fault NoMemory status settled counted told six = absurd (omega (arith, six))
+-- files that stay, and what a dump says of them, which is their only answer
+dump-reads : {a b : Option Files} (answer : Result (List ℕ) Refusal) → b ≡ a → IfSome a (λ f. IsSchemaDump f answer) → Leads (λ f g. (g ≡ f) × Reads (IsSchemaDump f) answer) a b
+dump-reads answer same prints = Leads-known prints (Leads-same same (λ f is. (refl, Reads-one (IsSchemaDump f) answer (schema_dump-one f) is)))
 
-  -- status 6 names the last call on the disk that failed
-  pub told-fault : (answer : Answer) (status : ℕ) → Settled salt words (d.shown before) (d.shown after) answer → IsCounted d before after answer → IsTold o answer x y status →
-      status ≡ 6 → TellsFault d o before after x y status
-  told-fault answer status settled counted told =
-      told-at_status salt words (d.shown before) (d.shown after) x y answer status settled told 6 (λ e. omega (arith, e)) (settled-fault answer status settled counted told)
+dump-halts : {a b : Option Files} (status : ℕ) → b ≡ a → 6 ≤ status → status ≤ 8 → IsHalted status × Leads (λ f g. g ≡ f) a b
+dump-halts status same least most = ((least, most), Leads-same same (λ f. refl))
 
-  -- no other status passes over a call that failed
-  pub told-counts_calls : (answer : Answer) (status : ℕ) → IsCounted d before after answer → IsTold o answer x y status → CountsCalls d before after status
-  told-counts_calls answer status counted (inr failed) = record { later = counted.later; none = λ six eight. absurd (eight failed.0) }
-  told-counts_calls Usage status counted (inl line) = record { later = counted.later; none = λ six eight. counted.cause }
-  told-counts_calls (Ended outcome) status counted (inl line) = record { later = counted.later; none = λ six eight. counted.cause }
-  told-counts_calls (Printed text) status counted (inl line) = record { later = counted.later; none = λ six eight. counted.cause }
-  told-counts_calls (Fault file call) status counted (inl line) = record { later = counted.later; none = λ six eight. absurd (six line.0) }
-  told-counts_calls NoMemory status counted (inl line) = record { later = counted.later; none = λ six eight. counted.cause }
+-- a command that ended
+module _ {D : Type 0} {d : disk.Ghosts D} (salt : ℕ × ℕ) (words : List (List ℕ)) (before after : D) where
+  ended-no_memory : (answer : Answer) → IsTrue (takes_memory answer) → EndsCommand d salt words before after answer → EndsCommand d salt words before after NoMemory
+  ended-no_memory answer takes (inl update) = inl (
+    update.0,
+    record {
+      of_update = tt;
+      files = Leads-weaken update.1.files (memory-stays salt answer takes);
+      crash = Leads-weaken update.1.crash (λ a b survives. record { moments = survives.moments; end = tt });
+    },
+  )
+  ended-no_memory answer takes (inr (inl dump)) = inr (inl (
+    dump.0,
+    record {
+      prints = tt;
+      same = dump.1.same;
+      crash = Leads-weaken dump.1.crash (λ a b rests. record { moments = rests.moments; end = tt });
+    },
+  ))
+  ended-no_memory answer takes (inr (inr (inl more))) = absurd (false≢true (subst (λ (x : Answer). IsTrue (takes_memory x)) more.2 takes))
+  ended-no_memory answer takes (inr (inr (inr usage))) = absurd (false≢true (subst (λ (x : Answer). IsTrue (takes_memory x)) usage.1 takes))
+
+  -- the answer that is told says no more
+  pub ended-told : (answer told : Answer) → EndsCommand d salt words before after answer → IsTellable answer told → EndsCommand d salt words before after told
+  ended-told answer told ends (inl same) = subst (EndsCommand d salt words before after) (sym same) ends
+  ended-told answer told ends (inr short) = subst (EndsCommand d salt words before after) (sym short.0) (ended-no_memory answer short.1 ends)
+
+  -- a fact of the files however the update ended, and of files that stay
+  pub ended-however : (answer : Answer) {Q : Files → Files → Type 0} → EndsCommand d salt words before after answer →
+      ((f g : Files) → EndsAs salt answer f g → Q f g) → ((f : Files) → Q f f) → Leads Q (d.shown before) (d.shown after)
+  ended-however answer (inl update) changes stays = Leads-weaken update.1.files changes
+  ended-however answer (inr (inl dump)) changes stays = Leads-same dump.1.same stays
+  ended-however answer (inr (inr (inl more))) changes stays = Leads-same (ap d.shown more.3) stays
+  ended-however answer (inr (inr (inr usage))) changes stays = Leads-same (ap d.shown usage.2) stays
+
+  -- what the words ask for is what ended
+  pub ended-update : (answer : Answer) → AsksUpdate words → EndsCommand d salt words before after answer → EndsUpdate d salt before after answer
+  ended-update answer asks (inl update) = update.1
+  ended-update answer asks (inr (inl dump)) = absurd (update-no_dump words asks dump.0)
+  ended-update answer asks (inr (inr (inl more))) = absurd (more.1.0 asks)
+  ended-update answer asks (inr (inr (inr usage))) = absurd (usage.0 (Apply 4294967295) asks)
+
+  pub ended-dump : (answer : Answer) → AsksDump words → EndsCommand d salt words before after answer → EndsDump d before after answer
+  ended-dump answer asks (inl update) = absurd (update-no_dump words update.0 asks)
+  ended-dump answer asks (inr (inl dump)) = dump.1
+  ended-dump answer asks (inr (inr (inl more))) = absurd (more.1.1 asks)
+  ended-dump answer asks (inr (inr (inr usage))) = absurd (usage.0 DumpSchema asks)
+
+  pub ended-more : (answer : Answer) (needed : Part) → AsksMore words needed → EndsCommand d salt words before after answer → answer ≡ Ended (Refused (NotYet needed))
+  ended-more answer needed asks (inl update) = absurd (asks.0 update.0)
+  ended-more answer needed asks (inr (inl dump)) = absurd (asks.1 dump.0)
+  ended-more answer needed asks (inr (inr (inl more))) = more.2 ∙ ap (λ (part : Part). Ended (Refused (NotYet part))) (needed-one words more.0 needed more.1 asks)
+  ended-more answer needed asks (inr (inr (inr usage))) = absurd (usage.0 asks.2.0 asks.2.1)
+
+  pub ended-usage : (answer : Answer) → IsUsage words → EndsCommand d salt words before after answer → answer ≡ Usage
+  ended-usage answer asks (inl update) = absurd (asks (Apply 4294967295) update.0)
+  ended-usage answer asks (inr (inl dump)) = absurd (asks DumpSchema dump.0)
+  ended-usage answer asks (inr (inr (inl more))) = absurd (asks more.1.2.0 more.1.2.1)
+  ended-usage answer asks (inr (inr (inr usage))) = usage.1
+
+  pub ended-idle : (answer : Answer) → (¬ AsksUpdate words) → (¬ AsksDump words) → EndsCommand d salt words before after answer → after ≡ before
+  ended-idle answer other also (inl update) = absurd (other update.0)
+  ended-idle answer other also (inr (inl dump)) = absurd (also dump.0)
+  ended-idle answer other also (inr (inr (inl more))) = more.3
+  ended-idle answer other also (inr (inr (inr usage))) = usage.2
+
+  -- the answer of the words and the files
+  ended-answers : (answer : Answer) → EndsCommand d salt words before after answer → IsAnswer small_inserts IsSchemaDump words (d.shown before) (d.shown after) answer
+  ended-answers answer (inl update) = inl (update.0, update-answers salt (d.shown before) (d.shown after) answer update.1.of_update update.1.files)
+  ended-answers answer (inr (inl dump)) = inr (inl (dump.0, (dump.1.prints, dump.1.same)))
+  ended-answers answer (inr (inr (inl more))) = inr (inr (inl (more.0, more.1, more.2, ap d.shown more.3)))
+  ended-answers answer (inr (inr (inr usage))) = inr (inr (inr (usage.0, usage.1, ap d.shown usage.2)))
+
+  pub ended-owed : (answer : Answer) → EndsCommand d salt words before after answer → IsCounted d before after answer → IsOwed d words before after answer
+  ended-owed answer ends counted = record {
+    answers = ended-answers answer ends;
+    outcome = λ asks. Leads-weaken (ended-update answer asks ends).files (outcome-ends salt answer);
+    calls = counted;
+  }
+
+  ended-done : (answer : Answer) → EndsCommand d salt words before after answer → answer_status answer ≡ 0 →
+      (AsksUpdate words × Leads IsFinished (d.shown before) (d.shown after)) ⊎ AsksDump words
+  ended-done answer (inl update) zero = inl (update.0, Leads-weaken update.1.files (done-finished salt answer zero))
+  ended-done answer (inr (inl dump)) zero = inr dump.0
+  ended-done answer (inr (inr (inl more))) zero = absurd (let four : answer_status answer ≡ 4 = ap answer_status more.2 in omega (arith, zero, four))
+  ended-done answer (inr (inr (inr usage))) zero = absurd (let two : answer_status answer ≡ 2 = ap answer_status usage.1 in omega (arith, zero, two))
+
+  ended-constraint : (answer : Answer) → EndsCommand d salt words before after answer → answer_status answer ≡ 3 → AsksUpdate words × Leads KeepsOnFault (d.shown before) (d.shown after)
+  ended-constraint answer (inl update) three = (update.0, Leads-weaken update.1.files (constraint-keeps salt answer three))
+  ended-constraint answer (inr (inl dump)) three = absurd (dump-no_constraint (d.shown before) answer dump.1.prints three)
+  ended-constraint answer (inr (inr (inl more))) three = absurd (let four : answer_status answer ≡ 4 = ap answer_status more.2 in omega (arith, three, four))
+  ended-constraint answer (inr (inr (inr usage))) three = absurd (let two : answer_status answer ≡ 2 = ap answer_status usage.1 in omega (arith, three, two))
+
+  ended-refused : (answer : Answer) → EndsCommand d salt words before after answer → answer_status answer ≡ 4 →
+      (AsksUpdate words × Leads KeepsOnRefusal (d.shown before) (d.shown after)) ⊎ (AsksDump words ⊎ ((needed : Part) × AsksMore words needed))
+  ended-refused answer (inl update) four = inl (update.0, Leads-weaken update.1.files (refused-keeps salt answer four))
+  ended-refused answer (inr (inl dump)) four = inr (inl dump.0)
+  ended-refused answer (inr (inr (inl more))) four = inr (inr (more.0, more.1))
+  ended-refused answer (inr (inr (inr usage))) four = absurd (let two : answer_status answer ≡ 2 = ap answer_status usage.1 in omega (arith, four, two))
+
+  ended-with_usage : (answer : Answer) → EndsCommand d salt words before after answer → answer_status answer ≡ 2 → IsUsage words
+  ended-with_usage answer (inl update) two = absurd (update-no_usage answer update.1.of_update two)
+  ended-with_usage answer (inr (inl dump)) two = absurd (dump-no_usage (d.shown before) answer dump.1.prints two)
+  ended-with_usage answer (inr (inr (inl more))) two = absurd (let four : answer_status answer ≡ 4 = ap answer_status more.2 in omega (arith, two, four))
+  ended-with_usage answer (inr (inr (inr usage))) two = usage.0
+
+  -- and told by a status and an output
+  module _ {O : Type 0} {o : sink.Ghosts O} (x y : O) (status : ℕ) where
+    module _ (answer : Answer) (ends : EndsCommand d salt words before after answer) (told : IsTold o answer x y status) where
+      pub told-done : status ≡ 0 → (AsksUpdate words × Leads IsFinished (d.shown before) (d.shown after)) ⊎ AsksDump words
+      told-done = told-at_status x y status answer 0 (λ e. omega (arith, e)) told (ended-done answer ends)
+
+      pub told-constraint : status ≡ 3 → AsksUpdate words × Leads KeepsOnFault (d.shown before) (d.shown after)
+      told-constraint = told-at_status x y status answer 3 (λ e. omega (arith, e)) told (ended-constraint answer ends)
+
+      pub told-refused : status ≡ 4 → (AsksUpdate words × Leads KeepsOnRefusal (d.shown before) (d.shown after)) ⊎ (AsksDump words ⊎ ((needed : Part) × AsksMore words needed))
+      told-refused = told-at_status x y status answer 4 (λ e. omega (arith, e)) told (ended-refused answer ends)
+
+      pub told-memory : status ≡ 7 → Leads (λ f g. g ≡ f) (d.shown before) (d.shown after)
+      told-memory = told-at_status x y status answer 7 (λ e. omega (arith, e)) told (λ seven. ended-however answer ends (no_memory-keeps salt answer seven) (λ f. refl))
+
+      pub told-usage : status ≡ 2 → IsUsage words
+      told-usage = told-at_status x y status answer 2 (λ e. omega (arith, e)) told (ended-with_usage answer ends)
+
+      pub told-not_built : (needed : Part) → AsksMore words needed → IsTold o (Ended (Refused (NotYet needed))) x y status
+      told-not_built needed asks = subst (λ (a : Answer). IsTold o a x y status) (ended-more answer needed asks ends) told
+
+      pub told-usage_only : IsUsage words → (status ≡ 2) ⊎ (status ≡ 8)
+      told-usage_only asks = by (subst (λ (a : Answer). IsTold o a x y status) (ended-usage answer asks ends) told)
+        where
+          by : IsTold o Usage x y status → (status ≡ 2) ⊎ (status ≡ 8)
+          by (inl line) = inl line.0
+          by (inr failed) = inr failed.0
+
+      -- the status is that of the files' outcome unless the call was halted
+      pub told-complete : AsksUpdate words → Leads (λ f _. HasStatusOf status f) (d.shown before) (d.shown after)
+      told-complete asks = Leads-weaken (ended-update answer asks ends).files (λ f g changes outcome has. by outcome (outcome-ends salt answer f g changes outcome has) told)
+        where
+          by : (outcome : Outcome) → IsOutcome outcome answer → IsTold o answer x y status → (status ≡ outcome_status outcome) ⊎ IsHalted status
+          by outcome is (inl line) = status-of_outcome answer outcome status is line.0
+          by outcome is (inr failed) = inr (omega (arith, failed.0), omega (arith, failed.0))
+
+    -- what a dump came to
+    dump-tells : (answer : Answer) → EndsDump d before after answer → IsTold o answer x y status → TellsDump d o before after x y status
+    dump-tells answer ends (inr failed) = inr (inr (dump-halts status ends.same (omega (arith, failed.0)) (omega (arith, failed.0))))
+    dump-tells Usage ends (inl line) = absurd ends.prints
+    dump-tells (Ended Done) ends (inl line) = absurd ends.prints
+    dump-tells (Ended (KeyPresent table id)) ends (inl line) = absurd ends.prints
+    dump-tells (Ended (Refused refusal)) ends (inl line) = inr (inl (refusal, line.0, dump-reads (Err refusal) ends.same ends.prints, line.1))
+    dump-tells (Printed text) ends (inl line) = inl (text, line.0, dump-reads (Ok text) ends.same ends.prints, line.1)
+    dump-tells (Fault file call) ends (inl line) = inr (inr (dump-halts status ends.same (omega (arith, line.0)) (omega (arith, line.0))))
+    dump-tells NoMemory ends (inl line) = inr (inr (dump-halts status ends.same (omega (arith, line.0)) (omega (arith, line.0))))
+
+    pub told-dump : (answer : Answer) → EndsCommand d salt words before after answer → IsTold o answer x y status → AsksDump words → TellsDump d o before after x y status
+    told-dump answer ends told asks = dump-tells answer (ended-dump answer asks ends) told
+
+    -- status 6 names the last call on the disk that failed
+    fault-tells : (answer : Answer) → EndsCommand d salt words before after answer → IsCounted d before after answer → IsTold o answer x y status →
+        answer_status answer ≡ 6 → TellsFault d o before after x y status
+    fault-tells Usage ends counted told six = absurd (omega (arith, six))
+    fault-tells (Ended Done) ends counted told six = absurd (omega (arith, six))
+    fault-tells (Ended (KeyPresent table id)) ends counted told six = absurd (omega (arith, six))
+    fault-tells (Ended (Refused refusal)) ends counted told six = absurd (omega (arith, six))
+    fault-tells (Printed text) ends counted told six = absurd (omega (arith, six))
+    fault-tells (Fault file call) ends counted told six = (file, call, counted.cause, ended-however (Fault file call) ends (fault-ends salt file call) (λ f. inl refl), told)
+    fault-tells NoMemory ends counted told six = absurd (omega (arith, six))
+
+    pub told-fault : (answer : Answer) → EndsCommand d salt words before after answer → IsCounted d before after answer → IsTold o answer x y status →
+        status ≡ 6 → TellsFault d o before after x y status
+    told-fault answer ends counted told = told-at_status x y status answer 6 (λ e. omega (arith, e)) told (fault-tells answer ends counted told)
+
+    -- no other status passes over a call that failed
+    pub told-counts_calls : (answer : Answer) → IsCounted d before after answer → IsTold o answer x y status → CountsCalls d before after status
+    told-counts_calls answer counted (inr failed) = record { later = counted.later; none = λ six eight. absurd (eight failed.0) }
+    told-counts_calls Usage counted (inl line) = record { later = counted.later; none = λ six eight. counted.cause }
+    told-counts_calls (Ended outcome) counted (inl line) = record { later = counted.later; none = λ six eight. counted.cause }
+    told-counts_calls (Printed text) counted (inl line) = record { later = counted.later; none = λ six eight. counted.cause }
+    told-counts_calls (Fault file call) counted (inl line) = record { later = counted.later; none = λ six eight. absurd (six line.0) }
+    told-counts_calls NoMemory counted (inl line) = record { later = counted.later; none = λ six eight. counted.cause }

@@ -1,5 +1,5 @@
 -- Parts that are written one after the other.
-use Rattle.std.proofs.Common.{◌≡◌, ℕ, ◌+◌, ◌<◌, ◌≤◌, List, [], ◌∷◌, ◌++◌, length, get_or, take, drop, Result, Ok, Err, OnOk, OnErr, sym, ap, ◌∙◌, arith, append-nil, length-append}
+use Rattle.std.proofs.Common.{◌≡◌, ℕ, ◌+◌, ◌<◌, ◌≤◌, List, [], ◌∷◌, ◌++◌, length, get_or, take, drop, Result, Ok, Err, IsErrAnd, OnOk, OnErr, sym, ap, ◌∙◌, arith, append-nil, length-append}
 use Rattle.std.specs.List.{flat_map}
 use Rattle.std.proofs.lemmas.List.{take_more, take-append-drop}
 use Rattle.std.proofs.lemmas.List.Concat.{flat_map-append}
@@ -23,6 +23,11 @@ on-err (Err e) p = p
 pub on-ok : {X E : Type 0} {P : Type 0} (r : Result X E) → P → OnOk r P
 on-ok (Ok x) p = p
 on-ok (Err e) p = tt
+
+-- nothing is owed of a result that is an error
+pub on_ok-err : {X E : Type 0} (P : Type 0) (Q : E → Type 0) (r : Result X E) → IsErrAnd r Q → OnOk r P
+on_ok-err P Q (Ok x) h = absurd h
+on_ok-err P Q (Err e) h = tt
 
 -- the parts of a log are short
 pub length-five_parts : (a b c d e : List ℕ) → length a ≡ 32 → length b ≡ 24 → length c ≡ 4096 → length d ≡ 24 → length e ≡ 4096 →

@@ -5,7 +5,7 @@ use Rattle.common_spec.specs.ToldLaws.{Leads-here, Leads-then, Leads-weaken, Lea
 use Rattle.file_spec.specs.declared.FileName.TheVariants.{Target}
 use Rattle.file_spec.specs.declared.DiskCall.TheVariants.{SyncFolder}
 use Rattle.file_spec.specs.Files.{Files}
-use Rattle.file_spec.specs.Records.{Record, Names, Every, shown_files}
+use Rattle.file_spec.specs.Records.{Record, Names, IsImage, Every, shown_files}
 use Rattle.file_spec.specs.RecordsLaws.{settled-names}
 use Rattle.file_spec.specs.Trails.{Trail, Passes}
 use Rattle.file_spec.specs.TrailsLaws.{Passes-none, Passes-then, Passes-weaken, Adds-passes, FailsStill-passes}
@@ -21,7 +21,7 @@ use Rattle.small_spec.specs.SmallUpdate.{AreNewBytes, small_inserts}
 use Rattle.small_spec.specs.SmallLaws.{view-small, sees_new-bytes}
 use Rattle.rbu_run.specs.declared.halt.Halt.{Halt}
 use Rattle.rbu_run.specs.Handover.{IsAlone}
-use Rattle.rbu_run.specs.Crash.{HasFirmNames, IsImageMidway, CrashesMidway, MomentsShow, IsStableEnd, Survives}
+use Rattle.rbu_run.specs.Crash.{HasFirmNames, IsImageMidway, CrashesMidway, MomentsShow, IsStableEnd, Survives, Rests}
 use Rattle.rbu_run.proofs.Endings.{view-logged}
 
 -- each image of a handover shows the old database or the new one
@@ -116,3 +116,21 @@ module _ (salt : ℕ × ℕ) (bytes : List ℕ) (words : AreWords salt) (Known :
 pub decided-survives : (IsEnd : Record → Type 0) (Known : Files → Type 0) {x : Option Trail} → ((r : Record) → HasFirmNames r → IsEnd r) →
     Leads (λ a b. HasFirmNames a.now.at → Known (shown_files a.now.at) → Survives IsEnd a b) x x
 decided-survives IsEnd Known ends = Leads-here (λ a firm known. Survives-unchanged IsEnd a (ends a.now.at firm))
+
+-- a command that only reads: what its moments leave shows the old database, and its folder's sync leaves no more than before
+pub rests-shows : (a b : Trail) → Passes (Every (IsImage a.now.at)) a b → MomentsShow a b
+rests-shows a b passes keeps =
+    Passes-weaken (Every (IsImage a.now.at)) (Every (SeesOldOrNew small_inserts (shown_files a.now.at))) a b (λ r each left image. inl (keeps left (each left image))) passes
+
+pub settled-rests : (IsEnd : Record → Type 0) {x y : Option Trail} → ((r : Record) → IsEnd (folder_synced r)) → Leads AfterFolderSync x y → Leads (Rests IsEnd) x y
+settled-rests IsEnd ends folder = Leads-weaken folder (λ a b adds. record {
+  moments = Adds-passes Target SyncFolder (λ r q. q ≡ folder_synced r) (Every (IsImage a.now.at)) a b
+      (λ r step. subst (Every (IsImage a.now.at)) (sym step) (λ left image. settled-fewer a.now.at left image)) adds;
+  end = subst IsEnd (sym (AfterFolderSync-now a b adds)) (ends a.now.at);
+})
+
+pub failed-rests : (IsEnd : Record → Type 0) {x y : Option Trail} → ((r : Record) → IsEnd r) → Leads AfterFailedFolderSync x y → Leads (Rests IsEnd) x y
+failed-rests IsEnd ends failed = Leads-weaken failed (λ a b fails. record {
+  moments = FailsStill-passes Target SyncFolder (Every (IsImage a.now.at)) a b (λ left image. image) fails;
+  end = ends b.now.at;
+})

@@ -41,7 +41,7 @@ IsStableAfter Done r = HasShownNames r × HasShownFile Target r
 IsStableAfter (KeyPresent table data_rowid) r = HasShownNames r
 IsStableAfter (Refused refusal) r = HasShownNames r
 
--- the same of a result, and of an answer; behind a halt nothing is said, and an update prints no lines
+-- the same of a result, and of an answer; behind a halt nothing is said
 abbrev pub IsStableEnd : Result Outcome Halt → Record → Type 0
 IsStableEnd (Ok outcome) r = IsStableAfter outcome r
 IsStableEnd (Err halt) r = Unit {0}
@@ -49,11 +49,16 @@ IsStableEnd (Err halt) r = Unit {0}
 abbrev pub IsStableAnswer : Answer → Record → Type 0
 IsStableAnswer answer.Usage r = Unit {0}
 IsStableAnswer (answer.Ended outcome) r = IsStableAfter outcome r
-IsStableAnswer (answer.Printed text) r = ⊥
+IsStableAnswer (answer.Printed text) r = HasShownNames r
 IsStableAnswer (answer.Fault file call) r = Unit {0}
 IsStableAnswer answer.NoMemory r = Unit {0}
 
 -- How the update ended for a crash: each moment that came leaves the old database or the new one, and what the end says of it is stable.
 pub record Survives (IsEnd : Record → Type 0) (a b : Trail) : Type 0 where
   pub moments : MomentsShow a b
+  pub end : IsEnd b.now.at
+
+-- How a command that only reads ended for a crash: each moment that came leaves what could be left at the start, and what the end says of it is stable.
+pub record Rests (IsEnd : Record → Type 0) (a b : Trail) : Type 0 where
+  pub moments : Passes (Every (IsImage a.now.at)) a b
   pub end : IsEnd b.now.at

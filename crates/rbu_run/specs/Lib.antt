@@ -6,6 +6,7 @@ pub mod Phases
 pub mod Crash
 pub mod Status
 pub mod Told
+pub mod Commands
 pub use Rattle.rbu_disk.specs.Call
 pub use Rattle.rbu_disk.specs.Disk
 pub use Rattle.rbu_disk.specs.Sink

@@ -1,6 +1,7 @@
 -- What each status of a command says.
-use Rattle.std.specs.Prelude.{◌≡◌, ◌≢◌, ◌≤◌, ◌⊎◌, ℕ, ℤ, List, Option, Some, None}
+use Rattle.std.specs.Prelude.{◌≡◌, ◌≢◌, ◌≤◌, ◌⊎◌, ℕ, ℤ, List, Option, Some, None, Ok, Err}
 use Rattle.common_spec.specs.Counts.{Rises}
+use Rattle.common_spec.specs.Reading.{Reads}
 use Rattle.file_spec.specs.Files.{Files}
 use Rattle.file_spec.specs.declared.FileName.{FileName}
 use Rattle.file_spec.specs.declared.DiskCall.{DiskCall}
@@ -9,18 +10,18 @@ use Rattle.rbu_disk.specs.declared.disk.DiskFault.{DiskFault}
 use Rattle.rbu_disk.specs.declared.sink.Sink as sink
 use Rattle.rbu_disk.specs.Call.{Fails}
 use Rattle.rbu_disk.specs.Disk.{Goes, IsCause}
-use Rattle.refusal.specs.declared.Part.TheVariants as part
+use Rattle.rbu_disk.specs.Sink.{Took}
 use Rattle.refusal.specs.declared.Refusal.{Refusal}
-use Rattle.refusal.specs.declared.Refusal.TheVariants.{NotYet}
 use Rattle.update_spec.specs.declared.Outcome.{Outcome}
 use Rattle.update_spec.specs.declared.Outcome.TheVariants.{KeyPresent, Refused}
 use Rattle.update_spec.specs.declared.Answer.{Answer}
 use Rattle.update_spec.specs.declared.Answer.TheVariants.{Usage, Ended, Printed, Fault, NoMemory}
 use Rattle.update_spec.specs.Answer.{IsAnswer}
 use Rattle.update_spec.specs.Update.{AfterFault}
-use Rattle.update_spec.specs.Words.{AsksUpdate, AsksMore, IsUsage}
-use Rattle.update_spec.specs.Text.{outcome_status}
+use Rattle.update_spec.specs.Words.{AsksUpdate}
+use Rattle.update_spec.specs.Text.{outcome_status, answer_text}
 use Rattle.small_spec.specs.SmallUpdate.{HasOutcome, small_inserts}
+use Rattle.dump_spec.specs.SchemaDumps.{IsSchemaDump}
 use Rattle.rbu_run.specs.Told.{IsTold}
 
 -- the program ends with 0, 2, 3, 4, 6, 7 or 8
@@ -74,7 +75,7 @@ pub record IsCounted {D : Type 0} (d : disk.Ghosts D) (before after : D) (answer
 
 -- The answer is owed to these words: it is theirs over the files, it is the outcome of the files, and a fault has its cause.
 pub record IsOwed {D : Type 0} (d : disk.Ghosts D) (words : List (List ℕ)) (before after : D) (answer : Answer) : Type 0 where
-  pub answers : IsAnswer small_inserts words (d.shown before) (d.shown after) answer
+  pub answers : IsAnswer small_inserts IsSchemaDump words (d.shown before) (d.shown after) answer
   pub outcome : AsksUpdate words → Goes d before after (λ f _. IsOutcomeOf answer f)
   pub calls : IsCounted d before after answer
 
@@ -83,12 +84,6 @@ abbrev pub IsOfUpdate : Answer → Type 0
 IsOfUpdate Usage = ⊥
 IsOfUpdate (Printed text) = ⊥
 IsOfUpdate other = Unit {0}
-
--- which answers the words may have, whatever the files are
-abbrev pub IsOfWords : List (List ℕ) → Answer → Type 0
-IsOfWords words answer =
-    (AsksUpdate words × IsOfUpdate answer)
-    ⊎ ((AsksMore words × (answer ≡ Ended (Refused (NotYet part.Words)))) ⊎ (IsUsage words × (answer ≡ Usage)))
 
 -- the answer that is owed is told by the status and the output
 abbrev pub Tells : {D O : Type 0} → disk.Ghosts D → sink.Ghosts O → List (List ℕ) → D → D → O → O → ℕ → Type 0
@@ -100,6 +95,13 @@ abbrev pub TellsFault : {D O : Type 0} → disk.Ghosts D → sink.Ghosts O → D
 TellsFault d o before after out_before out_after status =
     (file : FileName) × (call : DiskCall) × Fails (d.failures before) (d.failures after) (record { file = file; call = call })
     × Goes d before after (AfterFault small_inserts call) × IsTold o (Fault file call) out_before out_after status
+
+-- What a dump came to: the lines that are the only answer of the files were written, or the line of the refusal that is, or it was halted. No file changed.
+abbrev pub TellsDump : {D O : Type 0} → disk.Ghosts D → sink.Ghosts O → D → D → O → O → ℕ → Type 0
+TellsDump d o before after out_before out_after status =
+    ((text : List ℕ) × (status ≡ 0) × Goes d before after (λ f g. (g ≡ f) × Reads (IsSchemaDump f) (Ok text)) × Took o out_before out_after text)
+    ⊎ (((refusal : Refusal) × (status ≡ 4) × Goes d before after (λ f g. (g ≡ f) × Reads (IsSchemaDump f) (Err refusal)) × Took o out_before out_after (answer_text (Ended (Refused refusal))))
+    ⊎ (IsHalted status × Goes d before after (λ f g. g ≡ f)))
 
 -- A call on the disk failed only where the status is 6 or 8, and the count of those that did never falls.
 pub record CountsCalls {D : Type 0} (d : disk.Ghosts D) (before after : D) (status : ℕ) : Type 0 where

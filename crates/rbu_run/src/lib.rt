@@ -5,12 +5,14 @@
 //! this crate's `specs/` by:
 //!
 //! - `Status`: what each status of a command says;
+//! - `Commands`: how a command ended, by what its words ask for;
 //! - `Told`: how an answer is told by the status and the output;
 //! - `Phases`, `Crash`: what a crash may leave in each phase of the handover, and however the update ended;
 //! - `Inspection`, `Handover`, `Halt`: what is known of the files, how new pages reach the target, and what ends a call
 //!   before its outcome.
 #![tactic(auto)]
 
+mod dump;
 mod files;
 mod halt;
 mod handover;

@@ -2,17 +2,26 @@
 ghost use Rattle.std.specs.Prelude.{◌≡◌, ◌≢◌, ◌⊎◌, ◌↔◌, map, string_bytes, IsTrue};
 ghost use Rattle.rbu_disk.specs.Disk.{AllowsAll, Goes, GoesOn, HasNow};
 ghost use Rattle.format_spec.specs.Log.{pair_of};
-ghost use Rattle.update_spec.specs.declared.Command.TheVariants.{Apply};
+ghost use Rattle.refusal.specs.declared.Part.{Part};
+ghost use Rattle.refusal.specs.declared.Refusal.TheVariants.{NotYet};
+ghost use Rattle.update_spec.specs.declared.Answer.TheVariants.{Ended};
+ghost use Rattle.update_spec.specs.declared.Command.TheVariants.{Apply, DumpSchema};
+ghost use Rattle.update_spec.specs.declared.Outcome.TheVariants.{Refused};
 ghost use Rattle.file_spec.specs.declared.FileName.TheVariants.{Target};
+ghost use Rattle.update_spec.specs.Answer.{IsPrinted};
 ghost use Rattle.update_spec.specs.Update.{SeesOldOrNew};
-ghost use Rattle.update_spec.specs.Crashes.{HasShownFile, HasShownNames, LeavesOldOrNew};
-ghost use Rattle.update_spec.specs.Words.{IsUsage, AsksUpdate, AsksMore};
+ghost use Rattle.update_spec.specs.Crashes.{HasShownFile, HasShownNames, LeavesNoMore, LeavesOldOrNew};
+ghost use Rattle.update_spec.specs.Words.{IsUsage, AsksUpdate, AsksDump, AsksMore, part_of as part_needed};
 ghost use Rattle.small_spec.specs.SmallUpdate.{IsFinished, small_inserts};
-ghost use Rattle.rbu_run.specs.Crash.{IsStableAnswer, Survives};
+ghost use Rattle.dump_spec.specs.SchemaDumps.{IsSchemaDump};
+ghost use Rattle.rbu_run.specs.Commands.{EndsCommand};
+ghost use Rattle.rbu_run.specs.Crash.{IsStableAnswer, Rests, Survives};
 ghost use Rattle.rbu_run.specs.Ending.{EndsAs};
 ghost use Rattle.rbu_run.specs.Handover.{KeepsOthers, LeavesLog};
-ghost use Rattle.rbu_run.specs.Status.{HasEnded, Tells, TellsFault, KeepsOnFault, KeepsOnRefusal, HasStatusOf, IsStatus, IsOfUpdate, IsOfWords, IsCounted, CountsCalls, CountsWrites};
+ghost use Rattle.rbu_run.specs.Status.{HasEnded, Tells, TellsDump, TellsFault, KeepsOnFault, KeepsOnRefusal, HasStatusOf, IsStatus, IsOfUpdate, IsCounted, CountsCalls, CountsWrites};
+ghost use Rattle.rbu_run.specs.Told.{IsTold};
 
+use crate::dump::dump;
 use crate::halt::Halt;
 use crate::text::write_text;
 use crate::update::{not_yet, update};
@@ -21,7 +30,7 @@ use answer_lines::tellable;
 use rbu_disk::{Disk, Sink};
 use refusal::Part;
 use std::alloc::Global;
-use update_spec::{Answer, Command};
+use update_spec::{Answer, Command, Outcome};
 
 /// What a command leaves: the disk that it was given, and the status with which the program ends.
 #[derive(Drop)]
@@ -48,7 +57,28 @@ fn update_answer<D: Disk>(alloc: Global, salt: [u32; 2], disk: &mut D) -> Answer
     }
 }
 
-/// Whether the command is the update in one call, the only one that is built.
+/// The answer of the dump.
+fn dump_answer<D: Disk>(alloc: Global, disk: &mut D) -> Answer
+    requires allowed { AllowsAll D.Disk disk.old }
+    ensures prints { IsPrinted IsSchemaDump (D.shown disk.old) result }
+    ensures same { D.shown disk.new ≡ D.shown disk.old }
+    ensures crash { GoesOn D.Disk disk.old disk.new (Rests (IsStableAnswer result)) }
+    ensures calls { IsCounted D.Disk disk.old disk.new result }
+{
+    match dump(alloc, disk) {
+        Ok(Ok(text)) => Answer::Printed { text },
+        Ok(Err(refusal)) => Answer::Ended {
+            outcome: Outcome::Refused { refusal },
+        },
+        Err(Halt::Fault(fault)) => Answer::Fault {
+            file: fault.file,
+            call: fault.call,
+        },
+        Err(Halt::Memory) => Answer::NoMemory,
+    }
+}
+
+/// Whether the command is the update in one call.
 fn is_whole_update(command: &Command) -> bool
     ensures { IsTrue result ↔ (command.now ≡ Apply 4294967295) }
 {
@@ -58,31 +88,52 @@ fn is_whole_update(command: &Command) -> bool
     }
 }
 
-/// The answer of the command that the words ask for. Words that ask for no update make no call on the disk.
+/// Whether the command is the dump of the schema.
+fn is_schema_dump(command: &Command) -> bool
+    ensures { IsTrue result ↔ (command.now ≡ DumpSchema) }
+{
+    match command {
+        Command::DumpSchema => true,
+        _ => false,
+    }
+}
+
+/// The part that a command needs, where it is not built.
+fn part_of(command: &Command) -> Part
+    ensures { result ≡ part_needed command.now }
+{
+    match command {
+        Command::DumpTable => Part::Name,
+        _ => Part::Words,
+    }
+}
+
+/// The answer of the command that the words ask for. Words that ask for nothing that is built make no call on the disk.
 fn answer_of<D: Disk>(alloc: Global, words: &[String], salt: [u32; 2], disk: &mut D) -> Answer
     requires allowed { AllowsAll D.Disk disk.old }
-    ensures words { IsOfWords (map string_bytes words.now) result }
-    ensures files { AsksUpdate (map string_bytes words.now) → Goes D.Disk disk.old disk.new (EndsAs (pair_of salt) result) }
-    ensures crash { AsksUpdate (map string_bytes words.now) → GoesOn D.Disk disk.old disk.new (Survives (IsStableAnswer result)) }
-    ensures idle { (¬ AsksUpdate (map string_bytes words.now)) → disk.new ≡ disk.old }
+    ensures ends { EndsCommand D.Disk (pair_of salt) (map string_bytes words.now) disk.old disk.new result }
     ensures calls { IsCounted D.Disk disk.old disk.new result }
 {
     let Some(command) = command_of(words) else {
         return Answer::Usage;
     };
-    if !is_whole_update(&command) {
-        return Answer::Ended {
-            outcome: not_yet(Part::Words),
-        };
+    if is_whole_update(&command) {
+        return update_answer(alloc, salt, disk);
     }
-    update_answer(alloc, salt, disk)
+    if is_schema_dump(&command) {
+        return dump_answer(alloc, disk);
+    }
+    Answer::Ended {
+        outcome: not_yet(part_of(&command)),
+    }
 }
 
-/// Runs a command, and writes its line at once.
+/// Runs a command, and writes its lines at once.
 ///
 /// `words` are the command and its arguments, `salt` goes into the log's header. The status is 0 where the update is
-/// done, 2 where no command has the words, 3 at a constraint fault, 4 at a refusal, 6 where the disk failed, 7 where
-/// memory ran out, and 8 where the output failed. The disk is handed back whatever the status is.
+/// done or the lines of a dump are written, 2 where no command has the words, 3 at a constraint fault, 4 at a refusal,
+/// 6 where the disk failed, 7 where memory ran out, and 8 where the output failed. The disk is handed back whatever the
+/// status is.
 pub fn run_command<D: Disk, O: Sink>(
     alloc: Global,
     words: &[String],
@@ -99,9 +150,10 @@ pub fn run_command<D: Disk, O: Sink>(
     ensures images { GoesOn D.Disk disk result.disk (LeavesOldOrNew small_inserts) }
 
     // Where the update came to its outcome no crash takes it back: each image has the names that are shown, and the
-    // target where the update is done.
-    ensures names { AsksUpdate (map string_bytes words.now) → HasEnded result.status → HasNow D.Disk result.disk HasShownNames }
-    ensures target { result.status ≡ 0 → HasNow D.Disk result.disk (HasShownFile Target) }
+    // target where the update is done. Behind the answer of a dump the names are stable too.
+    ensures names { AsksUpdate (map string_bytes words.now) ⊎ AsksDump (map string_bytes words.now) → HasEnded result.status →
+        HasNow D.Disk result.disk HasShownNames }
+    ensures target { AsksUpdate (map string_bytes words.now) → result.status ≡ 0 → HasNow D.Disk result.disk (HasShownFile Target) }
 
     // Nor is any other file than the target and its two logs changed.
     ensures others { Goes D.Disk disk result.disk KeepsOthers }
@@ -110,22 +162,28 @@ pub fn run_command<D: Disk, O: Sink>(
     ensures log { Goes D.Disk disk result.disk (LeavesLog (pair_of salt)) }
 
     // An update that ends has put every prepared row into the target, and neither log exists.
-    ensures finished { result.status ≡ 0 → AsksUpdate (map string_bytes words.now) × Goes D.Disk disk result.disk IsFinished }
+    ensures finished { result.status ≡ 0 → (AsksUpdate (map string_bytes words.now) × Goes D.Disk disk result.disk IsFinished)
+        ⊎ AsksDump (map string_bytes words.now) }
     ensures constraint { result.status ≡ 3 → AsksUpdate (map string_bytes words.now) × Goes D.Disk disk result.disk KeepsOnFault }
-    ensures refused { result.status ≡ 4 → AsksMore (map string_bytes words.now)
-        ⊎ (AsksUpdate (map string_bytes words.now) × Goes D.Disk disk result.disk KeepsOnRefusal) }
+    ensures refused { result.status ≡ 4 → (AsksUpdate (map string_bytes words.now) × Goes D.Disk disk result.disk KeepsOnRefusal)
+        ⊎ (AsksDump (map string_bytes words.now) ⊎ ((needed : Part) × AsksMore (map string_bytes words.now) needed)) }
     ensures memory { result.status ≡ 7 → Goes D.Disk disk result.disk (λ f g. g ≡ f) }
+
+    // A dump writes the lines of the schema's table in the files shown, or the line of their first refusal, exactly, unless a
+    // device failed or memory ran out. It changes no file, and a crash at any moment of it leaves no more than one before.
+    ensures dumped { AsksDump (map string_bytes words.now) → TellsDump D.Disk O.Sink disk result.disk out.old out.new result.status }
+    ensures kept { AsksDump (map string_bytes words.now) → GoesOn D.Disk disk result.disk LeavesNoMore }
 
     // The outcome of the files is the answer, exactly, unless a device failed or memory ran out.
     ensures complete { AsksUpdate (map string_bytes words.now) → Goes D.Disk disk result.disk (λ f _. HasStatusOf result.status f) }
-    ensures not_built { AsksMore (map string_bytes words.now) → (result.status ≡ 4) ⊎ (result.status ≡ 8) }
+    ensures not_built { (needed : Part) → AsksMore (map string_bytes words.now) needed → IsTold O.Sink (Ended (Refused (NotYet needed))) out.old out.new result.status }
     ensures usage { result.status ≡ 2 → IsUsage (map string_bytes words.now) }
     ensures usage_only { IsUsage (map string_bytes words.now) → (result.status ≡ 2) ⊎ (result.status ≡ 8) }
-    ensures idle { (¬ AsksUpdate (map string_bytes words.now)) → result.disk ≡ disk }
+    ensures idle { (¬ AsksUpdate (map string_bytes words.now)) → (¬ AsksDump (map string_bytes words.now)) → result.disk ≡ disk }
 
     ensures status { IsStatus result.status }
 
-    // The output has the one line of the answer that is owed, or a prefix of it where the output failed.
+    // The output has the text of the answer that is owed, or a prefix of it where the output failed.
     ensures told { Tells D.Disk O.Sink (map string_bytes words.now) disk result.disk out.old out.new result.status }
 
     // Status 6 names the last call on the disk that failed, and the files are as before unless the update was due.

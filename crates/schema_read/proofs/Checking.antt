@@ -1,11 +1,10 @@
 -- Members one after the other, up to the first that has a fault.
-use Rattle.std.proofs.Common.{◌≡◌, ℕ, suc, ◌+◌, ◌<◌, ◌≤◌, ◌-◌, ◌&&◌, ◌||◌, Bool, true, false, IsFalse, IsTrue, List, [], ◌∷◌, ◌++◌, length, map, filter, take, drop, get_or, Option, Some, None, Result, Ok, Err, Vec, Global, refl, sym, ap, ◌∙◌, subst, inl, inr, arith, length-append, append_assoc, append-nil}
+use Rattle.std.proofs.Common.{◌≡◌, ℕ, ◌+◌, ◌<◌, ◌≤◌, ◌-◌, ◌&&◌, ◌||◌, Bool, true, false, List, [], ◌∷◌, ◌++◌, length, map, filter, take, drop, get_or, Option, Some, None, Result, Ok, Err, Vec, Global, refl, sym, ap, ◌∙◌, subst, inl, inr, arith, length-append, append_assoc, append-nil}
 use Rattle.std.proofs.Math.Path.{subst⁻¹}
 use Rattle.std.specs.Prelude.{filter_map, if◌then◌else◌, option_to_list}
 use Rattle.std.specs.List.{AllByRecursion, AllZip}
 use Rattle.std.proofs.lemmas.List.{map-append}
 use Rattle.std.proofs.lemmas.List.Elements.{filter_map-append}
-use Rattle.tree_spec.specs.Trees.{Member}
 use Rattle.tree_spec.specs.Standing.{Paged, Sizes}
 use Rattle.database_spec.specs.declared.catalog.SchemaRow.{SchemaRow}
 use Rattle.database_spec.specs.declared.fault.FileFault.{FileFault}
@@ -13,13 +12,13 @@ use Rattle.database_spec.specs.declared.fault.FileFault.TheVariants as fault
 use Rattle.database_spec.specs.Catalogs.{is_index, is_table}
 use Rattle.database_spec.specs.RightRows.{has_name, repeats_name, rows_of, IsRight, IsFaultless, AreFaultless, RowHasFault, FirstRowFault}
 use Rattle.schema_read.specs.Found.{IsMeant, found_rows, repeats_in, rows_in}
-use Rattle.schema_read.specs.Checks.{ChecksAll, ChecksRow, IsBasis, IsDuplicate, IsJudged, IsPlaced, IsRefusal, JudgesRow, PlacesFound, member_at}
+use Rattle.schema_read.specs.Checks.{ChecksAll, ChecksRow, IsBasis, IsDuplicate, IsJudged, IsPlaced, IsRefusal, PlacesFound, member_at}
 use Rattle.schema_read.specs.declared.check.Basis.{Basis}
 use Rattle.schema_read.specs.declared.check.Placed.{Placed}
 use Rattle.schema_read.specs.declared.check.RowFault.{RowFault}
 use Rattle.schema_read.specs.declared.check.RowFault.TheVariants.{SchemaRow as SchemaRowFault, DuplicateName, Memory}
 use Rattle.schema_read.specs.declared.found.Found.{Found}
-use Rattle.schema_read.proofs.Members.{any-rows, uncons}
+use Rattle.schema_read.proofs.MemberLists.{any-rows, uncons}
 
 pub repeats-rows : (before : List Found) (row : SchemaRow) → repeats_in before row ≡ repeats_name (rows_in before) (Some row)
 repeats-rows before row = ap (λ (b : Bool). (is_table row || is_index row) && b) (any-rows (has_name row.name) before)

@@ -1,5 +1,5 @@
 -- What is known of each of some members without a fault.
-use Rattle.std.proofs.Common.{◌≡◌, ℕ, ◌≤◌, ◌==◌, ◌||◌, Bool, true, false, List, [], ◌∷◌, ◌++◌, map, filter, Option, Some, None, Result, Err, refl, sym, ap, ap₂, ◌∙◌, subst, arith, append_assoc, append-nil}
+use Rattle.std.proofs.Common.{◌≡◌, ℕ, ◌≤◌, ◌==◌, ◌||◌, Bool, true, false, List, [], ◌∷◌, ◌++◌, map, filter, Option, Some, None, Result, Err, refl, ap, ap₂, ◌∙◌, subst, arith, append_assoc, append-nil}
 use Rattle.std.proofs.Math.Path.{subst⁻¹}
 use Rattle.std.specs.Prelude.{nat_lt, not, if◌then◌else◌}
 use Rattle.std.specs.List.{AllByRecursion, IsDistinct, list_any}

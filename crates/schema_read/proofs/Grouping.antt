@@ -1,16 +1,8 @@
 -- The indexes of each table, by its place.
-use Rattle.std.proofs.Common.{◌≡◌, ℕ, zero, suc, ◌+◌, ◌<◌, ◌≤◌, ◌==◌, ◌&&◌, ◌||◌, Bool, true, false, IsFalse, IsTrue, List, [], ◌∷◌, ◌++◌, length, map, filter, get_or, slice_get, slice_index_or, Option, Some, None, Result, Ok, Err, refl, sym, ap, ◌∙◌, subst, arith, append_assoc, append-nil, length-append}
-use Rattle.std.proofs.Math.Path.{subst⁻¹}
-use Rattle.std.specs.Prelude.{filter_map, if◌then◌else◌}
-use Rattle.std.specs.List.{AllByRecursion, AllZip, list_any, position}
-use Rattle.std.proofs.lemmas.Bool.{cases_lt}
-use Rattle.std.proofs.lemmas.List.Folds.{list_any_at}
-use Rattle.std.proofs.lemmas.List.Quantifiers.{position-Some}
-use Rattle.std.proofs.lemmas.Slice.Eq.{bytes_eq-Decides}
+use Rattle.std.proofs.Common.{ℕ, List, [], ◌∷◌, ◌++◌, slice_index_or, Result, refl, sym, ap, ◌∙◌, arith, append_assoc, append-nil}
 use Rattle.schema_spec.specs.declared.schema.SqlFault.{SqlFault}
 use Rattle.schema_spec.specs.declared.schema.Index.{Index}
-use Rattle.schema_spec.specs.Words.{same_name}
-use Rattle.schema_read.specs.Entries.{HasMore, StandAll, index_at, indexes_at}
+use Rattle.schema_read.specs.Entries.{StandAll, index_at, indexes_at}
 use Rattle.schema_read.specs.declared.check.Placed.{Placed}
 use Rattle.schema_read.specs.declared.found.Found.{Found}
 

@@ -1,7 +1,11 @@
+mod AutomaticNames
 mod Checking
 mod Faultless
+mod FirstPlaces
 mod Grouping
-mod Members
+mod MemberLists
+mod Naming
+mod Noting
 mod Placing
 mod Reading
 mod Records

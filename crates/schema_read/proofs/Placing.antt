@@ -1,12 +1,10 @@
 -- Indexes and the places of their tables.
-use Rattle.std.proofs.Common.{◌≡◌, ℕ, zero, suc, List, [], ◌∷◌, length, get_or, slice_get, Option, Some, None, Result, Ok, Err, IfOk, Bool, false, true, refl, sym, ap, ◌∙◌, subst, arith}
+use Rattle.std.proofs.Common.{◌≡◌, ℕ, zero, suc, List, [], ◌∷◌, get_or, slice_get, Option, Some, None, Result, Ok, Err, IfOk, Bool, false, true, refl, sym, ap, ◌∙◌, subst}
 use Rattle.std.proofs.Math.Path.{subst⁻¹}
-use Rattle.std.specs.Prelude.{option_copied}
 use Rattle.std.specs.List.{AllByRecursion, position}
 use Rattle.std.proofs.lemmas.List.Quantifiers.{position-Some}
 use Rattle.std.proofs.lemmas.Option.{get_or_from_slice_get, slice_get-get_or, none-some}
 use Rattle.std.specs.declared.alloc.AllocError.{AllocError}
-use Rattle.common_spec.specs.Reading.{OrNone}
 use Rattle.page_spec.specs.Pages.{IsInRange}
 use Rattle.schema_spec.specs.declared.schema.SqlFault.{SqlFault}
 use Rattle.schema_spec.specs.declared.schema.Table.{Table}
@@ -15,15 +13,15 @@ use Rattle.tree_spec.specs.Standing.{Paged, Sizes}
 use Rattle.database_spec.specs.declared.catalog.SchemaKind.{SchemaKind}
 use Rattle.database_spec.specs.declared.catalog.SchemaKind.TheVariants as kind
 use Rattle.database_spec.specs.declared.catalog.SchemaRow.{SchemaRow}
-use Rattle.database_spec.specs.Catalogs.{is_index, IsIndexMeaning, IsTableMeaning}
+use Rattle.database_spec.specs.Catalogs.{IsIndexMeaning}
 use Rattle.database_spec.specs.CatalogsLaws.{table_meaning-one}
-use Rattle.database_spec.specs.RightRows.{table_named, IsNamedAlike, IsOwnRoot, IsRight, IsRightIndex, IsRightTable}
+use Rattle.database_spec.specs.RightRows.{table_named, IsOwnRoot, IsRightIndex, IsRightTable}
 use Rattle.schema_read.specs.Found.{HasRealMeaning, IsMeant, IsRealMeaning, any_found, has_root, has_table, rows_in}
-use Rattle.schema_read.specs.Checks.{IsBasis, IsJudged, IsPlaced, IsStanding, JudgesIndex, JudgesRow, Places, PlacesRow}
+use Rattle.schema_read.specs.Checks.{IsBasis, IsStanding, JudgesIndex, JudgesRow, Places, PlacesRow}
 use Rattle.schema_read.specs.declared.check.Basis.{Basis}
 use Rattle.schema_read.specs.declared.check.Placed.{Placed}
 use Rattle.schema_read.specs.declared.found.Found.{Found}
-use Rattle.schema_read.proofs.Members.{IsTableAt, position-none, table-at, table-none}
+use Rattle.schema_read.proofs.MemberLists.{position-none, table-at, table-none}
 use Rattle.schema_read.proofs.Rights.{own-here, own-there}
 
 pub meant-at : (found : List Found) (at : ℕ) (one : Found) → slice_get found at ≡ Some one → AllByRecursion IsMeant found → IsMeant one

@@ -1,5 +1,5 @@
 -- What follows of a store from the calls that read its catalog.
-use Rattle.std.proofs.Common.{◌≡◌, ℕ, Option, None, Result, Ok, Err, IfErr, ap, arith}
+use Rattle.std.proofs.Common.{◌≡◌, Option, None, Result, Ok, Err, IfErr, ap, arith}
 use Rattle.std.proofs.Math.Path.{subst⁻¹}
 use Rattle.page_store.specs.declared.store.PageRead.{Ghosts}
 use Rattle.page_store.specs.Store.{IsCause, OwesBy, Stays}

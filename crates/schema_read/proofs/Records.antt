@@ -1,8 +1,8 @@
 -- Records as rows of the schema.
-use Rattle.std.proofs.Common.{◌≡◌, ℤ, List, [], ◌∷◌, Option, Some, None, Result, Ok, Err, IfOk, Vec, Global, sym, subst, refl, ◌∙◌, inl, inr}
+use Rattle.std.proofs.Common.{◌≡◌, ℤ, List, [], ◌∷◌, Option, Some, None, Result, Ok, Err, IfOk, Vec, Global, subst, refl, inl, inr}
 use Rattle.std.proofs.Math.Path.{subst⁻¹}
 use Rattle.std.specs.declared.alloc.AllocError.{AllocError}
-use Rattle.common_spec.specs.Reading.{Reads, OrNone, OrFault, ReadsOrWants}
+use Rattle.common_spec.specs.Reading.{OrNone, OrFault, ReadsOrWants}
 use Rattle.format_spec.specs.Record.{IsRecord}
 use Rattle.rbu_value.specs.declared.value.Value.{Value}
 use Rattle.rbu_value.specs.declared.value.Value.TheVariants.{Text}
@@ -12,7 +12,7 @@ use Rattle.record_codec.specs.Faults.{HasFault, IsMemory}
 use Rattle.tree_spec.specs.Trees.{Member}
 use Rattle.database_spec.specs.declared.catalog.SchemaRow.{SchemaRow}
 use Rattle.database_spec.specs.SchemaRows.{IsSchemaRow, kind_word, row_values}
-use Rattle.schema_read.specs.Rows.{IsRowIn, IsRowOf}
+use Rattle.schema_read.specs.Rows.{IsRowIn}
 use Rattle.schema_read.specs.declared.rows.RowValues.{RowValues}
 
 -- the row of a record is that of its values

@@ -1,5 +1,5 @@
 -- Which rows are right, by what was looked for among the members.
-use Rattle.std.proofs.Common.{◌≡◌, ℕ, zero, suc, ◌<◌, ◌&&◌, ◌||◌, Bool, true, false, IsTrue, IsFalse, List, [], ◌∷◌, length, get_or, slice_get, Option, Some, None, Result, Ok, Err, IfOk, refl, sym, ap, ◌∙◌, subst, arith}
+use Rattle.std.proofs.Common.{◌≡◌, ℕ, suc, ◌<◌, Bool, true, false, IsTrue, IsFalse, List, length, Option, Some, None, Result, Ok, Err, IfOk, refl, sym, ap, ◌∙◌, subst}
 use Rattle.std.proofs.Math.Path.{subst⁻¹}
 use Rattle.std.specs.Prelude.{◌↔◌}
 use Rattle.std.specs.List.{list_any}
@@ -20,7 +20,7 @@ use Rattle.schema_read.specs.Found.{HasRealMeaning, IsFoundMeaning, IsMeant, IsR
 use Rattle.schema_read.specs.Checks.{HasRightRoot, IsBasis, KeysStand}
 use Rattle.schema_read.specs.declared.check.Basis.{Basis}
 use Rattle.schema_read.specs.declared.found.Found.{Found}
-use Rattle.schema_read.proofs.Members.{any-rows}
+use Rattle.schema_read.proofs.MemberLists.{any-rows}
 
 false-true : {A : Type 0} → ◌≡◌ {A = Bool} false true → A
 false-true e = absurd (let h : ⊥ = cc in h)

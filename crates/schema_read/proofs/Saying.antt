@@ -1,33 +1,33 @@
 -- The catalog that members say, and the first fault of one.
-use Rattle.std.proofs.Common.{◌≡◌, ℕ, ◌<◌, ◌≤◌, ◌==◌, Bool, true, false, List, [], ◌∷◌, ◌++◌, map, filter, Option, Some, None, Result, Ok, Err, refl, sym, ap, ap₂, ◌∙◌, subst, inl, inr, arith}
+use Rattle.std.proofs.Common.{◌≡◌, ℕ, ◌≤◌, ◌==◌, Bool, true, false, List, [], ◌∷◌, ◌++◌, map, filter, Result, Ok, Err, refl, sym, ap, ◌∙◌, subst, inl, inr, arith}
 use Rattle.std.proofs.Math.Path.{subst⁻¹}
-use Rattle.std.specs.Prelude.{filter_map, not, AllPairs, IsPermutation}
+use Rattle.std.specs.Prelude.{not, IsPermutation}
 use Rattle.std.specs.List.{AllByRecursion, AllZip, IsDistinct}
-use Rattle.std.specs.List.Sorted.{IsSorted, IsNonDecreasing}
-use Rattle.std.specs.Ordering.{nat_cmp}
 use Rattle.std.proofs.lemmas.Bool.Decides.{Decides-eqb}
 use Rattle.std.proofs.lemmas.List.Kept.{AllPairs-from_increasing}
 use Rattle.std.proofs.lemmas.List.Sorted.{IsNonDecreasingBy-from_sort}
 use Rattle.std.proofs.lemmas.Map.Keys.{IsDistinct-IsPermutation, IsStrictlyIncreasing-from_distinct}
-use Rattle.common_spec.specs.Reading.{Reads, OrFault, OrNone}
+use Rattle.common_spec.specs.Reading.{OrFault}
 use Rattle.common_spec.specs.ReadingLaws.{Reads-one}
 use Rattle.tree_spec.specs.declared.TreeKind.TheVariants.{Table as TableTree}
 use Rattle.tree_spec.specs.Trees.{Member}
-use Rattle.tree_spec.specs.Standing.{Paged, Sizes, IsTree}
+use Rattle.tree_spec.specs.Standing.{Paged, Sizes}
+use Rattle.tree_spec.specs.declared.fault.TreeFault.{TreeFault}
+use Rattle.tree_spec.specs.declared.fault.TreeFault.TheVariants as tree
+use Rattle.tree_spec.specs.Faults.{IsDamageOrOther}
 use Rattle.database_spec.specs.declared.catalog.Catalog.{Catalog}
 use Rattle.database_spec.specs.declared.catalog.NamedEntry.{NamedEntry}
 use Rattle.database_spec.specs.declared.catalog.SchemaRow.{SchemaRow}
 use Rattle.database_spec.specs.declared.fault.FileFault.{FileFault}
 use Rattle.database_spec.specs.declared.fault.FileFault.TheVariants as file
-use Rattle.database_spec.specs.Catalogs.{is_index, is_table, AreRows, IsCatalog, IsEntry, format_of}
+use Rattle.database_spec.specs.Catalogs.{is_index, is_table, AreRows, IsEntry}
 use Rattle.database_spec.specs.CatalogsLaws.{catalog_answer-one}
-use Rattle.database_spec.specs.RightRows.{rows_of, AreFaultless, RowHasFault, FirstRowFault, HasCatalog, CatalogHasFault}
-use Rattle.database_spec.specs.SchemaRows.{IsSchemaRow}
-use Rattle.database_spec.specs.TreeWalksLaws.{tree-list}
-use Rattle.schema_read.specs.Answers.{IsAnswer, IsOther, IsRefusalOrOther, Answers, ReadsCatalog, SayCatalog, SayFault, SaysOrOther, catalog_fault}
-use Rattle.schema_read.specs.Checks.{ChecksAll, IsBasis, IsPlaced, IsRefusal, member_at}
-use Rattle.schema_read.specs.Entries.{IsMadeOf, StandAll, entry_of, roots_of}
-use Rattle.schema_read.specs.Found.{AreFound, IsFound, IsMeant, found_rows, rows_in}
+use Rattle.database_spec.specs.RightRows.{rows_of, AreFaultless, FirstRowFault, HasCatalog, CatalogHasFault}
+use Rattle.database_spec.specs.Walks.{IsList, StopsAt}
+use Rattle.schema_read.specs.Answers.{IsAnswer, IsDamagedTree, IsOther, IsRefusalOrOther, ReadsCatalog, SayCatalog, SayFault, SaysOrOther, catalog_fault, told_of_tree}
+use Rattle.schema_read.specs.Checks.{IsBasis, IsPlaced, IsRefusal, member_at}
+use Rattle.schema_read.specs.Entries.{IsMadeOf, roots_of}
+use Rattle.schema_read.specs.Found.{AreFound, IsMeant, found_rows, rows_in}
 use Rattle.schema_read.specs.declared.check.Basis.{Basis}
 use Rattle.schema_read.specs.declared.check.Placed.{Placed}
 use Rattle.schema_read.specs.declared.check.RowFault.{RowFault}
@@ -109,16 +109,16 @@ module _ (sizes : Sizes) (base : Paged) where
       }
 
   -- what members say is said of the database whose schema they are
-  module _ (depth : ℕ) (members : List Member) (numbers : List ℕ) (tree : IsTree sizes base 1 TableTree depth members numbers) where
+  module _ (members : List Member) (is_list : IsList sizes base TableTree 1 members) where
     pub answers-catalog : (catalog : Catalog) → SayCatalog sizes base members catalog → IsAnswer sizes base (Ok catalog)
     answers-catalog catalog say =
         Reads-one (OrFault (HasCatalog sizes base) (CatalogHasFault sizes base)) (Ok catalog) (catalog_answer-one sizes base)
-        (record { members = members; is_list = tree-list sizes base 1 TableTree depth members numbers tree; found = say.found; are_rows = say.are_rows; faultless = say.faultless; is_catalog = say.is_catalog })
+        (record { members = members; is_list = is_list; found = say.found; are_rows = say.are_rows; faultless = say.faultless; is_catalog = say.is_catalog })
 
     answers_fault : (f : FileFault) → SayFault sizes base members f → IsAnswer sizes base (Err f)
     answers_fault f say =
         Reads-one (OrFault (HasCatalog sizes base) (CatalogHasFault sizes base)) (Err f) (catalog_answer-one sizes base)
-        (inr (members, say.found, tree-list sizes base 1 TableTree depth members numbers tree, say.are_rows, say.first))
+        (inr (members, say.found, is_list, say.are_rows, say.first))
 
     by-fault : {F : Type 0} (fault : CatalogFault F) → IsRefusalOrOther (SayFault sizes base members) fault → IsRefusalOrOther (λ f. IsAnswer sizes base (Err f)) fault
     by-fault (TreeDamaged page rule) say = answers_fault (file.TreeDamaged page rule) say
@@ -127,15 +127,29 @@ module _ (sizes : Sizes) (base : Paged) where
     by-fault (Store fault) say = tt
     by-fault (NoMemory error) say = tt
 
-    pub answers-any : {F : Type 0} (result : Result Catalog (CatalogFault F)) → SaysOrOther sizes base members result → Answers sizes base result
-    answers-any (Ok catalog) says = answers-catalog catalog says
-    answers-any (Err fault) says = by-fault fault says
+    -- what was read of a store says the one answer of its database
+    pub reads-answer : {F : Type 0} (result : Result Catalog (CatalogFault F)) → SaysOrOther sizes base members result → ReadsCatalog sizes base result
+    reads-answer (Ok catalog) says = answers-catalog catalog says
+    reads-answer (Err fault) says = by-fault fault says
 
-  -- what was read of a store says the one answer of its database
-  pub reads-answer : {F : Type 0} (result : Result Catalog (CatalogFault F)) (read : List Member) → ((depth : ℕ) (members : List Member) (numbers : List ℕ) → IsTree sizes base 1 TableTree depth members numbers → read ≡ members)
-      → SaysOrOther sizes base read result → ReadsCatalog sizes base result
-  reads-answer result read same says depth members numbers tree =
-      answers-any depth members numbers tree result (subst (λ (l : List Member). SaysOrOther sizes base l result) (same depth members numbers tree) says)
+  -- damage is the one answer of a database whose schema's tree is damaged
+  damage_is : (f : FileFault) → IsDamagedTree sizes base f → IsAnswer sizes base (Err f)
+  damage_is f damaged = Reads-one (OrFault (HasCatalog sizes base) (CatalogHasFault sizes base)) (Err f) (catalog_answer-one sizes base) (inl damaged)
+
+  pub damage-answer : {F : Type 0} (fault : CatalogFault F) → IsRefusalOrOther (IsDamagedTree sizes base) fault → IsRefusalOrOther (λ f. IsAnswer sizes base (Err f)) fault
+  damage-answer (TreeDamaged page rule) damaged = damage_is (file.TreeDamaged page rule) damaged
+  damage-answer (RowFaultAt rowid) damaged = damage_is (file.SchemaRow rowid) damaged
+  damage-answer (NameTwice name) damaged = damage_is (file.DuplicateName name) damaged
+  damage-answer (Store fault) damaged = tt
+  damage-answer (NoMemory error) damaged = tt
+
+  -- what stops a cursor over the schema's tree
+  pub damage-told : {F : Type 0} (fault : TreeFault F) → IsDamageOrOther (λ page rule. StopsAt sizes base TableTree 1 (page, rule)) fault → IsRefusalOrOther (IsDamagedTree sizes base) (told_of_tree fault)
+  damage-told (tree.TreeDamaged page rule) stops = (page, rule, stops, refl)
+  damage-told (tree.TrunkDamaged page) stops = absurd stops
+  damage-told (tree.TargetFull pages limit) stops = absurd stops
+  damage-told (tree.Store fault) stops = tt
+  damage-told (tree.Memory error) stops = tt
 
 -- where the store failed nothing is said
 pub other-refused : {F : Type 0} (P : FileFault → Type 0) (fault : CatalogFault F) → IsOther fault → IsRefusalOrOther P fault

@@ -1,18 +1,17 @@
 -- The tables of the catalog, each with its indexes.
-use Rattle.std.proofs.Common.{◌≡◌, ℕ, zero, suc, ◌+◌, ◌<◌, ◌≤◌, ◌==◌, ◌&&◌, ◌||◌, Bool, true, false, IsFalse, IsTrue, List, [], ◌∷◌, ◌++◌, length, map, filter, get_or, slice_get, slice_index_or, Option, Some, None, Result, Ok, Err, refl, sym, ap, ap₂, ◌∙◌, subst, inl, inr, arith, append_assoc, length-append, zero-add}
+use Rattle.std.proofs.Common.{◌≡◌, ℕ, suc, ◌+◌, ◌<◌, ◌≤◌, ◌==◌, ◌&&◌, ◌||◌, Bool, true, false, List, [], ◌∷◌, ◌++◌, length, filter, get_or, Option, Some, None, Result, refl, sym, ap, ap₂, ◌∙◌, subst, inl, inr, arith, append_assoc, length-append, zero-add}
 use Rattle.std.proofs.Math.Path.{subst⁻¹}
 use Rattle.std.specs.Prelude.{filter_map, if◌then◌else◌}
 use Rattle.std.specs.Str.{str_to_ascii_lowercase}
 use Rattle.std.specs.List.{AllByRecursion, AllZip, cons_option, list_any, position}
 use Rattle.std.proofs.lemmas.Bool.{cases_lt}
 use Rattle.std.proofs.lemmas.Bool.Decides.{Decides-eqb}
-use Rattle.std.proofs.lemmas.List.{get_or_append_left, get_or-append-add}
+use Rattle.std.proofs.lemmas.List.{get_or_append_left}
 use Rattle.std.proofs.Math.Seq.{get_or-append_seam}
 use Rattle.std.proofs.lemmas.List.Folds.{list_any_at}
 use Rattle.std.proofs.lemmas.List.Quantifiers.{position-Some}
 use Rattle.std.proofs.lemmas.Option.{get_or_from_slice_get}
 use Rattle.std.proofs.lemmas.Slice.Eq.{bytes_eq-Decides}
-use Rattle.common_spec.specs.Reading.{OrNone}
 use Rattle.schema_spec.specs.declared.schema.SqlFault.{SqlFault}
 use Rattle.schema_spec.specs.declared.schema.Table.{Table}
 use Rattle.schema_spec.specs.declared.schema.Index.{Index}
@@ -24,13 +23,13 @@ use Rattle.database_spec.specs.declared.catalog.NamedEntry.{NamedEntry}
 use Rattle.database_spec.specs.declared.catalog.SchemaRow.{SchemaRow}
 use Rattle.database_spec.specs.Catalogs.{index_rows, is_index, is_real, is_table, IsEntry, IsIndexEntry, IsIndexMeaning, IsTableMeaning}
 use Rattle.database_spec.specs.CatalogsLaws.{table_meaning-one}
-use Rattle.database_spec.specs.RightRows.{has_name, repeats_name, rows_of, IsRight, IsFaultless, AreFaultless}
+use Rattle.database_spec.specs.RightRows.{has_name, IsFaultless, AreFaultless}
 use Rattle.schema_read.specs.Found.{IsFoundMeaning, IsMeant, IsRealMeaning, any_found, found_rows, has_table, option_any, row_any, rows_in}
 use Rattle.schema_read.specs.Checks.{IsPlaced}
-use Rattle.schema_read.specs.Entries.{HasMore, StandAll, entry_in, entry_of, index_at, index_of, indexes_at, root_of}
+use Rattle.schema_read.specs.Entries.{HasMore, StandAll, entry_in, entry_of, index_of, indexes_at, root_of}
 use Rattle.schema_read.specs.declared.check.Placed.{Placed}
 use Rattle.schema_read.specs.declared.found.Found.{Found}
-use Rattle.schema_read.proofs.Members.{any-rows}
+use Rattle.schema_read.proofs.MemberLists.{any-rows}
 use Rattle.schema_read.proofs.Faultless.{faultless-at, meaning-none, meaning-there, root-is}
 
 abbrev is_real_kind : SchemaKind → Bool

@@ -1,5 +1,5 @@
 -- What texts mean.
-use Rattle.std.proofs.Common.{◌≡◌, ℕ, ◌==◌, ◌&&◌, ◌⊎◌, Bool, false, List, [], ◌∷◌, map, Result, Err, refl, ap, subst, inl, inr}
+use Rattle.std.proofs.Common.{◌≡◌, ℕ, ◌⊎◌, Bool, List, [], ◌∷◌, map, Err, refl, ap, subst, inl, inr}
 use Rattle.std.proofs.Math.Path.{subst⁻¹}
 use Rattle.rbu_value.specs.declared.order.Collation.{Collation}
 use Rattle.common_spec.specs.Reading.{Reads, OrFault}

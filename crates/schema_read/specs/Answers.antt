@@ -3,14 +3,19 @@ use Rattle.std.specs.Prelude.{◌≡◌, ℕ, ◌==◌, if◌then◌else◌, Lis
 use Rattle.std.specs.Global.{Global}
 use Rattle.common_spec.specs.Reading.{Reads, OrFault}
 use Rattle.format_spec.specs.Header.{schema_format}
+use Rattle.refusal.specs.declared.Rule.{Rule}
+use Rattle.refusal.specs.declared.Rule.TheVariants as broken
 use Rattle.tree_spec.specs.declared.TreeKind.TheVariants.{Table as TableTree}
 use Rattle.tree_spec.specs.Trees.{Member}
-use Rattle.tree_spec.specs.Standing.{Paged, Sizes, IsTree}
+use Rattle.tree_spec.specs.Standing.{Paged, Sizes}
+use Rattle.tree_spec.specs.declared.fault.TreeFault.{TreeFault}
+use Rattle.tree_spec.specs.declared.fault.TreeFault.TheVariants as tree
 use Rattle.tree_walk.specs.declared.cursor.Row.{Row}
 use Rattle.database_spec.specs.declared.catalog.Catalog.{Catalog}
 use Rattle.database_spec.specs.declared.catalog.SchemaRow.{SchemaRow}
 use Rattle.database_spec.specs.declared.fault.FileFault.{FileFault}
 use Rattle.database_spec.specs.declared.fault.FileFault.TheVariants as file
+use Rattle.database_spec.specs.Walks.{IsList, StopsAt}
 use Rattle.database_spec.specs.Catalogs.{AreRows, IsCatalog, format_of}
 use Rattle.database_spec.specs.RightRows.{rows_of, AreFaultless, FirstRowFault, HasCatalog, CatalogHasFault}
 use Rattle.schema_read.specs.declared.check.RowFault.{RowFault}
@@ -50,6 +55,14 @@ catalog_fault (row.SchemaRow rowid) = SchemaRowFault rowid
 catalog_fault (row.DuplicateName name) = DuplicateName name
 catalog_fault (row.Memory error) = Memory error
 
+-- what stops the walk over a tree, told of the catalog; a walk takes no page, and so it meets neither a trunk nor a limit
+abbrev pub told_of_tree : {F : Type 0} → TreeFault F → CatalogFault F
+told_of_tree (tree.TreeDamaged page rule) = TreeDamaged page rule
+told_of_tree (tree.TrunkDamaged page) = TreeDamaged page broken.Trunk
+told_of_tree (tree.TargetFull pages limit) = TreeDamaged pages broken.Count
+told_of_tree (tree.Store fault) = Store fault
+told_of_tree (tree.Memory error) = Memory error
+
 -- the schema format that counts, by the bytes of page 1
 abbrev pub format_in : List ℕ → ℕ
 format_in page = if schema_format page == 0 then 1 else schema_format page
@@ -76,19 +89,19 @@ module _ (sizes : Sizes) (base : Paged) where
   SaysOrOther members (Ok catalog) = SayCatalog members catalog
   SaysOrOther members (Err fault) = IsRefusalOrOther (SayFault members) fault
 
-  -- the members of the tree at page 1
+  -- a cursor over the schema's tree meets this damage
+  abbrev pub IsDamagedTree : FileFault → Type 0
+  IsDamagedTree refused = (page : ℕ) × (rule : Rule) × StopsAt sizes base TableTree 1 (page, rule) × (refused ≡ file.TreeDamaged page rule)
+
+  -- the members of the schema's tree
   abbrev pub ReadsMembers : {F : Type 0} → Result (Vec Row Global) (CatalogFault F) → Type 0
-  ReadsMembers (Ok rows) = (depth : ℕ) (members : List Member) (numbers : List ℕ) → IsTree sizes base 1 TableTree depth members numbers → map member_of rows.items ≡ members
-  ReadsMembers (Err fault) = (depth : ℕ) (members : List Member) (numbers : List ℕ) → IsTree sizes base 1 TableTree depth members numbers → IsOther fault
+  ReadsMembers result = OrFault (λ rows. IsList sizes base TableTree 1 (map member_of rows.items)) (IsRefusalOrOther IsDamagedTree) result
 
   -- the one answer of a database
   abbrev pub IsAnswer : Result Catalog FileFault → Type 0
   IsAnswer answer = Reads (OrFault (HasCatalog sizes base) (CatalogHasFault sizes base)) answer
 
-  abbrev pub Answers : {F : Type 0} → Result Catalog (CatalogFault F) → Type 0
-  Answers (Ok catalog) = IsAnswer (Ok catalog)
-  Answers (Err fault) = IsRefusalOrOther (λ refused. IsAnswer (Err refused)) fault
-
-  -- Where the schema's tree stands, the catalog is answered, or the refusal, that the database has.
+  -- The catalog is answered, or the refusal, that the database has; or the store failed, or memory is wanting.
   abbrev pub ReadsCatalog : {F : Type 0} → Result Catalog (CatalogFault F) → Type 0
-  ReadsCatalog result = (depth : ℕ) (members : List Member) (numbers : List ℕ) → IsTree sizes base 1 TableTree depth members numbers → Answers result
+  ReadsCatalog (Ok catalog) = IsAnswer (Ok catalog)
+  ReadsCatalog (Err fault) = IsRefusalOrOther (λ refused. IsAnswer (Err refused)) fault

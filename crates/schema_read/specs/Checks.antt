@@ -1,9 +1,8 @@
 -- What is said of the rows of the schema, one after the other.
-use Rattle.std.specs.Prelude.{◌≡◌, ℕ, suc, ◌<◌, Bool, true, false, IsTrue, IsFalse, IfOk, List, [], ◌∷◌, length, map, filter, Option, Some, None, Result, Ok, Err, Vec, slice_get}
+use Rattle.std.specs.Prelude.{◌≡◌, ℕ, suc, ◌<◌, Bool, true, false, IsTrue, IsFalse, IfOk, List, [], length, map, filter, Option, Some, None, Result, Ok, Err, Vec, slice_get}
 use Rattle.std.specs.Global.{Global}
 use Rattle.std.specs.List.{AllZip, position}
 use Rattle.page_spec.specs.Pages.{IsInRange}
-use Rattle.schema_spec.specs.declared.schema.Clause.TheVariants.{Virtual}
 use Rattle.schema_spec.specs.declared.schema.SqlFault.{SqlFault}
 use Rattle.schema_spec.specs.declared.schema.Table.{Table}
 use Rattle.schema_spec.specs.declared.schema.Index.{Index}

@@ -1,5 +1,5 @@
 -- The members of the schema's tree as they are read, and what is looked for among them.
-use Rattle.std.specs.Prelude.{◌≡◌, ℕ, ◌==◌, ◌&&◌, ◌||◌, Bool, true, false, IsTrue, List, [], map, Option, Some, None, is_none, Result, length}
+use Rattle.std.specs.Prelude.{◌≡◌, ℕ, ◌==◌, ◌&&◌, ◌||◌, Bool, true, false, IsTrue, List, [], map, Option, Some, None, is_none, Result}
 use Rattle.std.specs.List.{list_any, AllZip}
 use Rattle.common_spec.specs.Reading.{OrNone}
 use Rattle.schema_spec.specs.declared.schema.SqlFault.{SqlFault}

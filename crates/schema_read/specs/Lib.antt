@@ -1,5 +1,9 @@
+pub mod Names
+pub mod NamesLaws
+pub mod Firsts
 pub mod Rows
 pub mod Found
+pub mod Members
 pub mod Checks
 pub mod Entries
 pub mod Answers

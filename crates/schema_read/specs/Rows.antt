@@ -1,5 +1,5 @@
 -- Members of the schema's tree as rows.
-use Rattle.std.specs.Prelude.{◌≡◌, ℤ, List, [], ◌∷◌}
+use Rattle.std.specs.Prelude.{◌≡◌, ℤ, List}
 use Rattle.rbu_value.specs.declared.value.Value.{Value}
 use Rattle.rbu_value.specs.declared.value.Value.TheVariants.{Text}
 use Rattle.tree_spec.specs.Trees.{Member}

@@ -1,5 +1,5 @@
 // Goes through the rows of the schema in their order, up to the first that has a fault.
-ghost use Rattle.std.specs.Prelude.{◌≡◌, ◌↔◌, ◌<◌, ◌≤◌, ◌++◌, IfOk, IsTrue, OnOk, Some, length, option_to_list, take};
+ghost use Rattle.std.specs.Prelude.{◌≡◌, ◌↔◌, ◌<◌, ◌++◌, IfOk, IsTrue, OnOk, Some, option_to_list, take};
 ghost use Rattle.std.specs.List.{AllByRecursion, position};
 ghost use Rattle.tree_spec.specs.Standing.{Paged, Sizes};
 ghost use Rattle.database_spec.specs.declared.catalog.SchemaKind.{SchemaKind};
@@ -10,8 +10,9 @@ ghost use Rattle.schema_read.specs.declared.check.RowFault.{RowFault};
 ghost use Rattle.schema_read.specs.Found.{IsFoundMeaning, IsMeant, has_table, rows_in};
 ghost use Rattle.schema_read.specs.Checks.{ChecksAll, ChecksRow, HasRightRoot, IsBasis, IsDuplicate, JudgesIndex, JudgesRow, KeysStand, Places, PlacesRow, is_virtual_fault as is_virtual_of};
 
-use crate::found::{Found, has_all_automatic, own_root, real_meaning, repeats, table_place};
+use crate::found::{Found, real_meaning};
 use crate::meanings::index_meaning;
+use crate::members::Members;
 use database_spec::{SchemaKind, SchemaRow};
 use rbu_value::Bytes;
 use schema_spec::{Clause, Index, SqlFault, Table};
@@ -84,60 +85,58 @@ fn is_virtual(meaning: &Result<Table, SqlFault>) -> bool
 // Whether a table of this meaning may have the root.
 fn is_right_root(
     basis: Basis,
-    before: &[Found],
+    members: &Members,
+    at: usize,
     root: u64,
     meaning: &Result<Table, SqlFault>,
 ) -> bool
     requires { 0 < basis.size }
-    ensures { IsTrue result ↔ HasRightRoot basis before.now root meaning.now }
+    ensures { IsTrue result ↔ HasRightRoot basis (take at members.now) root meaning.now }
 {
     if is_virtual(meaning) {
         return root == 0;
     }
-    own_root(before, basis.size, basis.count, root).is_some()
+    members
+        .own_root(at, basis.size, basis.count, root)
+        .is_some()
 }
 
 // Whether the text of a table names it as its row does, and its automatic indexes are there.
 fn keys_stand(
     alloc: Global,
-    found: &[Found],
+    members: &Members,
     row: &SchemaRow,
     table: &Table,
 ) -> Result<bool, AllocError>
-    ensures { IfOk result (λ stand. IsTrue stand ↔ KeysStand found.now row.now table.now) }
+    ensures { IfOk result (λ stand. IsTrue stand ↔ KeysStand members.now row.now table.now) }
 {
     if !same_name(table.name.as_slice(), row.name.as_slice()) {
         return Ok(false);
     }
-    has_all_automatic(
-        alloc,
-        found,
-        row.name.as_slice(),
-        table.unique.as_slice().len(),
-    )
+    members.has_all_automatic(alloc, row.name.as_slice(), table.unique.as_slice().len())
 }
 
 // Whether the row of a table of this meaning is right.
 fn is_right_table(
     alloc: Global,
     basis: Basis,
-    found: &[Found],
-    before: &[Found],
+    members: &Members,
+    at: usize,
     row: &SchemaRow,
     meaning: &Result<Table, SqlFault>,
 ) -> Result<bool, AllocError>
     requires some { 0 < basis.size }
     requires means { IsTableMeaning SchemaKind.Table row.now.sql meaning.now }
-    ensures { IfOk result (λ right. (sizes : Sizes) (base : Paged) → IsBasis basis sizes base → IsTrue right ↔ IsRightTable sizes base (rows_in found.now) (rows_in before.now) row.now) }
+    ensures { IfOk result (λ right. (sizes : Sizes) (base : Paged) → IsBasis basis sizes base → IsTrue right ↔ IsRightTable sizes base (rows_in members.now) (rows_in (take at members.now)) row.now) }
 {
     if !same_name(row.table.as_slice(), row.name.as_slice()) {
         return Ok(false);
     }
-    if !is_right_root(basis, before, row.root, meaning) {
+    if !is_right_root(basis, members, at, row.root, meaning) {
         return Ok(false);
     }
     match meaning {
-        Ok(table) => keys_stand(alloc, found, row, table),
+        Ok(table) => keys_stand(alloc, members, row, table),
         Err(_) => Ok(true),
     }
 }
@@ -179,27 +178,27 @@ fn place(
 }
 
 // The place of the first table or view of the name of an index's table.
-fn place_for(found: &[Found], row: &SchemaRow) -> Option<usize>
-    ensures { result ≡ position (has_table row.now.table) found.now }
+fn place_for(members: &Members, row: &SchemaRow) -> Option<usize>
+    ensures { result ≡ position (has_table row.now.table) members.now }
 {
-    table_place(found, row.table.as_slice())
+    members.table_place(row.table.as_slice())
 }
 
 // The index that a row describes, by the place of its table, where all but its root is right.
 fn place_at(
     alloc: Global,
     format: u32,
-    found: &[Found],
+    members: &Members,
     row: &SchemaRow,
     at: usize,
     root: u32,
 ) -> Result<Option<Placed>, AllocError>
-    requires meant { AllByRecursion IsMeant found.now }
-    requires stands { position (has_table row.now.table) found.now ≡ Some at }
+    requires meant { AllByRecursion IsMeant members.now }
+    requires stands { position (has_table row.now.table) members.now ≡ Some at }
     requires root { root ≡ row.now.root }
-    ensures { IfOk result (PlacesRow format found.now row.now) }
+    ensures { IfOk result (PlacesRow format members.now row.now) }
 {
-    match found.get(at) {
+    match members.as_slice().get(at) {
         Some(table) => match real_meaning(table) {
             Some(meaning) => place(alloc, format, row, meaning, at, root),
             None => Ok(None),
@@ -212,16 +211,16 @@ fn place_at(
 fn place_row(
     alloc: Global,
     format: u32,
-    found: &[Found],
+    members: &Members,
     row: &SchemaRow,
     root: u32,
 ) -> Result<Option<Placed>, AllocError>
-    requires meant { AllByRecursion IsMeant found.now }
+    requires meant { AllByRecursion IsMeant members.now }
     requires root { root ≡ row.now.root }
-    ensures { IfOk result (PlacesRow format found.now row.now) }
+    ensures { IfOk result (PlacesRow format members.now row.now) }
 {
-    match place_for(found, row) {
-        Some(at) => place_at(alloc, format, found, row, at, root),
+    match place_for(members, row) {
+        Some(at) => place_at(alloc, format, members, row, at, root),
         None => Ok(None),
     }
 }
@@ -230,16 +229,16 @@ fn place_row(
 fn right_index(
     alloc: Global,
     basis: Basis,
-    found: &[Found],
-    before: &[Found],
+    members: &Members,
+    at: usize,
     row: &SchemaRow,
 ) -> Result<Option<Placed>, AllocError>
     requires some { 0 < basis.size }
-    requires meant { AllByRecursion IsMeant found.now }
-    ensures { IfOk result (λ index. (sizes : Sizes) (base : Paged) → IsBasis basis sizes base → JudgesIndex sizes base basis.format found.now before.now row.now index) }
+    requires meant { AllByRecursion IsMeant members.now }
+    ensures { IfOk result (λ index. (sizes : Sizes) (base : Paged) → IsBasis basis sizes base → JudgesIndex sizes base basis.format members.now (take at members.now) row.now index) }
 {
-    match own_root(before, basis.size, basis.count, row.root) {
-        Some(root) => place_row(alloc, basis.format, found, row, root),
+    match members.own_root(at, basis.size, basis.count, row.root) {
+        Some(root) => place_row(alloc, basis.format, members, row, root),
         None => Ok(None),
     }
 }
@@ -247,18 +246,18 @@ fn right_index(
 fn right_table(
     alloc: Global,
     basis: Basis,
-    found: &[Found],
-    before: &[Found],
+    members: &Members,
+    at: usize,
     row: &SchemaRow,
     meaning: &Option<Result<Table, SqlFault>>,
 ) -> Result<bool, AllocError>
     requires some { 0 < basis.size }
     requires kind { row.now.kind ≡ SchemaKind.Table }
     requires means { IsFoundMeaning (Some row.now) meaning.now }
-    ensures { IfOk result (λ right. (sizes : Sizes) (base : Paged) → IsBasis basis sizes base → IsTrue right ↔ IsRightTable sizes base (rows_in found.now) (rows_in before.now) row.now) }
+    ensures { IfOk result (λ right. (sizes : Sizes) (base : Paged) → IsBasis basis sizes base → IsTrue right ↔ IsRightTable sizes base (rows_in members.now) (rows_in (take at members.now)) row.now) }
 {
     match meaning {
-        Some(meaning) => is_right_table(alloc, basis, found, before, row, meaning),
+        Some(meaning) => is_right_table(alloc, basis, members, at, row, meaning),
         None => Ok(false),
     }
 }
@@ -267,23 +266,23 @@ fn right_table(
 fn right_row(
     alloc: Global,
     basis: Basis,
-    found: &[Found],
-    before: &[Found],
+    members: &Members,
+    at: usize,
     row: &SchemaRow,
     meaning: &Option<Result<Table, SqlFault>>,
 ) -> Result<Option<Option<Placed>>, AllocError>
     requires some { 0 < basis.size }
-    requires meant { AllByRecursion IsMeant found.now }
+    requires meant { AllByRecursion IsMeant members.now }
     requires means { IsFoundMeaning (Some row.now) meaning.now }
-    ensures { IfOk result (λ right. (sizes : Sizes) (base : Paged) → IsBasis basis sizes base → JudgesRow sizes base basis.format found.now before.now row.now right) }
+    ensures { IfOk result (λ right. (sizes : Sizes) (base : Paged) → IsBasis basis sizes base → JudgesRow sizes base basis.format members.now (take at members.now) row.now right) }
 {
     match row.kind {
-        SchemaKind::Table => match right_table(alloc, basis, found, before, row, meaning) {
+        SchemaKind::Table => match right_table(alloc, basis, members, at, row, meaning) {
             Ok(true) => Ok(Some(None)),
             Ok(false) => Ok(None),
             Err(error) => Err(error),
         },
-        SchemaKind::Index => match right_index(alloc, basis, found, before, row) {
+        SchemaKind::Index => match right_index(alloc, basis, members, at, row) {
             Ok(Some(placed)) => Ok(Some(Some(placed))),
             Ok(None) => Ok(None),
             Err(error) => Err(error),
@@ -317,20 +316,20 @@ fn duplicate_row(alloc: Global, row: &SchemaRow) -> RowFault
 fn check_row(
     alloc: Global,
     basis: Basis,
-    found: &[Found],
-    before: &[Found],
+    members: &Members,
+    at: usize,
     this: &Found,
 ) -> Result<Option<Placed>, RowFault>
     requires some { 0 < basis.size }
-    requires meant { AllByRecursion IsMeant found.now }
+    requires meant { AllByRecursion IsMeant members.now }
     requires means { IsMeant this.now }
-    ensures { (sizes : Sizes) (base : Paged) → IsBasis basis sizes base → ChecksRow sizes base basis.format found.now before.now this.now result }
+    ensures { (sizes : Sizes) (base : Paged) → IsBasis basis sizes base → ChecksRow sizes base basis.format members.now (take at members.now) this.now result }
 {
     let rowid = this.rowid;
     match &this.row {
-        Some(row) => match right_row(alloc, basis, found, before, row, &this.meaning) {
+        Some(row) => match right_row(alloc, basis, members, at, row, &this.meaning) {
             Ok(Some(placed)) => {
-                if repeats(before, row) {
+                if members.repeats(at, row) {
                     return Err(duplicate_row(alloc, row));
                 }
                 Ok(placed)
@@ -340,14 +339,6 @@ fn check_row(
         },
         None => Err(RowFault::SchemaRow { rowid }),
     }
-}
-
-// The first members.
-fn front(found: &[Found], at: usize) -> &[Found]
-    requires { at ≤ length found.now }
-    ensures { result.now ≡ take at found.now }
-{
-    &found[..at]
 }
 
 fn push_placed(all: &mut Vec<Placed>, placed: Option<Placed>) -> Result<(), AllocError>
@@ -366,17 +357,17 @@ fn push_placed(all: &mut Vec<Placed>, placed: Option<Placed>) -> Result<(), Allo
 pub(crate) fn check_all(
     alloc: Global,
     basis: Basis,
-    found: &[Found],
+    members: &Members,
 ) -> Result<Vec<Placed>, RowFault>
     requires some { 0 < basis.size }
-    requires meant { AllByRecursion IsMeant found.now }
-    ensures { (sizes : Sizes) (base : Paged) → IsBasis basis sizes base → ChecksAll sizes base basis.format found.now result }
+    requires meant { AllByRecursion IsMeant members.now }
+    ensures { (sizes : Sizes) (base : Paged) → IsBasis basis sizes base → ChecksAll sizes base basis.format members.now result }
 {
     let mut all = Vec::new(alloc);
     let mut at = 0;
-    let mut left = found;
+    let mut left = members.as_slice();
     while let [one, rest @ ..] = left {
-        match check_row(alloc, basis, found, front(found, at), one) {
+        match check_row(alloc, basis, members, at, one) {
             Ok(placed) => match push_placed(&mut all, placed) {
                 Ok(()) => {
                     at += 1;

@@ -5,9 +5,13 @@
 
 mod catalog;
 mod check;
+mod firsts;
 mod found;
 mod lookup;
 mod meanings;
+mod members;
+mod names;
+mod numbers;
 mod read;
 mod rows;
 

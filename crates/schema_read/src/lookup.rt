@@ -1,16 +1,23 @@
 // What the layers above ask of a catalog.
-ghost use Rattle.std.specs.Prelude.{◌≡◌, ◌<◌, ◌==◌, length, option_copied, slice_index_or};
+ghost use Rattle.std.specs.Prelude.{◌≡◌, ◌<◌, ◌==◌, [], IfOk, length, option_copied, option_map, slice_get, slice_index_or};
 ghost use Rattle.database_spec.specs.declared.catalog.NamedEntry.{NamedEntry};
-ghost use Rattle.schema_read.specs.Lookups.{entry_named};
+ghost use Rattle.schema_read.specs.Firsts.{HasFirsts};
+ghost use Rattle.schema_read.specs.Lookups.{entry_named, is_entry_named};
+ghost use Rattle.schema_spec.specs.Words.{same_name};
 
-use database_spec::{Catalog as KnownCatalog, Entry};
-use schema_tokens::same_name;
+use crate::firsts::{first_place, note};
+use crate::names::{Name, NameQuery};
+use database_spec::{Catalog as KnownCatalog, Entry, NamedEntry};
+use indexmap::IndexMap;
+use std::alloc::{AllocError, Global};
 use std::marker::Model;
 
 /// The tables and indexes of a database, which contracts see as the catalog of `database_spec`.
 #[derive(Drop)]
 pub struct Catalog {
     known: KnownCatalog,
+    // The place of the first table with each name.
+    places: IndexMap<Name, usize>,
 }
 
 impl Model for Catalog {
@@ -18,28 +25,55 @@ impl Model for Catalog {
 
     ghost Value = { Known };
 
+    ghost use Rattle.schema_read.specs.Firsts.{HasFirsts as HasPlaces};
+    ghost use Rattle.schema_read.specs.Lookups.{is_entry_named as has_name};
+    ghost use Rattle.schema_spec.specs.Words.{same_name as one_name};
+
     ghost view = { λ c. c.known };
+
+    ghost invariant = { λ c. HasPlaces one_name has_name c.places c.known.tables };
+}
+
+// The place of the first table with each name.
+fn places_of(alloc: Global, tables: &[NamedEntry]) -> Result<IndexMap<Name, usize>, AllocError>
+    ensures { IfOk result (λ places. HasFirsts same_name is_entry_named places tables.now) }
+{
+    let mut places = IndexMap::new(alloc);
+    let mut at = 0;
+    let mut left = tables;
+    while let [named, rest @ ..] = left {
+        note(&mut places, Name::of(alloc, named.name.as_slice())?, at)?;
+        at += 1;
+        left = rest;
+    }
+    Ok(places)
+}
+
+fn entry_at(tables: &[NamedEntry], at: usize) -> Option<&Entry>
+    ensures { option_copied result ≡ option_map (λ named. named.entry) (slice_get tables.now at) }
+{
+    match tables.get(at) {
+        Some(named) => Some(&named.entry),
+        None => None,
+    }
 }
 
 impl Catalog {
-    pub(crate) fn of(known: KnownCatalog) -> Catalog
-        ensures { result ≡ known }
+    pub(crate) fn of(alloc: Global, known: KnownCatalog) -> Result<Catalog, AllocError>
+        ensures { IfOk result (λ catalog. catalog ≡ known) }
     {
-        Catalog { known }
+        let places = places_of(alloc, known.tables.as_slice())?;
+        Ok(Catalog { known, places })
     }
 
-    /// The table or view of this name, where the case of ASCII letters does not count. `None` exactly where there is none. The time is linear in the number of tables.
+    /// The table or view of this name, where the case of ASCII letters does not count. `None` exactly where there is none. The time does not depend on the number of tables.
     pub fn table(&self, name: &[u8]) -> Option<&Entry>
         ensures { option_copied result ≡ entry_named name.now self.now.tables }
     {
-        let mut left = self.known.tables.as_slice();
-        while let [named, rest @ ..] = left {
-            if same_name(named.name.as_slice(), name) {
-                return Some(&named.entry);
-            }
-            left = rest;
+        match first_place(&self.places, NameQuery { bytes: name }) {
+            Some(at) => entry_at(self.known.tables.as_slice(), at),
+            None => None,
         }
-        None
     }
 
     /// The roots of all trees, that of the schema too, in rising order.

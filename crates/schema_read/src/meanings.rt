@@ -1,10 +1,11 @@
 // What rows of tables and indexes mean.
-ghost use Rattle.std.specs.Prelude.{◌≡◌, ◌++◌, codes, decimal, IfOk, false, map, option_map};
+ghost use Rattle.std.specs.Prelude.{◌≡◌, ◌≤◌, ◌-◌, ◌++◌, ℕ, codes, decimal, IfOk, IfSome, IsTrue, Some, false, length, map, option_map, slice_get};
 ghost use Rattle.common_spec.specs.Reading.{OrFault, OrNone};
 ghost use Rattle.schema_spec.specs.Texts.{HasIndexFault, MeansIndex};
 ghost use Rattle.database_spec.specs.Catalogs.{IsIndexMeaning, IsMeaning, IsReadMeaning, IsTableMeaning, MeansUnder, automatic_columns, automatic_index as automatic_index_of, automatic_name as automatic_name_of, index_under};
 ghost use Rattle.schema_spec.specs.Words.{same_name as same_name_of};
 
+use crate::numbers::number_in;
 use database_spec::{SchemaKind, SchemaRow};
 use itoa::Buffer;
 use owned_list::OwnedList;
@@ -179,6 +180,42 @@ fn is_numbered(alloc: Global, row: &SchemaRow, number: usize) -> Result<bool, Al
     Ok(same_name(row.name.as_slice(), &name))
 }
 
+// The number of the automatic index of its table that has the name of the row, if it is one from 1 to `most`.
+fn row_number(row: &SchemaRow, most: usize) -> Option<usize>
+    ensures within { IfSome result (λ n. (1 ≤ n) × (n ≤ most)) }
+    ensures only { (n : ℕ) → 1 ≤ n → n ≤ most → IsTrue (same_name_of row.now.name (automatic_name_of row.now.table n)) → result ≡ Some n }
+{
+    number_in(row.name.as_slice(), row.table.as_slice(), most)
+}
+
+// The columns with this number, from 1.
+fn columns_at(keys: &[OwnedList<(u32, Collation)>], number: usize) -> &[(u32, Collation)]
+    requires first { 1 ≤ number }
+    requires within { number ≤ length keys.now }
+    ensures { slice_get keys.now (number - 1) ≡ Some result.now }
+{
+    keys[number - 1].as_slice()
+}
+
+// The automatic index with the only number that may be that of the row's name.
+fn numbered(
+    alloc: Global,
+    row: &SchemaRow,
+    keys: &[OwnedList<(u32, Collation)>],
+    number: usize,
+) -> Result<Option<Index>, AllocError>
+    requires first { 1 ≤ number }
+    requires within { number ≤ length keys.now }
+    requires only { (n : ℕ) → 1 ≤ n → n ≤ length keys.now → IsTrue (same_name_of row.now.name (automatic_name_of row.now.table n)) → number ≡ n }
+    ensures { IfOk result (λ index. index ≡ option_map (automatic_index_of row.now) (automatic_columns row.now 1 keys.now)) }
+{
+    if is_numbered(alloc, row, number)? {
+        let index = automatic_index(alloc, row, columns_at(keys, number))?;
+        return Ok(Some(index));
+    }
+    Ok(None)
+}
+
 // The automatic index that has the name of the row, among those of its table.
 fn automatic(
     alloc: Global,
@@ -187,16 +224,10 @@ fn automatic(
 ) -> Result<Option<Index>, AllocError>
     ensures { IfOk result (λ index. index ≡ option_map (automatic_index_of row.now) (automatic_columns row.now 1 keys.now)) }
 {
-    let mut number: usize = 1;
-    let mut left = keys;
-    while let [columns, rest @ ..] = left {
-        if is_numbered(alloc, row, number)? {
-            return Ok(Some(automatic_index(alloc, row, columns.as_slice())?));
-        }
-        number += 1;
-        left = rest;
+    match row_number(row, keys.len()) {
+        Some(number) => numbered(alloc, row, keys, number),
+        None => Ok(None),
     }
-    Ok(None)
 }
 
 // What is said of an index of a table in the profile, or `None` where it is an automatic index that the table has not.

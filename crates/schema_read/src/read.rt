@@ -2,10 +2,10 @@
 ghost use Rattle.std.specs.Prelude.{◌≡◌, ◌≤◌, None, IfOk, IfErr, length, map};
 ghost use Rattle.common_spec.specs.Reading.{OrFault};
 ghost use Rattle.page_store.specs.Store.{HasSizes, Looks, OwesBy, Sees};
-ghost use Rattle.tree_spec.specs.Faults.{fault_in as tree_fault_in, IsOther as IsOtherTree};
+ghost use Rattle.tree_spec.specs.Faults.{fault_in as tree_fault_in};
 ghost use Rattle.tree_spec.specs.Standing.{Paged, Sizes};
 ghost use Rattle.schema_read.specs.declared.read.CatalogFault.{CatalogFault};
-ghost use Rattle.schema_read.specs.Answers.{IsOther, ReadsCatalog, ReadsMembers, Say, SaysOrOther, catalog_fault, fault_in, format_in};
+ghost use Rattle.schema_read.specs.Answers.{IsOther, ReadsCatalog, ReadsMembers, Say, SaysOrOther, catalog_fault, fault_in, format_in, told_of_tree};
 ghost use Rattle.schema_read.specs.Checks.{IsBasis};
 ghost use Rattle.schema_read.specs.Rows.{member_of};
 
@@ -16,10 +16,10 @@ use crate::lookup::Catalog;
 use byte_fields::u32_at;
 use database_spec::Catalog as KnownCatalog;
 use page_store::{PageRead, page_buffer};
-use rbu_dump::table_rows;
 use rbu_value::Bytes;
 use refusal::Rule;
 use std::alloc::{AllocError, Global};
+use tree_rows::table_rows;
 use tree_walk::{Row, TreeFault};
 
 /// Why a database has no catalog. `F` is what the store answers where it fails.
@@ -47,8 +47,8 @@ impl<F> From<AllocError> for CatalogFault<F> {
 
 // What stops the walk over the schema's tree. A walk takes no page, and so it meets no freelist and no limit.
 fn of_tree<F>(fault: TreeFault<F>) -> CatalogFault<F>
+    ensures is { result ≡ told_of_tree fault }
     ensures cause { fault_in result ≡ tree_fault_in fault }
-    ensures other { IsOtherTree fault → IsOther result }
 {
     match fault {
         TreeFault::TreeDamaged { page, rule } => CatalogFault::TreeDamaged { page, rule },
@@ -87,8 +87,8 @@ fn say(alloc: Global, basis: Basis, members: &[Row]) -> Result<KnownCatalog, Row
     ensures { (sizes : Sizes) (base : Paged) → IsBasis basis sizes base → Say sizes base (map member_of members.now) result }
 {
     match find_all(alloc, members) {
-        Ok(found) => match check_all(alloc, basis, found.as_slice()) {
-            Ok(placed) => match catalog_of(alloc, found, placed) {
+        Ok(found) => match check_all(alloc, basis, &found) {
+            Ok(placed) => match catalog_of(alloc, found.into_vec(), placed) {
                 Ok(catalog) => Ok(catalog),
                 Err(error) => Err(RowFault::Memory(error)),
             },
@@ -209,7 +209,10 @@ pub fn read_catalog<S: PageRead>(
     ensures owes { OwesBy S.PageRead fault_in store.old store.new result }
 {
     match read_known(alloc, store) {
-        Ok(catalog) => Ok(Catalog::of(catalog)),
+        Ok(known) => match Catalog::of(alloc, known) {
+            Ok(catalog) => Ok(catalog),
+            Err(error) => Err(CatalogFault::Memory(error)),
+        },
         Err(fault) => Err(fault),
     }
 }

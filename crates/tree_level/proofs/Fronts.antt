@@ -1,5 +1,5 @@
 -- What is left of cells while their fronts go to pages that are taken.
-use Rattle.std.proofs.Common.{◌≡◌, ◌≢◌, ℕ, zero, suc, ◌+◌, ◌-◌, ◌*◌, ◌^◌, ◌<◌, ◌≤◌, List, [], ◌∷◌, ◌++◌, Result, Ok, Err, OnOk, length, take, drop, slice_index_or, refl, sym, ap, ◌∙◌, subst, arith}
+use Rattle.std.proofs.Common.{◌≡◌, ◌≢◌, ℕ, zero, suc, ◌+◌, ◌-◌, ◌*◌, ◌^◌, ◌<◌, ◌≤◌, List, [], ◌∷◌, ◌++◌, Result, Ok, Err, OnOk, length, max, take, drop, slice_index_or, refl, sym, ap, ◌∙◌, subst, arith}
 use Rattle.std.proofs.Math.Path.{subst⁻¹}
 use Rattle.std.proofs.lemmas.List.{map-append, drop-drop, length-drop, length-take, length-take-le, get_or-take, get_or-drop, take_all}
 use Rattle.std.specs.List.{All}
@@ -23,6 +23,13 @@ use Rattle.tree_spec.specs.declared.TreeKind.TheVariants.{Table, Index}
 use Rattle.put_spec.specs.Steps.{Spelled, bytes_in, Took, IsFronted}
 use Rattle.put_spec.specs.StepsLaws.{took-written}
 use Rattle.put_spec.specs.SpreadsLaws.{spread-then, spread-settled}
+use Rattle.page_spec.specs.Freelists.{Trunk}
+use Rattle.tree_spec.specs.declared.fault.TreeFault.{TreeFault}
+use Rattle.tree_spec.specs.Worlds.{IsFree}
+use Rattle.tree_spec.specs.ChangesLaws.{free-within}
+use Rattle.tree_pages.specs.Takes.{IsShort, TakesAtMost}
+use Rattle.tree_pages.specs.TakesLaws.{short-then, slack-taken, spread-takes, takes-more}
+use Rattle.put_spec.specs.ImagesLaws.{length-of}
 use Rattle.tree_level.specs.declared.writing.Node.{Node}
 use Rattle.tree_level.specs.Levels.{AreSpelled, WritesPage, WritesNode, IsDivider, left_child, SpreadsTo, Spreads, Settles, MovesOut, above_kind}
 use Rattle.tree_level.proofs.Raised.{front-cut}
@@ -30,6 +37,10 @@ use Rattle.tree_level.proofs.Raised.{front-cut}
 pub on-ok_map : {T E P Q : Type 0} (result : Result T E) → (P → Q) → OnOk result P → OnOk result Q
 on-ok_map (Ok x) more holds = more holds
 on-ok_map (Err e) more holds = tt
+
+pub on-ok_all : {T E P : Type 0} (result : Result T E) → P → OnOk result P
+on-ok_all (Ok x) holds = holds
+on-ok_all (Err e) holds = tt
 
 -- a page that was laid out is written
 pub node-written : (sizes : Sizes) (node : Node) (cells : List (List ℕ)) (page : List ℕ) (usable : ℕ) (a b : Paged) → usable ≡ sizes.usable
@@ -283,3 +294,26 @@ few-most room zero left few = omega arith
 few-most room (suc zero) left few = omega arith
 few-most room (suc (suc zero)) left few = omega arith
 few-most room (suc (suc (suc n))) left few = absurd few
+
+pub few-less : (room n : ℕ) (left : List (List ℕ)) → AreFew room n left → room < needs left → n ≤ 1
+few-less room zero left few over = omega arith
+few-less room (suc zero) left few over = omega arith
+few-less room (suc (suc zero)) left few over = absurd (omega arith)
+few-less room (suc (suc (suc n))) left few over = absurd few
+
+-- How many pages the fronts take.
+
+pub spreads-takes : (sizes : Sizes) (page_kind : PageKind) (bytes dividers left : List (List ℕ)) (a b : Paged) (trunks : List Trunk) → Spreads sizes page_kind bytes dividers left a b
+    → All (IsOneCell page_kind sizes.usable) bytes → IsFree sizes a trunks → TakesAtMost sizes (length dividers) [] a trunks b
+spreads-takes sizes page_kind bytes dividers left a b trunks spreads all free =
+    let of = levels-of page_kind in
+    let cells = spelled-of page_kind sizes.usable bytes all in
+    let s = spreads of.0 of.1 cells.0 of.2 cells.1 in
+    takes-more sizes a b [] trunks (length s.up) (length dividers) (omega (arith, length-of (λ (cell : Spelled). cell.bytes) s.up, ap length s.up_are.bytes_are))
+    (spread-takes sizes of.0 of.1 s.up cells.0 s.back a b [] trunks s.spread free (free-within sizes a trunks free))
+
+-- where no page is left behind them, no more could be taken before than they took
+pub spreads-short : {F : Type 0} (sizes : Sizes) (most limit count : ℕ) (a b : Paged) (trunks : List Trunk) (fault : TreeFault F) → IsFree sizes a trunks → b.count ≤ max limit a.count
+    → (takes : TakesAtMost sizes most [] a trunks b) → IsShort sizes 1 limit b takes.rest count fault → IsShort sizes (most + 1) limit a trunks count fault
+spreads-short sizes most limit count a b trunks fault free limited takes short =
+    short-then sizes limit count fault a b trunks takes.rest most 1 (slack-taken sizes a b [] trunks most limit (free-within sizes a trunks free) takes limited) short

@@ -1,5 +1,5 @@
 // Changes a page that was read, and writes it.
-ghost use Rattle.std.specs.Prelude.{◌≡◌, ◌≤◌, ◌<◌, List, [], IfOk, OnOk, length, max};
+ghost use Rattle.std.specs.Prelude.{◌≡◌, ◌≤◌, ◌<◌, List, [], IfErr, IfOk, OnOk, length, max};
 ghost use Rattle.std.specs.List.{All};
 ghost use Rattle.page_spec.specs.Rooms.{IsOneCell, free_bytes, needs as bytes_needed, right_kept};
 ghost use Rattle.page_store.specs.Store.{HasSizes, IsNumber, OwesBy};
@@ -7,8 +7,9 @@ ghost use Rattle.put_spec.specs.Steps.{Spelled};
 ghost use Rattle.tree_balance.specs.Cuts.{page_room};
 ghost use Rattle.tree_level.specs.Changes.{Changes, ChangesRoot, HasSpelled, WritesChange, behind, bytes_changed, node_of as node_of_change};
 ghost use Rattle.tree_level.specs.Levels.{above_kind};
+ghost use Rattle.tree_pages.specs.Takes.{RefusesShort, RisesBy};
 ghost use Rattle.tree_pages.specs.Writers.{Becomes, sizes_of};
-ghost use Rattle.tree_spec.specs.Faults.{fault_in};
+ghost use Rattle.tree_spec.specs.Faults.{IsOther, fault_in};
 ghost use Rattle.tree_walk.specs.Pages.{IsDecoded};
 
 use crate::cells::{Change, changed_cells, has_room};
@@ -51,6 +52,7 @@ fn write_in_place<S: PageWrite>(
     requires right { page.right ≡ change.right }
     ensures written { OnOk result (Becomes S.PageRead store.old store.new (WritesChange (sizes_of S.PageRead store.old) page change comes.now)) }
     ensures count { S.count store.new ≡ S.count store.old }
+    ensures other { IfErr result IsOther }
     ensures owes { OwesBy S.PageRead fault_in store.old store.new result }
 {
     let number = page.number;
@@ -85,6 +87,7 @@ fn write_anew<S: PageWrite>(
     requires room { (cells : List Spelled) → HasSpelled (S.usable store.old) page cells → bytes_needed (bytes_changed cells change comes.items) ≤ free_bytes page.number (S.usable store.old) page.kind [] }
     ensures written { OnOk result (Becomes S.PageRead store.old store.new (WritesChange (sizes_of S.PageRead store.old) page change comes.items)) }
     ensures count { S.count store.new ≡ S.count store.old }
+    ensures other { IfErr result IsOther }
     ensures owes { OwesBy S.PageRead fault_in store.old store.new result }
 {
     let node = node_of(&page, change);
@@ -111,6 +114,7 @@ pub fn write_changed<S: PageWrite>(
     requires room { (cells : List Spelled) → HasSpelled (S.usable store.old) page cells → bytes_needed (bytes_changed cells change comes.items) ≤ free_bytes page.number (S.usable store.old) page.kind [] }
     ensures written { OnOk result (Becomes S.PageRead store.old store.new (WritesChange (sizes_of S.PageRead store.old) page change comes.items)) }
     ensures count { S.count store.new ≡ S.count store.old }
+    ensures other { IfErr result IsOther }
     ensures owes { OwesBy S.PageRead fault_in store.old store.new result }
 {
     if page.right == change.right {
@@ -141,6 +145,8 @@ fn settle_changed<S: PageWrite>(
     ensures few { IfOk result (λ dividers. bytes_needed comes.items ≤ page_room page.kind (S.usable store.old) → length dividers.items ≤ 2) }
     ensures count { OnOk result (S.count store.old ≤ S.count store.new) }
     ensures most { OnOk result (S.count store.new ≤ max limit (S.count store.old)) }
+    ensures rises { IfOk result (λ dividers. RisesBy S.PageRead (length dividers.items) store.old store.new) }
+    ensures refuses { bytes_needed comes.items ≤ page_room page.kind (S.usable store.old) → RefusesShort S.PageRead 2 limit store.old store.new result }
     ensures owes { OwesBy S.PageRead fault_in store.old store.new result }
 {
     let node = node_of(&page, change);
@@ -178,6 +184,8 @@ pub fn change_page<S: PageWrite>(
     ensures few { IfOk result (λ dividers. bytes_needed comes.items ≤ page_room page.kind (S.usable store.old) → length dividers.items ≤ 2) }
     ensures count { OnOk result (S.count store.old ≤ S.count store.new) }
     ensures most { OnOk result (S.count store.new ≤ max limit (S.count store.old)) }
+    ensures rises { IfOk result (λ dividers. RisesBy S.PageRead (length dividers.items) store.old store.new) }
+    ensures refuses { bytes_needed comes.items ≤ page_room page.kind (S.usable store.old) → RefusesShort S.PageRead 2 limit store.old store.new result }
     ensures owes { OwesBy S.PageRead fault_in store.old store.new result }
 {
     if !has_room(&page, store.usable(), change, comes.as_slice()) {
@@ -208,6 +216,8 @@ fn move_out_changed<S: PageWrite>(
     ensures changed { OnOk result (Becomes S.PageRead store.old store.new (ChangesRoot (sizes_of S.PageRead store.old) page change comes.items)) }
     ensures count { OnOk result (S.count store.old ≤ S.count store.new) }
     ensures most { OnOk result (S.count store.new ≤ max limit (S.count store.old)) }
+    ensures rises { OnOk result (RisesBy S.PageRead 3 store.old store.new) }
+    ensures refuses { RefusesShort S.PageRead 3 limit store.old store.new result }
     ensures owes { OwesBy S.PageRead fault_in store.old store.new result }
 {
     let node = node_of(&page, change);
@@ -245,6 +255,8 @@ pub fn change_root<S: PageWrite>(
     ensures changed { OnOk result (Becomes S.PageRead store.old store.new (ChangesRoot (sizes_of S.PageRead store.old) page change comes.items)) }
     ensures count { OnOk result (S.count store.old ≤ S.count store.new) }
     ensures most { OnOk result (S.count store.new ≤ max limit (S.count store.old)) }
+    ensures rises { OnOk result (RisesBy S.PageRead 3 store.old store.new) }
+    ensures refuses { RefusesShort S.PageRead 3 limit store.old store.new result }
     ensures owes { OwesBy S.PageRead fault_in store.old store.new result }
 {
     if !has_room(&page, store.usable(), change, comes.as_slice()) {

@@ -1,13 +1,14 @@
 // Writes the cells of a page that was read to another page.
-ghost use Rattle.std.specs.Prelude.{◌≡◌, ◌≤◌, ◌<◌, ◌+◌, ◌*◌, [], IfOk, OnOk, length};
+ghost use Rattle.std.specs.Prelude.{◌≡◌, ◌≤◌, ◌<◌, ◌+◌, ◌*◌, [], IfErr, IfOk, OnOk, length, max};
 ghost use Rattle.std.specs.List.{All};
 ghost use Rattle.page_spec.specs.Rooms.{IsOneCell, needs as bytes_needed};
 ghost use Rattle.page_store.specs.Store.{HasSizes, IsNumber, OwesBy};
 ghost use Rattle.tree_balance.specs.Cuts.{page_room};
 ghost use Rattle.tree_level.specs.Changes.{ChangesAt, MovesTo, behind};
 ghost use Rattle.tree_level.specs.Levels.{above_kind};
+ghost use Rattle.tree_pages.specs.Takes.{RefusesShort, RisesBy};
 ghost use Rattle.tree_pages.specs.Writers.{Becomes, sizes_of};
-ghost use Rattle.tree_spec.specs.Faults.{fault_in};
+ghost use Rattle.tree_spec.specs.Faults.{IsOther, fault_in};
 ghost use Rattle.tree_walk.specs.Pages.{IsDecoded};
 
 use crate::cells::{Change, changed_cells, room_in};
@@ -41,6 +42,9 @@ pub fn settle_elsewhere<S: PageWrite>(
     ensures dividers { IfOk result (λ dividers. All (IsOneCell (above_kind page.kind) (S.usable store.old)) dividers.items) }
     ensures few { IfOk result (λ dividers. bytes_needed comes.items ≤ page_room page.kind (S.usable store.old) → length dividers.items ≤ 2) }
     ensures count { OnOk result (S.count store.old ≤ S.count store.new) }
+    ensures most { OnOk result (S.count store.new ≤ max limit (S.count store.old)) }
+    ensures rises { IfOk result (λ dividers. RisesBy S.PageRead (length dividers.items) store.old store.new) }
+    ensures refuses { bytes_needed comes.items ≤ page_room page.kind (S.usable store.old) → RefusesShort S.PageRead 2 limit store.old store.new result }
     ensures owes { OwesBy S.PageRead fault_in store.old store.new result }
 {
     let node = Node {
@@ -76,6 +80,7 @@ pub fn move_cells<S: PageWrite>(
     requires whole { length page.bytes ≡ S.size store.old }
     ensures moved { IfOk result (λ moved. Becomes S.PageRead store.old store.new (MovesTo (sizes_of S.PageRead store.old) page number moved)) }
     ensures count { S.count store.new ≡ S.count store.old }
+    ensures other { IfErr result IsOther }
     ensures owes { OwesBy S.PageRead fault_in store.old store.new result }
 {
     let node = Node {

@@ -6,6 +6,7 @@ ghost use Rattle.page_store.specs.Store.{HasSizes, IsNumber, OwesBy};
 ghost use Rattle.tree_balance.specs.Cuts.{page_room};
 ghost use Rattle.tree_level.specs.Levels.{MovesOut, Settles, above_kind};
 ghost use Rattle.tree_spec.specs.Faults.{fault_in};
+ghost use Rattle.tree_pages.specs.Takes.{RefusesShort, RisesBy};
 ghost use Rattle.tree_pages.specs.Writers.{Becomes, sizes_of};
 
 use crate::spreading::{Spread, spread_cells};
@@ -36,6 +37,8 @@ pub fn settle<S: PageWrite>(
     ensures few { IfOk result (λ dividers. bytes_needed cells.now ≤ 2 * page_room node.kind (S.usable store.old) → length dividers.items ≤ 2) }
     ensures count { OnOk result (S.count store.old ≤ S.count store.new) }
     ensures most { OnOk result (S.count store.new ≤ max limit (S.count store.old)) }
+    ensures rises { IfOk result (λ dividers. RisesBy S.PageRead (length dividers.items) store.old store.new) }
+    ensures refuses { bytes_needed cells.now ≤ 2 * page_room node.kind (S.usable store.old) → RefusesShort S.PageRead 2 limit store.old store.new result }
     ensures owes { OwesBy S.PageRead fault_in store.old store.new result }
 {
     let Spread { dividers, start } = spread_cells(
@@ -76,6 +79,8 @@ pub fn move_out<S: PageWrite>(
     ensures moved { OnOk result (Becomes S.PageRead store.old store.new (MovesOut (sizes_of S.PageRead store.old) root cells.now)) }
     ensures count { OnOk result (S.count store.old ≤ S.count store.new) }
     ensures most { OnOk result (S.count store.new ≤ max limit (S.count store.old)) }
+    ensures rises { OnOk result (RisesBy S.PageRead 3 store.old store.new) }
+    ensures refuses { RefusesShort S.PageRead 3 limit store.old store.new result }
     ensures owes { OwesBy S.PageRead fault_in store.old store.new result }
 {
     let Spread { dividers, start } = spread_cells(

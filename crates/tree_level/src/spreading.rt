@@ -6,6 +6,7 @@ ghost use Rattle.page_store.specs.Store.{HasSizes, OwesBy};
 ghost use Rattle.tree_balance.specs.Cuts.{page_room, risen as cells_risen};
 ghost use Rattle.tree_level.specs.Levels.{Spreads, above_kind};
 ghost use Rattle.tree_spec.specs.Faults.{fault_in};
+ghost use Rattle.tree_pages.specs.Takes.{RefusesShort, RisesBy};
 ghost use Rattle.tree_pages.specs.Writers.{Becomes, sizes_of};
 
 use crate::raising::{child_of, divider_behind};
@@ -50,6 +51,8 @@ fn write_front<S: PageWrite>(
     ensures half { IfOk result (λ front. bytes_needed cells.now ≤ 2 * page_room kind (S.usable store.old) → 2 * bytes_needed (drop (front.used + 1) cells.now) ≤ bytes_needed cells.now) }
     ensures count { OnOk result (S.count store.old ≤ S.count store.new) }
     ensures most { OnOk result (S.count store.new ≤ max limit (S.count store.old)) }
+    ensures rises { OnOk result (RisesBy S.PageRead 1 store.old store.new) }
+    ensures refuses { RefusesShort S.PageRead 1 limit store.old store.new result }
     ensures owes { OwesBy S.PageRead fault_in store.old store.new result }
 {
     let usable = store.usable();
@@ -110,6 +113,8 @@ pub fn spread_cells<S: PageWrite>(
     ensures few { IfOk result (λ spread. bytes_needed cells.now ≤ 2 * page_room kind (S.usable store.old) → length spread.dividers.items ≤ 2) }
     ensures count { OnOk result (S.count store.old ≤ S.count store.new) }
     ensures most { OnOk result (S.count store.new ≤ max limit (S.count store.old)) }
+    ensures rises { IfOk result (λ spread. RisesBy S.PageRead (length spread.dividers.items) store.old store.new) }
+    ensures refuses { bytes_needed cells.now ≤ 2 * page_room kind (S.usable store.old) → RefusesShort S.PageRead 2 limit store.old store.new result }
     ensures owes { OwesBy S.PageRead fault_in store.old store.new result }
 {
     let room = room_of(kind, store.usable());

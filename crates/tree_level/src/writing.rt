@@ -1,10 +1,10 @@
 // Writes pages of trees.
-ghost use Rattle.std.specs.Prelude.{◌≡◌, ◌≤◌, [], ◌++◌, OnOk, length, take, drop};
+ghost use Rattle.std.specs.Prelude.{◌≡◌, ◌≤◌, [], ◌++◌, IfErr, OnOk, length, take, drop};
 ghost use Rattle.std.specs.List.{All};
 ghost use Rattle.page_spec.specs.Rooms.{IsOneCell, free_bytes, needs as bytes_needed};
 ghost use Rattle.page_store.specs.Store.{HasSizes, Looks, OwesBy};
 ghost use Rattle.tree_level.specs.Levels.{WritesNode, WritesPage, with_header};
-ghost use Rattle.tree_spec.specs.Faults.{fault_in};
+ghost use Rattle.tree_spec.specs.Faults.{IsOther, fault_in};
 ghost use Rattle.tree_pages.specs.Writers.{Becomes, sizes_of};
 
 use cell_codec::PageKind;
@@ -41,6 +41,7 @@ fn refresh_header<S: PageWrite>(
     requires some { 1 ≤ S.count store.old }
     requires whole { length page.old ≡ S.size store.old }
     ensures pages { Looks S.PageRead store.old store.new result (λ _ m. page.new ≡ take 100 (m 1) ++ drop 100 page.old) }
+    ensures other { IfErr result IsOther }
     ensures owes { OwesBy S.PageRead fault_in store.old store.new result }
 {
     let mut buffer = page_buffer(alloc, store.page_size())?;
@@ -63,6 +64,7 @@ fn refresh<S: PageWrite>(
     requires some { 1 ≤ S.count store.old }
     requires whole { length page.old ≡ S.size store.old }
     ensures pages { Looks S.PageRead store.old store.new result (λ _ m. page.new ≡ with_header number (m number) page.old) }
+    ensures other { IfErr result IsOther }
     ensures owes { OwesBy S.PageRead fault_in store.old store.new result }
 {
     if number != 1 {
@@ -84,6 +86,7 @@ pub fn write_page<S: PageWrite>(
     requires whole { length page.old ≡ S.size store.old }
     ensures written { OnOk result (Becomes S.PageRead store.old store.new (WritesPage number page.old)) }
     ensures count { S.count store.new ≡ S.count store.old }
+    ensures other { IfErr result IsOther }
     ensures owes { OwesBy S.PageRead fault_in store.old store.new result }
 {
     refresh(alloc, store, number, page)?;
@@ -109,6 +112,7 @@ pub fn write_node<S: PageWrite>(
     requires room { bytes_needed cells.now ≤ free_bytes node.number (S.usable store.old) node.kind [] }
     ensures written { OnOk result (Becomes S.PageRead store.old store.new (WritesNode (sizes_of S.PageRead store.old) node cells.now)) }
     ensures count { S.count store.new ≡ S.count store.old }
+    ensures other { IfErr result IsOther }
     ensures owes { OwesBy S.PageRead fault_in store.old store.new result }
 {
     match rebuild(

@@ -9,7 +9,7 @@ use Rattle.common_spec.specs.Reading.{Reads, OrFault}
 use Rattle.format_spec.specs.Header.{freelist_trunk}
 use Rattle.page_spec.specs.Counts.{times}
 use Rattle.page_spec.specs.CountsLaws.{hit-itself, times-itself}
-use Rattle.page_spec.specs.Pages.{Pages, next_page}
+use Rattle.page_spec.specs.Pages.{Pages, IsInRange, next_page}
 use Rattle.page_spec.specs.Chains.{AreLinked, named_behind, pages_for, IsChain}
 use Rattle.page_spec.specs.Freelists.{Trunk, free_pages, IsFreelist}
 use Rattle.page_spec.specs.FreePages.{due}
@@ -123,6 +123,18 @@ module _ (sizes : Sizes) (a : Paged) (chain : List ℕ) (trunks : List Trunk) wh
       → Giving sizes a chain trunks number (suc many) b → Giving sizes a chain trunks next many c
   one-given number next many b c least within free is releases g =
       subst⁻¹ (λ (n : ℕ). Giving sizes a chain trunks n many c) is (further number many b c g.rest g.left least within free releases g.turns g.linked g.ends g.long)
+
+-- where pages are left, the first of them is in range
+begins : (b : Paged) (size number : ℕ) (left : List ℕ) → AreLinked b.pages size b.count number left → 0 < length left → IsInRange size b.count number
+begins b size number [] linked some = absurd (omega arith)
+begins b size number (x ∷ xs) linked some = subst⁻¹ (IsInRange size b.count) linked.0 linked.1
+
+pub given-in_range : (sizes : Sizes) (a : Paged) (chain : List ℕ) (trunks : List Trunk) (number many : ℕ) (b : Paged) → Giving sizes a chain trunks number many b → 0 < many → IsInRange sizes.size b.count number
+given-in_range sizes a chain trunks number many b g some = begins b sizes.size number g.left g.linked (omega (arith, g.long))
+
+-- behind the last of them stands 0
+pub given-ends : (sizes : Sizes) (a : Paged) (chain : List ℕ) (trunks : List Trunk) (number : ℕ) (b : Paged) → Giving sizes a chain trunks number 0 b → number ≡ 0
+given-ends sizes a chain trunks number b g = subst (λ (left : List ℕ). named_behind b.pages number left ≡ 0) (nil_from_length g.left g.long) g.ends
 
 -- the same of whatever chain stood there
 abbrev pub GivingAny : Sizes → ℕ → ℕ → ℕ → ℕ → Paged → Paged → Type 0

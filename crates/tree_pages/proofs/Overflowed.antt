@@ -1,5 +1,5 @@
 -- What pages hold while an overflow chain is written, its last page first.
-use Rattle.std.proofs.Common.{◌≡◌, ℕ, suc, ◌+◌, ◌-◌, ◌*◌, ◌/◌, ◌%◌, ◌^◌, ◌<◌, ◌≤◌, ◌==◌, if◌then◌else◌, Bool, true, false, List, [], ◌∷◌, length, take, drop, refl, sym, ap, ap₂, ◌∙◌, subst, inl, inr, arith, eq-eqb, length-drop}
+use Rattle.std.proofs.Common.{◌≡◌, ℕ, suc, ◌+◌, ◌-◌, ◌*◌, ◌/◌, ◌%◌, ◌^◌, ◌<◌, ◌≤◌, ◌==◌, if◌then◌else◌, Bool, true, false, List, [], ◌∷◌, length, max, take, drop, refl, sym, ap, ap₂, ◌∙◌, subst, inl, inr, arith, eq-eqb, length-drop}
 use Rattle.std.proofs.Math.Path.{subst⁻¹}
 use Rattle.std.proofs.Math.Nat.{mul-le-mul_left, zero-div, zero-mod}
 use Rattle.std.proofs.lemmas.Bool.{cases_eq, cases_lt, ne_eqb}
@@ -14,14 +14,17 @@ use Rattle.page_spec.specs.Freelists.{Trunk}
 use Rattle.page_spec.specs.FreelistsLaws.{IsInRange-wider}
 use Rattle.page_spec.specs.WrittenChains.{overflow_page, first_of, HoldChain}
 use Rattle.page_spec.specs.WrittenChainsLaws.{SameOn, SameOn-first, SameOn-rest, IsChain-written, chain_bytes-written}
+use Rattle.tree_spec.specs.declared.fault.TreeFault.{TreeFault}
 use Rattle.tree_spec.specs.Standing.{Sizes, Paged, Keeps}
 use Rattle.tree_spec.specs.PagesLaws.{SamePage-whole, header_place-none}
 use Rattle.format_spec.specs.Page.{header_place}
 use Rattle.tree_spec.specs.Worlds.{IsFree}
 use Rattle.tree_spec.specs.Changes.{Turns, Writes}
-use Rattle.tree_spec.specs.ChangesLaws.{Turns-then, Turns-wide, Turns-same, Turns-within, Turns-keeps, free-within}
+use Rattle.tree_spec.specs.ChangesLaws.{Turns-then, Turns-wide, Turns-same, Turns-within, Turns-keeps, free-within, slack-kept}
 use Rattle.put_spec.specs.Steps.{Took}
 use Rattle.put_spec.specs.StepsLaws.{took-written}
+use Rattle.tree_pages.specs.Takes.{IsShort}
+use Rattle.tree_pages.specs.TakesLaws.{short-more, short-then}
 use Rattle.tree_pages.specs.Writers.{HasOverflow}
 
 -- the pages that bytes fill hold them all
@@ -96,6 +99,14 @@ module _ (sizes : Sizes) (a : Paged) (trunks : List Trunk) (bytes : List ℕ) (l
             (IsChain-written b.pages sizes.size sizes.usable b.count w.chain bytes w.fit w.in_range (omega (arith, w.long)) holds);
         holds = chain_bytes-written b.pages sizes.size sizes.usable w.chain bytes holds;
       }
+
+  -- where a page of the chain cannot be taken, fewer pages could be than the bytes fill
+  pub short-written : {F : Type 0} (next left limit count : ℕ) (b : Paged) (fault : TreeFault F) → IsFree sizes a trunks → (w : Writing sizes a trunks bytes next left b) → 0 < left → b.count ≤ max limit a.count
+      → IsShort sizes 1 limit b w.rest count fault → IsShort sizes (pages_for sizes.usable (length bytes)) limit a trunks count fault
+  short-written next left limit count b fault free w some limited short =
+      let kept = slack-kept sizes a b [] w.chain trunks w.rest limit (free-within sizes a trunks free) w.turns limited in
+      short-more sizes limit count fault a trunks (length w.chain + 1) (pages_for sizes.usable (length bytes)) (omega (arith, w.long))
+      (short-then sizes limit count fault a b trunks w.rest (length w.chain) 1 (omega (arith, kept)) short)
 
   -- one page more, in front of those that are written
   pub one-written : (number next left : ℕ) (part : List ℕ) (b d c : Paged) → IsFree sizes a trunks → Took sizes number b d → IsInRange sizes.size d.count number → number < 256 ^ 4

@@ -17,9 +17,11 @@ use Rattle.free_list.specs.declared.fault.FreeFault.TheVariants as free
 use Rattle.free_list.specs.Answers.{RefusesNext, IsBadTake, IsTakeFault, given_page}
 use Rattle.free_list.specs.Answers as freelist
 use Rattle.free_list.specs.Steps.{ChangesFew, Takes}
+use Rattle.free_list.specs.Written.{IsOfStore}
 use Rattle.tree_spec.specs.declared.fault.TreeFault.{TreeFault}
 use Rattle.tree_spec.specs.Faults.{fault_in, IsOther, IsFull}
 use Rattle.tree_pages.specs.Faults.{from_freelist}
+use Rattle.tree_pages.specs.Takes.{IsShort}
 
 pub took : (sizes : Sizes) (limit page count now : ℕ) (old : Pages) (told : Option Pages) → count ≤ now → ChangesFew count page old told
     → ((trunks : List Trunk) → IsFreelist old sizes.size sizes.usable count trunks → Takes sizes.size sizes.usable limit count old trunks page told now)
@@ -109,3 +111,21 @@ refusal {F} pages size usable count limit N fault answer trunks is free answers 
         → IsOther (from_freelist fault) ⊎ (IsFull count limit (from_freelist fault) × (slack size count limit (free_pages trunks) ≡ 0))
     by (inl is_other) = inl (other fault is_other)
     by (inr reads) = inr (refused pages size usable count limit fault trunks free reads.holds)
+
+-- where no page is taken, and the store did not fail, the count stays
+of-store : {F : Type 0} (fault : FreeFault F) → IsOfStore fault → freelist.IsOther fault
+of-store (free.TrunkDamaged page) is = is
+of-store (free.TargetFull has most) is = is
+of-store (free.Store fault) is = is
+of-store (free.Memory error) is = tt
+
+pub stays-refused : {F A B : Type 0} (fault : FreeFault F) (answer : TreeFault F) → answer ≡ from_freelist fault → IsOfStore fault ⊎ (A × B) → IsOther answer ⊎ B
+stays-refused fault answer is (inl of_store) = inl (subst⁻¹ IsOther is (other fault (of-store fault of_store)))
+stays-refused fault answer is (inr stays) = inr stays.1
+
+-- so the fault tells the count that there is then
+pub short : {F : Type 0} (sizes : Sizes) (limit count now : ℕ) (old : Pages) (trunks : List Trunk) (fault : TreeFault F) → IsOther fault ⊎ (now ≡ count)
+    → IsOther fault ⊎ (IsFull count limit fault × (slack sizes.size count limit (free_pages trunks) ≡ 0)) → IsShort sizes 1 limit (record { count = count; pages = old }) trunks now fault
+short sizes limit count now old trunks fault (inl is_other) refused = inl is_other
+short sizes limit count now old trunks fault (inr same) (inl is_other) = inl is_other
+short sizes limit count now old trunks fault (inr same) (inr full) = inr (subst⁻¹ (λ (n : ℕ). IsFull n limit fault) same full.0, omega (arith, full.1))

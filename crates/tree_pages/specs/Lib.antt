@@ -1,3 +1,5 @@
 pub mod Faults
+pub mod Takes
+pub mod TakesLaws
 pub mod Writers
 pub mod WritersLaws

@@ -1,12 +1,14 @@
 // Gives pages back.
-ghost use Rattle.std.specs.Prelude.{◌≡◌, ◌≤◌, IfErr, IfOk, OnOk, List, Some, length};
-ghost use Rattle.page_spec.specs.Chains.{pages_for as pages_of_bytes};
+ghost use Rattle.std.specs.Prelude.{◌≡◌, ◌≤◌, ℕ, IfErr, IfOk, OnOk, List, Some, length};
+ghost use Rattle.page_spec.specs.Chains.{IsChain};
 ghost use Rattle.page_spec.specs.Freelists.{Trunk, IsFreelist};
 ghost use Rattle.page_spec.specs.Pages.{Pages, next_page};
 ghost use Rattle.page_store.specs.Store.{HasSizes, IsNumber, OwesBy};
 ghost use Rattle.put_spec.specs.Steps.{GivesBack, Releases};
+ghost use Rattle.tree_spec.specs.Changes.{Within};
 ghost use Rattle.tree_spec.specs.Faults.{IsOther, fault_in};
-ghost use Rattle.tree_pages.specs.Writers.{Becomes, sizes_of};
+ghost use Rattle.tree_spec.specs.Worlds.{IsFree};
+ghost use Rattle.tree_pages.specs.Writers.{Becomes, paged, sizes_of};
 
 use crate::taking::of_freelist;
 use byte_fields::u32_at;
@@ -50,6 +52,7 @@ fn give_next<S: PageWrite>(
     requires whole { length page.old ≡ S.size store.old }
     ensures released { IfOk result (λ next. Becomes S.PageRead store.old store.new (λ a b. (next ≡ next_page (a.pages number)) × Releases (sizes_of S.PageRead store.old) number a b)) }
     ensures count { OnOk result (S.count store.new ≡ S.count store.old) }
+    ensures sound { (m : Pages) (trunks : List Trunk) → S.pages store.old ≡ Some m → IsFree (sizes_of S.PageRead store.old) (paged S.PageRead store.old m) trunks → IfErr result IsOther }
     ensures owes { OwesBy S.PageRead fault_in store.old store.new result }
 {
     if let Err(fault) = store.page(number, page) {
@@ -63,7 +66,7 @@ fn give_next<S: PageWrite>(
 
 /// Gives back the pages of the overflow chain of so many bytes, in one pass. Refuses [55] with `chain` where it does not end after as many pages as the bytes fill, or a number is out of range.
 ///
-/// After a fault a part of the chain may be free.
+/// Over a chain and a sound freelist that has none of its pages nothing is refused but for the store's faults and memory. After a fault a part of the chain may be free.
 pub fn give_back<S: PageWrite>(
     alloc: Global,
     store: &mut S,
@@ -73,8 +76,13 @@ pub fn give_back<S: PageWrite>(
     requires sizes { HasSizes S.PageRead store.old }
     ensures given { OnOk result (Becomes S.PageRead store.old store.new (GivesBack (sizes_of S.PageRead store.old) first bytes)) }
     ensures count { OnOk result (S.count store.new ≡ S.count store.old) }
+    ensures sound { (m : Pages) (chain : List ℕ) (trunks : List Trunk) → S.pages store.old ≡ Some m → IsChain m (S.size store.old) (S.usable store.old) (S.count store.old) first bytes chain
+        → IsFree (sizes_of S.PageRead store.old) (paged S.PageRead store.old m) trunks → Within (sizes_of S.PageRead store.old) (paged S.PageRead store.old m) chain trunks → IfErr result IsOther }
     ensures owes { OwesBy S.PageRead fault_in store.old store.new result }
 {
+    if bytes == 0 && first == 0 {
+        return Ok(());
+    }
     let mut buffer = page_buffer(alloc, store.page_size())?;
     let page = buffer.as_mut_slice();
     let mut number = first;

@@ -1,12 +1,10 @@
 // Takes pages.
-ghost use Rattle.std.specs.Prelude.{◌≡◌, ◌≤◌, ◌⊎◌, ℕ, IfErr, IfOk, OnOk, Some, List, max};
-ghost use Rattle.page_spec.specs.Freelists.{IsFreelist, Trunk, free_pages};
-ghost use Rattle.page_spec.specs.FreePages.{slack};
-ghost use Rattle.page_spec.specs.Pages.{Pages};
+ghost use Rattle.std.specs.Prelude.{◌≡◌, ◌≤◌, ◌⊎◌, IfErr, IfOk, OnOk, max};
 ghost use Rattle.page_store.specs.Store.{HasSizes, IsNumber, OwesBy};
 ghost use Rattle.put_spec.specs.Steps.{Took};
-ghost use Rattle.tree_spec.specs.Faults.{fault_in, IsOther, IsFull};
+ghost use Rattle.tree_spec.specs.Faults.{IsOther, fault_in};
 ghost use Rattle.tree_pages.specs.Faults.{from_freelist};
+ghost use Rattle.tree_pages.specs.Takes.{RefusesShort, RisesBy};
 ghost use Rattle.tree_pages.specs.Writers.{Becomes, sizes_of};
 
 use free_list::{FreeFault, allocate};
@@ -40,9 +38,9 @@ pub fn take_page<S: PageWrite>(
     ensures in_range { IfOk result (IsNumber S.PageRead store.new) }
     ensures count { OnOk result (S.count store.old ≤ S.count store.new) }
     ensures most { OnOk result (S.count store.new ≤ max limit (S.count store.old)) }
-    ensures refuses { (m : Pages) (trunks : List Trunk) → S.pages store.old ≡ Some m
-        → IsFreelist m (S.size store.old) (S.usable store.old) (S.count store.old) trunks
-        → IfErr result (λ fault. IsOther fault ⊎ (IsFull (S.count store.old) limit fault × (slack (S.size store.old) (S.count store.old) limit (free_pages trunks) ≡ 0))) }
+    ensures rises { OnOk result (RisesBy S.PageRead 1 store.old store.new) }
+    ensures refuses { RefusesShort S.PageRead 1 limit store.old store.new result }
+    ensures stays { IfErr result (λ fault. IsOther fault ⊎ (S.count store.new ≡ S.count store.old)) }
     ensures owes { OwesBy S.PageRead fault_in store.old store.new result }
 {
     match allocate(alloc, store, limit) {

@@ -1,9 +1,11 @@
 // Writes overflow chains over pages that are taken.
-ghost use Rattle.std.specs.Prelude.{◌≡◌, ◌+◌, ◌≤◌, IfOk, OnOk, length, max};
+ghost use Rattle.std.specs.Prelude.{◌≡◌, ◌+◌, ◌≤◌, IfErr, IfOk, OnOk, length, max};
+ghost use Rattle.page_spec.specs.Chains.{pages_for as chain_pages};
 ghost use Rattle.page_spec.specs.Pages.{with_page};
 ghost use Rattle.page_spec.specs.WrittenChains.{overflow_page};
 ghost use Rattle.page_store.specs.Store.{Goes, HasSizes, IsNumber, OwesBy};
-ghost use Rattle.tree_spec.specs.Faults.{fault_in};
+ghost use Rattle.tree_spec.specs.Faults.{IsOther, fault_in};
+ghost use Rattle.tree_pages.specs.Takes.{RefusesShort, RisesBy};
 ghost use Rattle.tree_pages.specs.Writers.{Becomes, WritesOverflow, sizes_of};
 
 use crate::taking::take_page;
@@ -24,6 +26,7 @@ fn write_page<S: PageWrite>(
     requires whole { length page.old ≡ S.size store.old }
     requires room { 4 + length content.now ≤ S.size store.old }
     ensures pages { Goes S.PageRead store.old store.new result (λ m k. k ≡ with_page m number (overflow_page (S.size store.old) next content.now)) }
+    ensures other { IfErr result IsOther }
     ensures owes { OwesBy S.PageRead fault_in store.old store.new result }
 {
     fill(page, next, content);
@@ -51,7 +54,7 @@ fn end_of(bytes: &[u8], start: usize, content: usize) -> usize
 
 /// Writes the bytes as an overflow chain over pages that it takes, and answers the first of them; 0 where there are no bytes. The last page is taken first, so that each is written once, with the number of the next, and no list of pages is kept.
 ///
-/// The store has at least one page. After a fault a part of the chain may be written.
+/// The store has at least one page. Refuses [51] and [50]. After a fault a part of the chain may be written.
 pub fn write_overflow<S: PageWrite>(
     alloc: Global,
     store: &mut S,
@@ -64,8 +67,13 @@ pub fn write_overflow<S: PageWrite>(
     ensures none { length bytes.now ≡ 0 → IfOk result (λ first. first ≡ 0) }
     ensures count { OnOk result (S.count store.old ≤ S.count store.new) }
     ensures most { OnOk result (S.count store.new ≤ max limit (S.count store.old)) }
+    ensures rises { OnOk result (RisesBy S.PageRead (chain_pages (S.usable store.old) (length bytes.now)) store.old store.new) }
+    ensures refuses { RefusesShort S.PageRead (chain_pages (S.usable store.old) (length bytes.now)) limit store.old store.new result }
     ensures owes { OwesBy S.PageRead fault_in store.old store.new result }
 {
+    if bytes.is_empty() {
+        return Ok(0);
+    }
     let mut buffer = page_buffer(alloc, store.page_size())?;
     let page = buffer.as_mut_slice();
     let content = store.usable() as usize - 4;

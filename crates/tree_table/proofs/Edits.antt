@@ -34,7 +34,7 @@ got-meets rowid [] at has = absurd has
 got-meets rowid (view ∷ views) zero has = has
 got-meets rowid (view ∷ views) (suc at) has = got-meets rowid views at has
 
-meets-got : (rowid : ℤ) (views : List CellView) (at : ℕ) → Meets rowid at views → HasRowidAt rowid (slice_get views at)
+pub meets-got : (rowid : ℤ) (views : List CellView) (at : ℕ) → Meets rowid at views → HasRowidAt rowid (slice_get views at)
 meets-got rowid [] at meets = absurd meets
 meets-got rowid (view ∷ views) zero meets = meets
 meets-got rowid (view ∷ views) (suc at) meets = meets-got rowid views at meets

@@ -12,7 +12,7 @@ use Rattle.format_spec.specs.declared.CellView.{CellView}
 use Rattle.format_spec.specs.Cell.{IsCell, cell_bytes, local_size, overflow_size, payload_limit}
 use Rattle.format_spec.specs.Varint.{varint}
 use Rattle.cell_codec.specs.CellLaws.{cell-written, local_size_within}
-use Rattle.page_spec.specs.Chains.{IsChain, chain_bytes}
+use Rattle.page_spec.specs.Chains.{IsChain, chain_bytes, pages_for}
 use Rattle.tree_spec.specs.Standing.{Sizes, Paged}
 use Rattle.tree_pages.specs.Writers.{WritesOverflow}
 use Rattle.tree_table.specs.Puts.{IsRow, MakesRow}
@@ -101,6 +101,7 @@ module _ (usable : ℕ) (rowid : ℤ) (payload : List ℕ) (first : ℕ) where
               );
         };
         rowid_is = refl;
+        many = w.is_chain.many ∙ ap (pages_for sizes.usable) rest ∙ ap (λ (u : ℕ). pages_for sizes.usable (length payload - local_size TableLeaf u (length payload))) (sym same);
       }
 
 pub row-is : (usable : ℕ) (rowid : ℤ) (payload cell : List ℕ) (first : ℕ) (v : CellView) (l : List ℕ) → cell ≡ cell_bytes TableLeaf v l → v.payload ≡ length payload → v.rowid ≡ rowid

@@ -53,7 +53,7 @@ spelled-one kind usable (x ∷ xs) (y ∷ ys) bytes one two =
     let rest = spelled-one kind usable xs ys after one.1 two.1 in
     (λ i. record { bytes = first i; view = view i } ∷ rest i)
 
-same-spelled : (kind : PageKind) (usable : ℕ) (xs ys : List Spelled) (bytes : List (List ℕ)) → AreSpelled kind usable xs bytes → AreSpelled kind usable ys bytes → xs ≡ ys
+pub same-spelled : (kind : PageKind) (usable : ℕ) (xs ys : List Spelled) (bytes : List (List ℕ)) → AreSpelled kind usable xs bytes → AreSpelled kind usable ys bytes → xs ≡ ys
 same-spelled kind usable xs ys bytes one two = spelled-one kind usable xs ys (one.bytes_are ∙ sym two.bytes_are) one.are_cells two.are_cells
 
 none-suc : (n : ℕ) → suc n ≡ 0 → ⊥
@@ -61,7 +61,7 @@ none-suc n e = omega arith
 
 module _ (sizes : Sizes) (page : TreePage) (a : Paged) (there : a.pages page.number ≡ page.bytes) (decoded : IsDecoded page.bytes page.number sizes.usable page) where
   -- the cells of the page that was read stand in it
-  has-cells : (kind : PageKind) → page.kind ≡ kind → (cells : List Spelled) → HasSpelled sizes.usable page cells → HasCells sizes a kind page.number cells page.right
+  pub has-cells : (kind : PageKind) → page.kind ≡ kind → (cells : List Spelled) → HasSpelled sizes.usable page cells → HasCells sizes a kind page.number cells page.right
   has-cells kind same cells has = record {
     is_page = subst (λ (k : PageKind). IsPage (a.pages page.number) page.number sizes.usable k (bytes_in cells) page.right) same
         (subst⁻¹ (λ (b : List ℕ). IsPage b page.number sizes.usable page.kind (bytes_in cells) page.right) there has.is_page);

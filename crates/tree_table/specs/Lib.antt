@@ -1,1 +1,3 @@
+pub mod Deletes
+pub mod Needs
 pub mod Puts

@@ -1,5 +1,5 @@
 -- What a put leaves of a table's tree.
-use Rattle.std.specs.Prelude.{◌≡◌, ◌⊎◌, ◌≤◌, ℕ, ℤ, false, List, [], Option, Some, None}
+use Rattle.std.specs.Prelude.{◌≡◌, ◌⊎◌, ◌≤◌, ℕ, ℤ, false, List, [], Option, Some, None, length}
 use Rattle.format_spec.specs.declared.CellView.{CellView}
 use Rattle.format_spec.specs.declared.PageKind.TheVariants.{TableInterior, TableLeaf}
 use Rattle.format_spec.specs.Cell.{IsCell}
@@ -15,6 +15,7 @@ use Rattle.tree_walk.specs.declared.page.TreePage.{TreePage}
 use Rattle.tree_level.specs.Changes.{Changes, ChangesRoot}
 use Rattle.tree_level.specs.declared.cells.Change.{Change}
 use Rattle.tree_level.specs.Levels.{AreSpelled}
+use Rattle.tree_table.specs.Needs.{overflow_pages}
 
 -- the bytes are a cell of a row with this rowid
 abbrev pub IsRow : ℕ → ℤ → List ℕ → Type 0
@@ -33,6 +34,7 @@ pub record HasRow (sizes : Sizes) (rowid : ℤ) (payload bytes : List ℕ) (old 
   pub turns : Turns sizes old [] trunks new chain rest
   pub held : IsHeld sizes new TableLeaf (record { bytes = bytes; view = view; payload = payload; chain = chain })
   pub rowid_is : view.rowid ≡ rowid
+  pub many : length chain ≡ overflow_pages sizes.usable (length payload)
 
 -- so whatever freelist stood there
 abbrev pub MakesRow : Sizes → ℤ → List ℕ → List ℕ → Paged → Paged → Type 0

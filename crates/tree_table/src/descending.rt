@@ -1,5 +1,5 @@
 // Puts a row below a page.
-ghost use Rattle.std.specs.Prelude.{◌≡◌, ◌≤◌, ◌<◌, ◌⊎◌, ℕ, List, [], ◌∷◌, IfErr, IfOk, None, OnOk, length, max, slice_get};
+ghost use Rattle.std.specs.Prelude.{◌≡◌, ◌≤◌, ◌<◌, ◌+◌, ◌*◌, ◌⊎◌, ℕ, List, [], ◌∷◌, IfErr, IfOk, None, OnOk, length, max, slice_get};
 ghost use Rattle.std.specs.List.{All};
 ghost use Rattle.format_spec.specs.declared.PageKind.TheVariants.{TableInterior, TableLeaf};
 ghost use Rattle.page_spec.specs.Pages.{IsInRange};
@@ -7,10 +7,12 @@ ghost use Rattle.page_spec.specs.Rooms.{IsOneCell};
 ghost use Rattle.page_store.specs.Store.{HasSizes, IsNumber, OwesBy};
 ghost use Rattle.put_spec.specs.Steps.{Spelled, child_page};
 ghost use Rattle.tree_level.specs.Changes.{Changes, HasSpelled};
+ghost use Rattle.tree_pages.specs.Takes.{RefusesShort, RisesBy};
 ghost use Rattle.tree_pages.specs.Writers.{Becomes, sizes_of};
 ghost use Rattle.tree_spec.specs.Faults.{fault_in};
 ghost use Rattle.tree_walk.specs.Pages.{IsDecoded};
 ghost use Rattle.tree_walk.specs.Places.{child_or};
+ghost use Rattle.tree_table.specs.Needs.{RefusesUnder, TakesAt, TakesUnder};
 ghost use Rattle.tree_table.specs.Puts.{IsRow, PutsUnder, Raises};
 
 use crate::leaf::{OldChain, leaf_edit};
@@ -63,6 +65,8 @@ pub fn child_number<S: PageRead>(
     requires { HasSizes S.PageRead store.now }
     ensures child { IfOk result (λ child. (usable : ℕ) (cells : List Spelled) → HasSpelled usable page.now cells → child ≡ child_page at cells page.now.right) }
     ensures in_range { IfOk result (IsNumber S.PageRead store.now) }
+    ensures named { IfOk result (λ child. child ≡ child_or page.now.right (slice_get page.now.views at)) }
+    ensures out { IfErr result (λ _. ¬ IsNumber S.PageRead store.now (child_or page.now.right (slice_get page.now.views at))) }
     ensures cause { IfErr result (λ fault. fault_in fault ≡ None) }
 {
     let child = child_of(page, at);
@@ -92,6 +96,9 @@ fn put_in_leaf<S: PageWrite>(
     ensures few { IfOk result (λ grown. length grown.dividers.items ≤ 2) }
     ensures count { OnOk result (S.count store.old ≤ S.count store.new) }
     ensures most { OnOk result (S.count store.new ≤ max limit (S.count store.old)) }
+    ensures takes { IfOk result (λ _. Becomes S.PageRead store.old store.new (TakesAt (sizes_of S.PageRead store.old) page.number 2)) }
+    ensures rises { OnOk result (RisesBy S.PageRead 2 store.old store.new) }
+    ensures refuses { RefusesShort S.PageRead 2 limit store.old store.new result }
     ensures owes { OwesBy S.PageRead fault_in store.old store.new result }
 {
     let edit = leaf_edit(&page, rowid);
@@ -125,6 +132,9 @@ fn raise<S: PageWrite>(
     ensures few { IfOk result (λ dividers. length dividers.items ≤ 2) }
     ensures count { OnOk result (S.count store.old ≤ S.count store.new) }
     ensures most { OnOk result (S.count store.new ≤ max limit (S.count store.old)) }
+    ensures takes { IfOk result (λ _. Becomes S.PageRead store.old store.new (TakesAt (sizes_of S.PageRead store.old) page.number 2)) }
+    ensures rises { OnOk result (RisesBy S.PageRead 2 store.old store.new) }
+    ensures refuses { RefusesShort S.PageRead 2 limit store.old store.new result }
     ensures owes { OwesBy S.PageRead fault_in store.old store.new result }
 {
     if came.is_empty() {
@@ -156,6 +166,9 @@ pub fn put_below<S: PageWrite>(
     ensures few { IfOk result (λ grown. length grown.dividers.items ≤ 2) }
     ensures count { OnOk result (S.count store.old ≤ S.count store.new) }
     ensures most { OnOk result (S.count store.new ≤ max limit (S.count store.old)) }
+    ensures takes { IfOk result (λ _. Becomes S.PageRead store.old store.new (TakesUnder (sizes_of S.PageRead store.old) number)) }
+    ensures rises { OnOk result (RisesBy S.PageRead (2 * levels + 2) store.old store.new) }
+    ensures refuses { RefusesUnder S.PageRead levels 2 limit number store.old store.new result }
     ensures owes { OwesBy S.PageRead fault_in store.old store.new result }
 {
     let page = read_page(alloc, store, number)?;

@@ -29,8 +29,8 @@ fn has_rowid(view: &CellView, rowid: i64) -> bool
     view.rowid == rowid
 }
 
-// Whether there is a cell at an index, and has a rowid.
-fn meets(views: &[CellView], at: usize, rowid: i64) -> bool
+/// Whether there is a cell at an index, and has a rowid.
+pub fn meets(views: &[CellView], at: usize, rowid: i64) -> bool
     ensures { IsTrue result ↔ HasRowidAt rowid (slice_get views.now at) }
 {
     match views.get(at) {
@@ -39,8 +39,8 @@ fn meets(views: &[CellView], at: usize, rowid: i64) -> bool
     }
 }
 
-// The overflow chain of a cell.
-fn chain_of(view: &CellView) -> OldChain
+/// The overflow chain of a cell.
+pub fn chain_of(view: &CellView) -> OldChain
     ensures first { result.first ≡ view.now.overflow }
     ensures bytes { result.bytes ≡ view.now.payload - view.now.local }
 {

@@ -1,13 +1,15 @@
 // Puts a row into the tree of a root.
-ghost use Rattle.std.specs.Prelude.{◌≡◌, ◌≤◌, ◌<◌, List, IfOk, OnOk, length, max};
+ghost use Rattle.std.specs.Prelude.{◌≡◌, ◌≤◌, ◌<◌, ◌+◌, List, IfOk, OnOk, length, max};
 ghost use Rattle.std.specs.List.{All};
 ghost use Rattle.format_spec.specs.Cell.{payload_limit};
 ghost use Rattle.format_spec.specs.declared.PageKind.TheVariants.{TableInterior, TableLeaf};
 ghost use Rattle.page_spec.specs.Rooms.{IsOneCell};
 ghost use Rattle.page_store.specs.Store.{HasSizes, OwesBy};
+ghost use Rattle.tree_pages.specs.Takes.{RefusesShort, RisesBy};
 ghost use Rattle.tree_pages.specs.Writers.{Becomes, sizes_of};
 ghost use Rattle.tree_spec.specs.Faults.{fault_in};
 ghost use Rattle.tree_walk.specs.Pages.{IsDecoded};
+ghost use Rattle.tree_table.specs.Needs.{RefusesFull, RefusesUnder, put_pages};
 ghost use Rattle.tree_table.specs.Puts.{IsRow, PutsInto, PutsRow, RaisesRoot};
 
 use crate::descending::{child_number, only, put_below};
@@ -45,6 +47,8 @@ fn put_in_root<S: PageWrite>(
     ensures put { IfOk result (λ old. Becomes S.PageRead store.old store.new (λ a b. a.pages page.number ≡ page.bytes → PutsInto (sizes_of S.PageRead store.old) page.number rowid cell old.first old.bytes a b)) }
     ensures count { OnOk result (S.count store.old ≤ S.count store.new) }
     ensures most { OnOk result (S.count store.new ≤ max limit (S.count store.old)) }
+    ensures rises { OnOk result (RisesBy S.PageRead 3 store.old store.new) }
+    ensures refuses { RefusesShort S.PageRead 3 limit store.old store.new result }
     ensures owes { OwesBy S.PageRead fault_in store.old store.new result }
 {
     let edit = leaf_edit(&page, rowid);
@@ -74,6 +78,8 @@ fn raise_root<S: PageWrite>(
     ensures raised { OnOk result (Becomes S.PageRead store.old store.new (RaisesRoot (sizes_of S.PageRead store.old) page at came.items)) }
     ensures count { OnOk result (S.count store.old ≤ S.count store.new) }
     ensures most { OnOk result (S.count store.new ≤ max limit (S.count store.old)) }
+    ensures rises { OnOk result (RisesBy S.PageRead 3 store.old store.new) }
+    ensures refuses { RefusesShort S.PageRead 3 limit store.old store.new result }
     ensures owes { OwesBy S.PageRead fault_in store.old store.new result }
 {
     if came.is_empty() {
@@ -103,6 +109,8 @@ fn put_root<S: PageWrite>(
     ensures put { IfOk result (λ old. Becomes S.PageRead store.old store.new (PutsInto (sizes_of S.PageRead store.old) root rowid cell old.first old.bytes)) }
     ensures count { OnOk result (S.count store.old ≤ S.count store.new) }
     ensures most { OnOk result (S.count store.new ≤ max limit (S.count store.old)) }
+    ensures rises { OnOk result (RisesBy S.PageRead 51 store.old store.new) }
+    ensures refuses { RefusesUnder S.PageRead 24 3 limit root store.old store.new result }
     ensures owes { OwesBy S.PageRead fault_in store.old store.new result }
 {
     let page = read_page(alloc, store, root)?;
@@ -121,7 +129,7 @@ fn put_root<S: PageWrite>(
 
 /// Puts a row into the table at a root, in place of the row of its rowid if there is one. A payload has at most 2147483647 bytes. Pages are taken from the freelist, and where that is empty past the end, up to a limit. Refuses [55] where it meets a damaged page, [50] a damaged freelist, and [51] where a page is needed and none can be taken.
 ///
-/// After an error the store may hold part of the change.
+/// The count of pages rises by at most 54 and the overflow pages of the payload, and [51] comes only where free pages and pages up to the limit were together fewer. After an error the store may hold part of the change.
 pub fn put<S: PageWrite>(
     alloc: Global,
     store: &mut S,
@@ -137,6 +145,8 @@ pub fn put<S: PageWrite>(
     ensures put { OnOk result (Becomes S.PageRead store.old store.new (PutsRow (sizes_of S.PageRead store.old) root (record { rowid = rowid; payload = payload.now }) limit)) }
     ensures count { OnOk result (S.count store.old ≤ S.count store.new) }
     ensures most { OnOk result (S.count store.new ≤ max limit (S.count store.old)) }
+    ensures rises { OnOk result (S.count store.new ≤ S.count store.old + put_pages (S.usable store.old) (length payload.now)) }
+    ensures refuses { RefusesFull S.PageRead root (put_pages (S.usable store.old) (length payload.now)) limit store.old store.new result }
     ensures owes { OwesBy S.PageRead fault_in store.old store.new result }
 {
     let cell = make_cell(alloc, store, rowid, payload, limit)?;

@@ -5,8 +5,10 @@ ghost use Rattle.format_spec.specs.declared.CellView.{CellView};
 ghost use Rattle.format_spec.specs.Cell.{cell_bytes, local_size as local_bytes, payload_limit};
 ghost use Rattle.format_spec.specs.Sizes.{IsUsable};
 ghost use Rattle.page_store.specs.Store.{HasSizes, OwesBy};
+ghost use Rattle.tree_pages.specs.Takes.{RefusesShort, RisesBy};
 ghost use Rattle.tree_pages.specs.Writers.{Becomes, sizes_of};
 ghost use Rattle.tree_spec.specs.Faults.{fault_in};
+ghost use Rattle.tree_table.specs.Needs.{overflow_pages};
 ghost use Rattle.tree_table.specs.Puts.{IsRow, MakesRow};
 
 use cell_codec::{CellView, PageKind, cell_length, local_size, write_cell};
@@ -40,6 +42,8 @@ pub fn make_cell<S: PageWrite>(
     ensures row { IfOk result (IsRow (S.usable store.old) rowid) }
     ensures count { OnOk result (S.count store.old ≤ S.count store.new) }
     ensures most { OnOk result (S.count store.new ≤ max limit (S.count store.old)) }
+    ensures rises { OnOk result (RisesBy S.PageRead (overflow_pages (S.usable store.old) (length payload.now)) store.old store.new) }
+    ensures refuses { RefusesShort S.PageRead (overflow_pages (S.usable store.old) (length payload.now)) limit store.old store.new result }
     ensures owes { OwesBy S.PageRead fault_in store.old store.new result }
 {
     let size = payload.len() as u64;

@@ -1,5 +1,5 @@
 -- What follows for a cursor from what the calls that it makes say.
-use Rattle.std.proofs.Common.{◌≡◌, ◌≢◌, ℕ, ℤ, ◌<◌, List, [], Option, None, IfErr, OnOk, Result, Ok, Err, sym, ap, ◌∙◌, subst, inl, inr, arith}
+use Rattle.std.proofs.Common.{◌≡◌, ◌≢◌, ℕ, ℤ, ◌<◌, List, [], Option, None, IfErr, IfOk, OnOk, Result, Ok, Err, sym, ap, ◌∙◌, subst, inl, inr, arith}
 use Rattle.std.proofs.Math.Path.{subst⁻¹}
 use Rattle.std.proofs.lemmas.Option.{IfSome_then}
 use Rattle.common_spec.specs.Reading.{OrFault}
@@ -11,6 +11,7 @@ use Rattle.overflow_chain.specs.declared.fault.ChainFault.TheVariants as chain
 use Rattle.overflow_chain.specs.Chain.{fault_in as chain_fault_in}
 use Rattle.tree_walk.specs.Payloads.{tree_fault}
 use Rattle.refusal.specs.declared.Rule.{Rule}
+use Rattle.refusal.specs.declared.Rule.TheVariants as broken
 use Rattle.tree_spec.specs.declared.TreeKind.{TreeKind}
 use Rattle.tree_spec.specs.Bounds.{greatest_rowid}
 use Rattle.tree_spec.specs.Standing.{Sizes, Paged}
@@ -22,13 +23,18 @@ use Rattle.tree_walk.specs.declared.page.TreePage.{TreePage}
 use Rattle.tree_walk.specs.declared.place.Place.{Place}
 use Rattle.tree_walk.specs.declared.path.Cursor.{Cursor}
 use Rattle.tree_walk.specs.Pages.{IsDecoded, IsBadRead, IsReadFault, tree_kind}
-use Rattle.tree_walk.specs.Places.{most_above, Rises, child_at, low_at, high_at, IsBadNumber, IsBadPage, IsBounded, IsEntered, IsChild, IsBadRoot, IsBadStep, OutOfOrder, EntersPage, EntersRoot, IsOutOfPlace}
+use Rattle.tree_walk.specs.Places.{most_above, Rises, child_at, low_at, high_at, IsBadNumber, IsBadPage, IsBounded, IsEntered, IsChild, IsBadRoot, IsBadStep, IsNoRoot, OutOfOrder, EntersPage, EntersRoot, IsOutOfPlace}
 use Rattle.tree_walk.specs.Courses.{Course, GoesFrom}
 
 -- what holds in any case holds where a call ends well
 pub ok-so : {T E P : Type 0} (result : Result T E) → P → OnOk result P
 ok-so (Ok done) p = p
 ok-so (Err error) p = tt
+
+-- what follows for what is answered
+pub ok-then : {T E : Type 0} {A B : T → Type 0} (result : Result T E) → IfOk result A → ((done : T) → A done → B done) → IfOk result B
+ok-then (Ok done) is follows = follows done is
+ok-then (Err error) is follows = tt
 
 -- what follows from what a whole answer is
 pub sees-then : {P F : Type 0} (g : Ghosts P F) {before after : P} {A B : Pages → Type 0} → ((m : Pages) → A m → B m) → Sees g before after A → Sees g before after B
@@ -68,8 +74,8 @@ module _ (bytes : List ℕ) (number usable : ℕ) where
   pub refused-page : {F : Type 0} (kind : TreeKind) (low : Option ℤ) (high : ℤ) (fault : TreeFault F) → IsReadFault bytes number usable fault → IsDamageOrOther (IsBadPage bytes number usable kind low high) fault
   refused-page kind low high = damage-then (IsBadRead bytes number usable) (IsBadPage bytes number usable kind low high) (λ page r bad. (bad.0, inl bad.1))
 
-  pub refused-root : {F : Type 0} (fault : TreeFault F) → IsReadFault bytes number usable fault → IsDamageOrOther (IsBadRoot bytes number usable) fault
-  refused-root = damage-then (IsBadRead bytes number usable) (IsBadRoot bytes number usable) (λ page r bad. (bad.0, inl bad.1))
+  pub refused-root : {F : Type 0} (kind : TreeKind) (fault : TreeFault F) → IsReadFault bytes number usable fault → IsDamageOrOther (IsBadRoot bytes number usable kind) fault
+  refused-root kind = damage-then (IsBadRead bytes number usable) (IsBadRoot bytes number usable kind) (λ page r bad. (bad.0, inl bad.1))
 
   -- a page out of its place
   pub misplaced : {F : Type 0} (kind : TreeKind) (low : Option ℤ) (high : ℤ) (read : TreePage) (r : Rule) (fault : TreeFault F) → fault ≡ TreeDamaged read.number r → IsDecoded bytes number usable read
@@ -83,10 +89,16 @@ module _ (bytes : List ℕ) (number usable : ℕ) where
       damage-then (OutOfOrder read low high) (IsBadPage bytes number usable kind low high)
       (λ page r bad. (bad.0 ∙ decoded.number_is, inr (read, decoded, subst⁻¹ (IsOutOfPlace kind low high read) bad.1 (kind_is, some, bad.2)))) fault (damage-weaken (OutOfOrder read low high) fault bad)
 
-  unordered-root : {F : Type 0} (read : TreePage) (fault : TreeFault F) → IsDecoded bytes number usable read → IsDamage (OutOfOrder read None greatest_rowid) fault → IsDamageOrOther (IsBadRoot bytes number usable) fault
-  unordered-root read fault decoded bad =
-      damage-then (OutOfOrder read None greatest_rowid) (IsBadRoot bytes number usable)
-      (λ page r bad. (bad.0 ∙ decoded.number_is, inr (read, decoded, bad.1, bad.2))) fault (damage-weaken (OutOfOrder read None greatest_rowid) fault bad)
+  -- a page of the other kind is no root
+  pub root-misplaced : {F : Type 0} (kind : TreeKind) (read : TreePage) (fault : TreeFault F) → fault ≡ TreeDamaged read.number broken.Kind → IsDecoded bytes number usable read → tree_kind read.kind ≢ kind
+      → IsDamageOrOther (IsBadRoot bytes number usable kind) fault
+  root-misplaced {F} kind read fault is decoded other = subst⁻¹ (λ (f : TreeFault F). IsDamageOrOther (IsBadRoot bytes number usable kind) f) is (decoded.number_is, inr (read, decoded, other))
+
+  unordered-root : {F : Type 0} (kind : TreeKind) (read : TreePage) (fault : TreeFault F) → tree_kind read.kind ≡ kind → IsDecoded bytes number usable read → IsDamage (OutOfOrder read None greatest_rowid) fault
+      → IsDamageOrOther (IsBadRoot bytes number usable kind) fault
+  unordered-root kind read fault kind_is decoded bad =
+      damage-then (OutOfOrder read None greatest_rowid) (IsBadRoot bytes number usable kind)
+      (λ page r bad. (bad.0 ∙ decoded.number_is, inr (read, decoded, subst⁻¹ (IsNoRoot kind read) bad.1 (kind_is, bad.2)))) fault (damage-weaken (OutOfOrder read None greatest_rowid) fault bad)
 
   -- what `stand` answers of a page that was read
   pub stands-below : {F : Type 0} (parent : Place) (low : Option ℤ) (high : ℤ) (read : TreePage) (result : Result Place (TreeFault F)) → low ≡ low_at parent → high ≡ high_at parent
@@ -103,10 +115,19 @@ module _ (bytes : List ℕ) (number usable : ℕ) where
       subst (λ (l : Option ℤ). IsDamageOrOther (IsBadPage bytes number usable (tree_kind parent.page.kind) l (high_at parent)) fault) low_is
       (subst (λ (h : ℤ). IsDamageOrOther (IsBadPage bytes number usable (tree_kind parent.page.kind) low h) fault) high_is (unordered-page (tree_kind parent.page.kind) low high read fault kind some decoded bad))
 
-  pub stands-root : {F : Type 0} (read : TreePage) (result : Result Place (TreeFault F)) → OrFault (IsBounded read None greatest_rowid) (IsDamage (OutOfOrder read None greatest_rowid)) result
-      → IsDecoded bytes number usable read → EntersRoot bytes number usable result
-  stands-root read (Ok place) bounded decoded = entered-place read None greatest_rowid place decoded bounded
-  stands-root read (Err fault) bad decoded = unordered-root read fault decoded bad
+  pub stands-root : {F : Type 0} (kind : TreeKind) (read : TreePage) (result : Result Place (TreeFault F)) → tree_kind read.kind ≡ kind
+      → OrFault (IsBounded read None greatest_rowid) (IsDamage (OutOfOrder read None greatest_rowid)) result → IsDecoded bytes number usable read → EntersRoot bytes number usable kind result
+  stands-root kind read (Ok place) kind_is bounded decoded = record {
+    entered = entered-place read None greatest_rowid place decoded bounded;
+    kind_is = ap (λ (p : TreePage). tree_kind p.kind) bounded.page_is ∙ kind_is;
+  }
+  stands-root kind read (Err fault) kind_is bad decoded = unordered-root kind read fault kind_is decoded bad
+
+-- a page that was stood at has its kind
+pub stands-kind : {F : Type 0} (kind : TreeKind) (low : Option ℤ) (high : ℤ) (read : TreePage) (result : Result Place (TreeFault F)) → tree_kind read.kind ≡ kind
+    → OrFault (IsBounded read low high) (IsDamage (OutOfOrder read low high)) result → IfOk result (λ place. tree_kind place.page.kind ≡ kind)
+stands-kind kind low high read (Ok place) kind_is bounded = ap (λ (p : TreePage). tree_kind p.kind) bounded.page_is ∙ kind_is
+stands-kind kind low high read (Err fault) kind_is bad = tt
 
 module _ (pages : Pages) (size usable count : ℕ) (parent : Place) (above : ℕ) where
   pub bad_number-step : {F : Type 0} (fault : TreeFault F) → IsDamage (IsBadNumber size count parent) fault → IsDamageOrOther (IsBadStep pages size usable count parent above) fault

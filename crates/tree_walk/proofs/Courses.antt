@@ -15,7 +15,8 @@ use Rattle.tree_walk.specs.declared.cursor.Row.{Row}
 use Rattle.tree_walk.specs.Payloads.{ReadsPayload}
 use Rattle.tree_walk.specs.Pages.{view_of, has_dividers, is_leaf}
 use Rattle.tree_walk.specs.Places.{child_at, most_above, IsBadStep, IsChild}
-use Rattle.tree_walk.specs.Courses.{IsPast, Spot, Course, ends, stops, behind_first, spots_from, cells_left, cells_then, cell_then, next_of, OnLeaf, Enters, Behind, FromPlace, From, Below, FromCell, IsLater, IsOn, GoesFrom, StandsOn, IsFirstOf, IsBadFirst}
+use Rattle.tree_walk.specs.Courses.{IsPast, Spot, Course, ends, stops, behind_first, spots_from, cells_left, cells_then, cell_then, next_of, OnLeaf, Enters, Behind, From, Below, FromCell, IsLater, IsOn, GoesFrom, StandsOn, IsFirstOf, IsBadFirst}
+use Rattle.tree_walk.specs.CoursesLaws.{on_leaf, on_inner, to_leaf, to_inner, from_place, to_place}
 use Rattle.tree_walk.proofs.Lists.{reverse-more, not_empty}
 
 leaf_no_dividers : (kind : PageKind) → is_leaf kind ≡ true → has_dividers kind ≡ false
@@ -23,22 +24,6 @@ leaf_no_dividers TableLeaf leaf = refl
 leaf_no_dividers TableInterior leaf = absurd (let e : false ≡ true = leaf in cc)
 leaf_no_dividers IndexLeaf leaf = refl
 leaf_no_dividers IndexInterior leaf = absurd (let e : false ≡ true = leaf in cc)
-
-pub on_leaf : (leaf : Bool) (A B : Type 0) → leaf ≡ true → OnLeaf leaf A B → A
-on_leaf true A B is on = on
-on_leaf false A B is on = absurd (let e : false ≡ true = is in cc)
-
-pub on_inner : (leaf : Bool) (A B : Type 0) → leaf ≡ false → OnLeaf leaf A B → B
-on_inner true A B is on = absurd (let e : true ≡ false = is in cc)
-on_inner false A B is on = on
-
-pub to_leaf : (leaf : Bool) (A B : Type 0) → leaf ≡ true → A → OnLeaf leaf A B
-to_leaf true A B is a = a
-to_leaf false A B is a = absurd (let e : false ≡ true = is in cc)
-
-pub to_inner : (leaf : Bool) (A B : Type 0) → leaf ≡ false → B → OnLeaf leaf A B
-to_inner true A B is b = absurd (let e : true ≡ false = is in cc)
-to_inner false A B is b = b
 
 -- the cells of a leaf from a place on
 cells-past : (place : Place) (later : Course) → length place.page.views ≤ place.at → cells_then place later ≡ later
@@ -64,20 +49,12 @@ cell-entry place later entry =
 
 module _ (sizes : Sizes) (base : Paged) where
   -- the walk from a place on, by the room below it
-  from_place : (room : ℕ) (place : Place) (later course : Course) → From sizes base room place later course → FromPlace sizes base (Below sizes base room) (most_above - room) place later course
-  from_place zero place later course from = from
-  from_place (suc room) place later course from = from
-
-  pub to_place : (room : ℕ) (place : Place) (later course : Course) → FromPlace sizes base (Below sizes base room) (most_above - room) place later course → From sizes base room place later course
-  to_place zero place later course from = from
-  to_place (suc room) place later course from = from
-
   abbrev pub FromChild : ℕ → Place → Course → Course → Type 0
   FromChild room place later course = (behind : Course)
       × (Behind sizes base (Below sizes base room) (most_above - room) (cells_left place) place later behind × Enters sizes base (Below sizes base room) (most_above - room) place behind course)
 
   from_child : (room : ℕ) (place : Place) (later course : Course) → is_leaf place.page.kind ≡ false → From sizes base room place later course → FromChild room place later course
-  from_child room place later course inner from = on_inner (is_leaf place.page.kind) (course ≡ cells_then place later) (FromChild room place later course) inner (from_place room place later course from)
+  from_child room place later course inner from = on_inner (is_leaf place.page.kind) (course ≡ cells_then place later) (FromChild room place later course) inner (from_place sizes base room place later course from)
 
   entered_by : (course : Course) (old new : Cursor) (room : ℕ) → room + length old.above.items ≡ most_above → (later : Course) → IsLater sizes base room (reverse old.above.items) later
       → FromChild room old.here later course → new.above.items ≡ old.above.items ++ old.here ∷ [] → length old.above.items < most_above → IsInRange sizes.size base.count (child_at old.here)
@@ -118,7 +95,7 @@ module _ (sizes : Sizes) (base : Paged) where
       let on = goes.is_on in
       let place = cursor.here in
       let cells : course ≡ cells_then place on.later =
-      on_leaf (is_leaf place.page.kind) (course ≡ cells_then place on.later) (FromChild on.room place on.later course) leaf (from_place on.room place on.later course on.from_here) in
+      on_leaf (is_leaf place.page.kind) (course ≡ cells_then place on.later) (FromChild on.room place on.later course) leaf (from_place sizes base on.room place on.later course on.from_here) in
       record {
         is_on = record {
           room = on.room;
@@ -223,7 +200,7 @@ module _ (sizes : Sizes) (base : Paged) where
         record {
           rest = parts.0;
           goes = at_next (From sizes base) parts.0 on.room on.deep on.later on.is_later
-              (to_place on.room (next_of place) on.later parts.0
+              (to_place sizes base on.room (next_of place) on.later parts.0
               (to_inner (is_leaf place.page.kind) (parts.0 ≡ cells_then (next_of place) on.later) (FromChild on.room (next_of place) on.later parts.0) inner parts.1));
           course_is = parts.2;
         }

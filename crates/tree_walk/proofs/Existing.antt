@@ -17,13 +17,14 @@ use Rattle.tree_spec.specs.BoundsLaws.{rises-bounds, rises-append}
 use Rattle.tree_spec.specs.Standing.{Sizes, Paged}
 use Rattle.tree_walk.specs.declared.place.Place.{Place}
 use Rattle.tree_walk.specs.Pages.{view_of, is_leaf, tree_kind}
-use Rattle.tree_walk.specs.Places.{Rises, child_at, high_at, low_at, low_bound, low_in, most_above, rowid_or, rowids, IsBadRoot, IsBadStep, IsChild, IsEntered}
+use Rattle.tree_walk.specs.Places.{Rises, child_at, high_at, low_at, low_bound, low_in, most_above, rowid_or, rowids, IsBadRoot, IsBadStep, IsChild, IsEntered, IsRootPlace}
 use Rattle.tree_walk.specs.Paths.{IsKept}
 use Rattle.tree_walk.specs.Courses.{Spot, Course, ends, stops, spots_from, cells_left, cells_then, cell_then, next_of, Enters, Behind, From, Below}
 use Rattle.tree_walk.specs.Lengths.{Surely}
 use Rattle.tree_walk.proofs.TreeFacts.{low-next}
 use Rattle.tree_walk.proofs.Paths.{cell_above, cell_within, low_behind, past-high, table_inner, table-rises, next-low}
-use Rattle.tree_walk.proofs.Courses.{cell-divider, to_leaf, to_inner, to_place, FromChild}
+use Rattle.tree_walk.specs.CoursesLaws.{to_leaf, to_inner, to_place}
+use Rattle.tree_walk.proofs.Courses.{cell-divider, FromChild}
 use Rattle.tree_walk.proofs.Uniqueness.{bad_step-one, bad_step-not_entered, entered-one, bad_root-one, bad_root-not_entered}
 
 -- What cannot be refuted.
@@ -272,37 +273,37 @@ module _ (sizes : Sizes) (base : Paged) where
   from-found room = place-found room (below-found room)
 
   -- The walk from a root.
-  abbrev pub AtRoot : ℕ → (Place → Course → Type 0) → Course → Type 0
-  AtRoot root Walks course =
-      ((page : ℕ) (rule : Rule) → IsBadRoot (base.pages root) root sizes.usable page rule → course ≡ stops page rule)
-      × ((place : Place) → IsEntered (base.pages root) root sizes.usable None greatest_rowid place → Walks place course)
+  abbrev pub AtRoot : TreeKind → ℕ → (Place → Course → Type 0) → Course → Type 0
+  AtRoot kind root Walks course =
+      ((page : ℕ) (rule : Rule) → IsBadRoot (base.pages root) root sizes.usable kind page rule → course ≡ stops page rule)
+      × ((place : Place) → IsRootPlace (base.pages root) root sizes.usable kind place → Walks place course)
 
   -- a table's course comes to cells whose rowids rise
-  abbrev pub IsTableCourse : ℕ → Course → Type 0
-  IsTableCourse root course = (place : Place) → IsEntered (base.pages root) root sizes.usable None greatest_rowid place → tree_kind place.page.kind ≡ Table → (low : ℤ) × AreRising low course.spots
+  abbrev pub IsTableCourse : TreeKind → ℕ → Course → Type 0
+  IsTableCourse kind root course = (place : Place) → IsRootPlace (base.pages root) root sizes.usable kind place → tree_kind place.page.kind ≡ Table → (low : ℤ) × AreRising low course.spots
 
-  pub root-found : (Walks : Place → Course → Course → Type 0) → IsFoundBelow Walks → (root : ℕ) → 1 ≤ root → root ≤ base.count
-      → Surely ((course : Course) × AtRoot root (λ place c. Walks place ends c) course × IsTableCourse root course)
-  root-found Walks below root first within =
-      surely-then (surely-decided ((page : ℕ) × (rule : Rule) × IsBadRoot (base.pages root) root sizes.usable page rule)) refused
+  pub root-found : (Walks : Place → Course → Course → Type 0) → IsFoundBelow Walks → (kind : TreeKind) (root : ℕ) → 1 ≤ root → root ≤ base.count
+      → Surely ((course : Course) × AtRoot kind root (λ place c. Walks place ends c) course × IsTableCourse kind root course)
+  root-found Walks below kind root first within =
+      surely-then (surely-decided ((page : ℕ) × (rule : Rule) × IsBadRoot (base.pages root) root sizes.usable kind page rule)) refused
     where
-      entered : ((page : ℕ) (rule : Rule) → IsBadRoot (base.pages root) root sizes.usable page rule → ⊥)
-          → ((place : Place) × IsEntered (base.pages root) root sizes.usable None greatest_rowid place) ⊎ ((place : Place) × IsEntered (base.pages root) root sizes.usable None greatest_rowid place → ⊥)
-          → Surely ((course : Course) × AtRoot root (λ place c. Walks place ends c) course × IsTableCourse root course)
+      entered : ((page : ℕ) (rule : Rule) → IsBadRoot (base.pages root) root sizes.usable kind page rule → ⊥)
+          → ((place : Place) × IsRootPlace (base.pages root) root sizes.usable kind place) ⊎ ((place : Place) × IsRootPlace (base.pages root) root sizes.usable kind place → ⊥)
+          → Surely ((course : Course) × AtRoot kind root (λ place c. Walks place ends c) course × IsTableCourse kind root course)
       entered fine (inr none) =
           surely (ends, (λ page rule bad. absurd (fine page rule bad), λ place is. absurd (none (place, is))), λ place is table. absurd (none (place, is)))
       entered fine (inl one) =
           let place = one.0 in
-          let is = one.1 in
+          let is = one.1.entered in
           surely-then (below place (here-entered root None greatest_rowid place first within is) is.first ends (ends-sound (tree_kind place.page.kind) place.high is.high_is)) (λ found.
           surely (
             found.course,
             (
               λ page rule bad. absurd (fine page rule bad),
-              λ other also. subst (λ (p : Place). Walks p ends found.course) (entered-one (base.pages root) root sizes.usable None greatest_rowid place other is also) found.walks,
+              λ other also. subst (λ (p : Place). Walks p ends found.course) (entered-one (base.pages root) root sizes.usable None greatest_rowid place other is also.entered) found.walks,
             ),
             λ other also table.
-                let same = entered-one (base.pages root) root sizes.usable None greatest_rowid place other is also in
+                let same = entered-one (base.pages root) root sizes.usable None greatest_rowid place other is also.entered in
                 let its_kind : tree_kind place.page.kind ≡ Table = ap (λ (p : Place). tree_kind p.page.kind) same ∙ table in
                 (low_bound place.low, subst (λ (k : TreeKind). IsSound k (low_bound place.low) found.course.spots) its_kind found.sound),
           ))
@@ -311,15 +312,15 @@ module _ (sizes : Sizes) (base : Paged) where
           ends-sound Index high is = tt
           ends-sound Table high is = record { each = tt; rises = subst⁻¹ (λ (h : ℤ). h ≤ℤ greatest_rowid) is (omega (arith, ints)) }
 
-      refused : ((page : ℕ) × (rule : Rule) × IsBadRoot (base.pages root) root sizes.usable page rule) ⊎ ((page : ℕ) × (rule : Rule) × IsBadRoot (base.pages root) root sizes.usable page rule → ⊥)
-          → Surely ((course : Course) × AtRoot root (λ place c. Walks place ends c) course × IsTableCourse root course)
+      refused : ((page : ℕ) × (rule : Rule) × IsBadRoot (base.pages root) root sizes.usable kind page rule) ⊎ ((page : ℕ) × (rule : Rule) × IsBadRoot (base.pages root) root sizes.usable kind page rule → ⊥)
+          → Surely ((course : Course) × AtRoot kind root (λ place c. Walks place ends c) course × IsTableCourse kind root course)
       refused (inl bad) =
           surely (
             stops bad.0 bad.1,
             (
-              λ page rule also. let same = bad_root-one (base.pages root) root sizes.usable bad.0 page bad.1 rule bad.2 also in ap₂ stops same.0 same.1,
-              λ place is. absurd (bad_root-not_entered (base.pages root) root sizes.usable bad.0 bad.1 bad.2 place is),
+              λ page rule also. let same = bad_root-one (base.pages root) root sizes.usable kind bad.0 page bad.1 rule bad.2 also in ap₂ stops same.0 same.1,
+              λ place is. absurd (bad_root-not_entered (base.pages root) root sizes.usable kind bad.0 bad.1 bad.2 place is),
             ),
-            λ place is table. absurd (bad_root-not_entered (base.pages root) root sizes.usable bad.0 bad.1 bad.2 place is),
+            λ place is table. absurd (bad_root-not_entered (base.pages root) root sizes.usable kind bad.0 bad.1 bad.2 place is),
           )
-      refused (inr fine) = surely-then (surely-decided ((place : Place) × IsEntered (base.pages root) root sizes.usable None greatest_rowid place)) (entered (λ page rule bad. fine (page, rule, bad)))
+      refused (inr fine) = surely-then (surely-decided ((place : Place) × IsRootPlace (base.pages root) root sizes.usable kind place)) (entered (λ page rule bad. fine (page, rule, bad)))

@@ -1,16 +1,17 @@
 -- How many cells are left of a walk.
-use Rattle.std.proofs.Common.{◌≡◌, ℕ, ℤ, ◌≤◌, suc, None, List, [], ◌∷◌, length, drop, Result, Ok, Err, OnOk, IfOk, ap, ◌∙◌, inl, inr, sym, arith}
+use Rattle.std.proofs.Common.{◌≡◌, ℕ, ℤ, ◌≤◌, suc, List, [], ◌∷◌, length, drop, Result, Ok, Err, OnOk, IfOk, ap, ◌∙◌, inl, inr, sym, arith}
 use Rattle.std.proofs.lemmas.Bool.{cases_lt}
 use Rattle.format_spec.specs.Sizes.{IsUsable}
 use Rattle.tree_spec.specs.declared.fault.TreeFault.{TreeFault}
-use Rattle.tree_spec.specs.Bounds.{greatest_rowid}
+use Rattle.tree_spec.specs.declared.TreeKind.{TreeKind}
+use Rattle.tree_spec.specs.declared.TreeKind.TheVariants.{Table}
 use Rattle.tree_spec.specs.Standing.{Sizes, Paged}
 use Rattle.common_spec.specs.Reading.{OrFault}
 use Rattle.tree_spec.specs.Faults.{IsDamageOrOther}
 use Rattle.tree_walk.specs.declared.place.Place.{Place}
 use Rattle.tree_walk.specs.declared.path.Cursor.{Cursor}
 use Rattle.tree_walk.specs.Pages.{tree_kind}
-use Rattle.tree_walk.specs.Places.{most_above, IsEntered}
+use Rattle.tree_walk.specs.Places.{most_above, IsRootPlace}
 use Rattle.tree_walk.specs.Courses.{IsPast, Spot, Course, ends, stops, behind_first, StandsOn, MovesOver, StartsWalk, FromRoot, From}
 use Rattle.tree_walk.specs.SoughtCourses.{FromSought, SeeksWalk}
 use Rattle.tree_walk.specs.Rising.{kind_of}
@@ -26,29 +27,29 @@ one_fewer (spot ∷ spots) n few = omega (arith, few)
 
 module _ (sizes : Sizes) (base : Paged) where
   -- each store has a course
-  pub course-found : (root : ℕ) → 1 ≤ root → root ≤ base.count → Surely ((course : Course) × FromRoot sizes base root course)
-  course-found root first within =
-      surely-then (root-found sizes base (From sizes base most_above) (from-found sizes base most_above) root first within) (λ found. surely (found.0, record { refused = found.1.0; entered = found.1.1 }))
+  pub course-found : (kind : TreeKind) (root : ℕ) → 1 ≤ root → root ≤ base.count → Surely ((course : Course) × FromRoot sizes base kind root course)
+  course-found kind root first within =
+      surely-then (root-found sizes base (From sizes base most_above) (from-found sizes base most_above) kind root first within) (λ found. surely (found.0, record { refused = found.1.0; entered = found.1.1 }))
 
   -- a cursor that stands at the first cell of a table has no more before it than the pages hold
-  started-few : {F : Type 0} (Walks : Place → Course → Course → Type 0) → IsFoundBelow sizes base Walks → IsUsable sizes.usable → (root : ℕ) → 1 ≤ root → root ≤ base.count
-      → (here : Place) → IsEntered (base.pages root) root sizes.usable None greatest_rowid here → (result : Result Cursor (TreeFault F))
-      → ((course : Course) → AtRoot sizes base root (λ place c. Walks place ends c) course → OrFault (StandsOn sizes base course) (IsDamageOrOther (λ page rule. course ≡ stops page rule)) result)
+  started-few : {F : Type 0} (Walks : Place → Course → Course → Type 0) → IsFoundBelow sizes base Walks → IsUsable sizes.usable → (kind : TreeKind) (root : ℕ) → 1 ≤ root → root ≤ base.count
+      → (here : Place) → IsRootPlace (base.pages root) root sizes.usable kind here → (result : Result Cursor (TreeFault F))
+      → ((course : Course) → AtRoot sizes base kind root (λ place c. Walks place ends c) course → OrFault (StandsOn sizes base course) (IsDamageOrOther (λ page rule. course ≡ stops page rule)) result)
       → IfOk result (λ cursor. kind_of cursor ≡ tree_kind here.page.kind) → StartsShort sizes base result
-  started-few Walks below fits root first within here entered (Err fault) starts kind = tt
-  started-few Walks below fits root first within here entered (Ok cursor) starts kind = λ table.
-      surely-then (root-found sizes base Walks below root first within) (λ found.
-      let rising = found.2 here entered (sym kind ∙ table) in surely (found.0, starts found.0 found.1, rising-few sizes base fits rising.0 found.0.spots rising.1))
+  started-few Walks below fits kind root first within here entered (Err fault) starts same = tt
+  started-few Walks below fits kind root first within here entered (Ok cursor) starts same = λ table.
+      surely-then (root-found sizes base Walks below kind root first within) (λ found.
+      let rising = found.2 here entered (sym same ∙ table) in surely (found.0, starts found.0 found.1, rising-few sizes base fits rising.0 found.0.spots rising.1))
 
-  pub first-few : {F : Type 0} → IsUsable sizes.usable → (root : ℕ) → 1 ≤ root → root ≤ base.count → (here : Place) → IsEntered (base.pages root) root sizes.usable None greatest_rowid here
-      → (result : Result Cursor (TreeFault F)) → StartsWalk sizes base root result → IfOk result (λ cursor. kind_of cursor ≡ tree_kind here.page.kind) → StartsShort sizes base result
-  first-few fits root first within here entered result starts =
-      started-few (From sizes base most_above) (from-found sizes base most_above) fits root first within here entered result (λ course at_root. starts course (record { refused = at_root.0; entered = at_root.1 }))
+  pub first-few : {F : Type 0} → IsUsable sizes.usable → (kind : TreeKind) (root : ℕ) → 1 ≤ root → root ≤ base.count → (here : Place) → IsRootPlace (base.pages root) root sizes.usable kind here
+      → (result : Result Cursor (TreeFault F)) → StartsWalk sizes base kind root result → IfOk result (λ cursor. kind_of cursor ≡ tree_kind here.page.kind) → StartsShort sizes base result
+  first-few fits kind root first within here entered result starts =
+      started-few (From sizes base most_above) (from-found sizes base most_above) fits kind root first within here entered result (λ course at_root. starts course (record { refused = at_root.0; entered = at_root.1 }))
 
-  pub sought-few : {F : Type 0} → IsUsable sizes.usable → (root : ℕ) → 1 ≤ root → root ≤ base.count → (x : ℤ) → (here : Place) → IsEntered (base.pages root) root sizes.usable None greatest_rowid here
+  pub sought-few : {F : Type 0} → IsUsable sizes.usable → (root : ℕ) → 1 ≤ root → root ≤ base.count → (x : ℤ) → (here : Place) → IsRootPlace (base.pages root) root sizes.usable Table here
       → (result : Result Cursor (TreeFault F)) → SeeksWalk sizes base root x result → IfOk result (λ cursor. kind_of cursor ≡ tree_kind here.page.kind) → StartsShort sizes base result
   sought-few fits root first within x here entered result starts =
-      started-few (FromSought sizes base x most_above) (sought-found sizes base x most_above) fits root first within here entered result (λ course at_root. starts course (record { refused = at_root.0; entered = at_root.1 }))
+      started-few (FromSought sizes base x most_above) (sought-found sizes base x most_above) fits Table root first within here entered result (λ course at_root. starts course (record { refused = at_root.0; entered = at_root.1 }))
 
   -- the next one has one fewer
   pub next-fewer : {T F : Type 0} (old new : Cursor) (result : Result T (TreeFault F)) → MovesOver sizes base old new result → OnOk result (OneFewer sizes base old new)

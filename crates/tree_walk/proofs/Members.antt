@@ -17,7 +17,7 @@ use Rattle.tree_walk.specs.Seeks.{not_less, StandsFrom}
 use Rattle.tree_walk.specs.SoughtCourses.{SeeksWalk}
 use Rattle.tree_walk.specs.Walks.{IsMember, HasMembers, StandsAt, Leaves, StandsFirst, MovesOn, IsFirstRow, ReadsRow}
 use Rattle.tree_walk.proofs.Lists.{zip-behind}
-use Rattle.tree_walk.proofs.Rows.{no_view, payload-one, payload-not_broken}
+use Rattle.tree_walk.specs.PayloadsLaws.{no_view, payload-one, payload-not_broken}
 use Rattle.tree_walk.proofs.Sought.{sought-course}
 use Rattle.tree_walk.proofs.TreeCourses.{tree-course}
 
@@ -40,8 +40,8 @@ module _ (sizes : Sizes) (base : Paged) where
     moved course cursor (Err fault) has bad = undamaged course has fault bad
 
   -- a cursor that stands at the first cell stands at the first member
-  pub first-member : {F : Type 0} (root : ℕ) (result : Result Cursor (TreeFault F)) → StartsWalk sizes base root result → StandsFirst sizes base root result
-  first-member root result starts = λ kind depth members numbers is.
+  pub first-member : {F : Type 0} (kind : TreeKind) (root : ℕ) (result : Result Cursor (TreeFault F)) → StartsWalk sizes base kind root result → StandsFirst sizes base kind root result
+  first-member kind root result starts = λ depth members numbers is.
       let found = tree-course sizes base root kind depth members numbers is in
       started kind members found.course result found.members_are (starts found.course found.walk)
 

@@ -1,75 +1,17 @@
--- The payload of a cell, and what is read of it.
-use Rattle.std.proofs.Common.{◌≡◌, ℕ, pos, ◌+◌, ◌-◌, ◌*◌, ◌/◌, ◌%◌, ◌<◌, ◌⊎◌, ◌==◌, if◌then◌else◌, Bool, List, [], ◌∷◌, ◌++◌, length, Err, refl, sym, ap, ap₂, ◌∙◌, inl, inr, arith, div-add-mod', zero-mul}
+-- What is read of the payload of a cell.
+use Rattle.std.proofs.Common.{◌≡◌, ℕ, ◌⊎◌, Err, refl, inl, inr}
 use Rattle.std.proofs.Math.Path.{subst⁻¹}
-use Rattle.std.proofs.lemmas.Bool.{cases_eq, ne_eqb}
-use Rattle.std.proofs.lemmas.List.{append-nil}
 use Rattle.common_spec.specs.Reading.{OrFault, Reads}
 use Rattle.overflow_chain.specs.declared.fault.ChainFault.{ChainFault}
 use Rattle.overflow_chain.specs.declared.fault.ChainFault.TheVariants as chain
 use Rattle.overflow_chain.specs.Chain.{HoldsBytes, BreaksAt, IsOther as IsOtherChain}
-use Rattle.format_spec.specs.declared.CellView.{CellView}
 use Rattle.page_spec.specs.Pages.{Pages, IsInRange}
-use Rattle.page_spec.specs.Chains.{AreLinked, IsChain, pages_for, chain_bytes}
-use Rattle.page_spec.specs.ChainsLaws.{same_chain, chain-not_broken}
 use Rattle.refusal.specs.declared.Rule.{Rule}
 use Rattle.refusal.specs.declared.Rule.TheVariants as broken
 use Rattle.tree_spec.specs.declared.fault.TreeFault.{TreeFault}
 use Rattle.tree_spec.specs.declared.fault.TreeFault.TheVariants.{TreeDamaged}
 use Rattle.tree_spec.specs.Faults.{IsDamageOrOther}
-use Rattle.tree_walk.specs.Pages.{PageView}
-use Rattle.tree_walk.specs.Payloads.{IsBadChain, IsPayload, part_at, tree_fault}
-
--- only no bytes fill no page
-pages_for-none : (usable bytes : ℕ) → pages_for usable bytes ≡ 0 → bytes ≡ 0
-pages_for-none usable bytes none =
-    let room = usable - 4 in
-    let whole : bytes / room ≡ 0 = omega (arith, none) in
-    elim (cases_eq (bytes % room) 0) [
-      | inl even ↦ sym (div-add-mod' bytes room) ∙ ap₂ (λ (q r : ℕ). q * room + r) whole even ∙ omega (arith, zero-mul room)
-      | inr odd ↦
-          let pick : Bool → ℕ = λ b. if b then 0 else 1 in
-          let one : pick (bytes % room == 0) ≡ 1 = ap pick (ne_eqb (bytes % room) 0 odd) in
-          absurd (omega (arith, none, one))
-    ]
-
--- the first number of a chain of some bytes is in range
-chain-first : (pages : Pages) (size usable count first bytes : ℕ) (numbers : List ℕ) → 0 < bytes → IsChain pages size usable count first bytes numbers → IsInRange size count first
-chain-first pages size usable count first bytes numbers some chain = by numbers chain.linked chain.many
-  where
-    by : (ns : List ℕ) → AreLinked pages size count first ns → length ns ≡ pages_for usable bytes → IsInRange size count first
-    by [] linked many = absurd (omega (arith, some, pages_for-none usable bytes (sym many)))
-    by (n ∷ ns) linked many = subst⁻¹ (IsInRange size count) linked.0 linked.1
-
-module _ (pages : Pages) (size usable count : ℕ) (page : PageView) (at : ℕ) (view : CellView) where
-  abbrev rest_size : ℕ
-  rest_size = view.payload - view.local
-
-  whole_or_rest : (a b : List ℕ) → (rest_size ≡ 0) × (a ≡ part_at page at view) → (rest : List ℕ) × HoldsBytes pages size usable count view.overflow rest_size rest × (b ≡ part_at page at view ++ rest) → a ≡ b
-  whole_or_rest a b one two =
-      one.1 ∙ sym (append-nil (part_at page at view)) ∙ ap (λ (n : ℕ). part_at page at view ++ chain_bytes pages usable two.1.0 n) (sym one.0)
-      ∙ ap (λ (rest : List ℕ). part_at page at view ++ rest) (sym two.1.2) ∙ sym two.2
-
-  -- a cell has one payload
-  pub payload-one : (a b : List ℕ) → IsPayload pages size usable count page at view a → IsPayload pages size usable count page at view b → a ≡ b
-  payload-one a b (inl one) (inl two) = one.1 ∙ sym two.1
-  payload-one a b (inl one) (inr two) = whole_or_rest a b one two
-  payload-one a b (inr one) (inl two) = sym (whole_or_rest b a two one)
-  payload-one a b (inr one) (inr two) =
-      let same = same_chain pages size count usable view.overflow rest_size one.1.0 two.1.0 one.1.1 two.1.1 in
-      one.2 ∙ ap (λ (rest : List ℕ). part_at page at view ++ rest) (one.1.2 ∙ ap (λ (ns : List ℕ). chain_bytes pages usable ns rest_size) same ∙ sym two.1.2) ∙ sym two.2
-
-  -- and its chain is not broken
-  pub payload-not_broken : (payload : List ℕ) → IsPayload pages size usable count page at view payload → 0 < rest_size → (number : ℕ) (r : Rule)
-      → IsBadChain pages size usable count page.number view.overflow rest_size number r → ⊥
-  payload-not_broken payload (inl one) some number r bad = omega (arith, some, one.0)
-  payload-not_broken payload (inr one) some number r bad = elim bad.1 [
-    | inl first ↦ first.1 (chain-first pages size usable count view.overflow rest_size one.1.0 some one.1.1)
-    | inr later ↦ chain-not_broken pages size count usable view.overflow rest_size one.1.0 number one.1.1 later.1
-  ]
-
--- any view
-abbrev pub no_view : CellView
-no_view = record { size = 0; rowid = pos 0; child = 0; payload = 0; local_at = 0; local = 0; overflow = 0 }
+use Rattle.tree_walk.specs.Payloads.{IsBadChain, tree_fault}
 
 -- What is read of a chain.
 module _ (pages : Pages) (size usable count number first bytes : ℕ) where

@@ -25,7 +25,7 @@ use Rattle.tree_walk.proofs.Loops.{not_le}
 use Rattle.tree_walk.proofs.TreeFacts.{views_of, child_tree, behind_child, from_child-all, IsWithin, leaf-at, interior-at, tree-rises, child-stands, child-full, child-within}
 use Rattle.tree_walk.proofs.TreePlaces.{IsPlace, place-views, interior-views, moved-place, root_within_is}
 use Rattle.tree_walk.proofs.TreeCourses.{joined, joined-more, own_view, place-view, leaf-members, Covers, enters, behind-covers, tree-covers, HasCourse, AtEntered, covers-root}
-use Rattle.tree_walk.proofs.Courses.{to_leaf, to_inner}
+use Rattle.tree_walk.specs.CoursesLaws.{to_leaf, to_inner}
 
 -- Comparisons.
 
@@ -219,7 +219,7 @@ module _ (sizes : Sizes) (base : Paged) (x : ℤ) where
   pub sought-course : (root depth : ℕ) (members : List Member) (numbers : List ℕ) → IsTree sizes base root Table depth members numbers → HasCourse sizes base Table (FromRowid sizes base x root) (not_less x members)
   sought-course root depth members numbers is =
       let found = by is.rooted.kind is.rooted.levels is.rooted.tree is.kind_is is.is_root (omega (arith, is.deep, is.depth_is)) in
-      let at_root = subst (λ (n : ℕ). AtEntered sizes base n (λ place course. FromSought sizes base x most_above place ends course) found.course) is.root_is found.walk in
+      let at_root = subst (λ (n : ℕ). AtEntered sizes base Table n (λ place course. FromSought sizes base x most_above place ends course) found.course) is.root_is found.walk in
       record {
         course = found.course;
         walk = record { refused = at_root.0; entered = at_root.1 };
@@ -227,7 +227,7 @@ module _ (sizes : Sizes) (base : Paged) (x : ℤ) where
       }
     where
       by : (kind : TreeKind) (levels : ℕ) (tree : TreeOf levels) → kind ≡ Table → IsRoot sizes base (record { kind = kind; levels = levels; tree = tree }) → levels ≤ most_above
-          → HasCourse sizes base Table (AtEntered sizes base (page_of levels tree) (λ place course. FromSought sizes base x most_above place ends course)) (not_less x (list_of kind levels tree))
+          → HasCourse sizes base Table (AtEntered sizes base Table (page_of levels tree) (λ place course. FromSought sizes base x most_above place ends course)) (not_less x (list_of kind levels tree))
       by Index levels tree is root deep = absurd (let e : Index ≡ Table = is in cc)
       by Table levels tree is root deep =
           let rooted : Rooted = record { kind = Table; levels = levels; tree = tree } in

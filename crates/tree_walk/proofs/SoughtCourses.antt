@@ -14,7 +14,7 @@ use Rattle.tree_walk.specs.Places.{child_at, most_above, rowids, IsBadStep, IsCh
 use Rattle.tree_walk.specs.Seeks.{IsAimed, IsIndexOf}
 use Rattle.tree_walk.specs.Courses.{Course, ends, stops, cells_left, cells_then, Enters, Behind, Below, FromCell, IsLater, IsOn}
 use Rattle.tree_walk.specs.SoughtCourses.{place_at, FromAimed, FromSought, Deeper}
-use Rattle.tree_walk.proofs.Courses.{on_leaf, on_inner, to_leaf}
+use Rattle.tree_walk.specs.CoursesLaws.{on_leaf, on_inner, to_leaf}
 use Rattle.tree_walk.proofs.Lists.{reverse-more}
 
 module _ (sizes : Sizes) (base : Paged) (x : ℤ) where

@@ -17,7 +17,7 @@ use Rattle.tree_walk.specs.Seeks.{IsIndexOf}
 use Rattle.tree_walk.specs.SoughtCourses.{place_at, FromAimed, FromSought}
 use Rattle.tree_walk.proofs.TreeFacts.{low-next}
 use Rattle.tree_walk.proofs.Paths.{table-rises}
-use Rattle.tree_walk.proofs.Courses.{to_leaf, to_inner}
+use Rattle.tree_walk.specs.CoursesLaws.{to_leaf, to_inner}
 use Rattle.tree_walk.proofs.Sought.{index_in, index-is, index-one, index-within}
 use Rattle.tree_walk.proofs.Existing.{surely, surely-then, rowid_of, IsHere, IsSound, Found, IsFoundBelow, leaf-sound, enters-found, behind-found, below-found}
 

@@ -1,5 +1,5 @@
 -- The walk over a standing tree comes to the cells of its members, and to its end.
-use Rattle.std.proofs.Common.{◌≡◌, ℕ, zero, suc, ◌+◌, ◌-◌, ◌<◌, ◌≤◌, Bool, true, false, cond, List, [], ◌∷◌, ◌++◌, length, map, drop, slice_index_or, None, refl, sym, ap, ap₂, ◌∙◌, subst, inr, arith, append_assoc}
+use Rattle.std.proofs.Common.{◌≡◌, ℕ, zero, suc, ◌+◌, ◌-◌, ◌<◌, ◌≤◌, Bool, true, false, cond, List, [], ◌∷◌, ◌++◌, length, map, drop, slice_index_or, refl, sym, ap, ap₂, ◌∙◌, subst, inr, arith, append_assoc}
 use Rattle.std.proofs.Math.Path.{subst⁻¹}
 use Rattle.std.specs.List.{AllZip}
 use Rattle.std.proofs.lemmas.List.{length-map, append-nil, drop_all}
@@ -13,19 +13,19 @@ use Rattle.refusal.specs.declared.Rule.{Rule}
 use Rattle.tree_spec.specs.declared.TreeKind.{TreeKind}
 use Rattle.tree_spec.specs.declared.TreeKind.TheVariants.{Table, Index}
 use Rattle.tree_spec.specs.Trees.{TreeCell, TreeOf, Rooted, Member, member, between, kind_at, interior_kind, page_of, root_of, own_cells, cells_behind, list_of, list_in, IsFullBelow}
-use Rattle.tree_spec.specs.Bounds.{greatest_rowid}
 use Rattle.tree_spec.specs.Standing.{Sizes, Paged, IsHeld, Stands, IsRoot, IsTree}
 use Rattle.tree_walk.specs.declared.place.Place.{Place}
 use Rattle.tree_walk.specs.Pages.{PageView, view_of, is_leaf, has_dividers}
 use Rattle.tree_walk.specs.Payloads.{IsPayload, part_at}
-use Rattle.tree_walk.specs.Places.{most_above, IsBadRoot, IsEntered}
+use Rattle.tree_walk.specs.Places.{most_above, IsBadRoot, IsRootPlace}
 use Rattle.tree_walk.specs.Courses.{Spot, Course, ends, stops, spots_from, cells_left, cells_then, cell_then, next_of, Enters, Behind, From, FromRoot}
 use Rattle.tree_walk.specs.Walks.{IsMember, HasMembers}
 use Rattle.tree_walk.proofs.Lists.{zip-join}
-use Rattle.tree_walk.proofs.PageFacts.{local_part}
+use Rattle.tree_walk.specs.PayloadsLaws.{local_part}
 use Rattle.tree_walk.proofs.TreeFacts.{CellAt, cell-at, all-at, views_of, child_tree, behind_child, from_child-all, from_child-cut, behind-past, behind-cell, tree_kind-at, leaf-at, interior-at, held-own, child-stands, child-full}
 use Rattle.tree_walk.proofs.TreePlaces.{IsPlace, place-views, interior-views, child-place, step-not_refused, moved-place, root-place, root-not_refused}
-use Rattle.tree_walk.proofs.Courses.{to_leaf, to_inner, to_place, FromChild}
+use Rattle.tree_walk.specs.CoursesLaws.{to_leaf, to_inner, to_place}
+use Rattle.tree_walk.proofs.Courses.{FromChild}
 
 -- these cells, and then what is behind them
 abbrev pub joined : List Spot → Course → Course
@@ -231,32 +231,33 @@ pub record HasCourse (sizes : Sizes) (base : Paged) (kind : TreeKind) (Walk : Co
   pub walk : Walk course
   pub members_are : HasMembers sizes base kind members course
 
-abbrev pub AtEntered : Sizes → Paged → ℕ → (Place → Course → Type 0) → Course → Type 0
-AtEntered sizes base root Walk course =
-    ((page : ℕ) (rule : Rule) → IsBadRoot (base.pages root) root sizes.usable page rule → course ≡ stops page rule)
-    × ((place : Place) → IsEntered (base.pages root) root sizes.usable None greatest_rowid place → Walk place course)
+abbrev pub AtEntered : Sizes → Paged → TreeKind → ℕ → (Place → Course → Type 0) → Course → Type 0
+AtEntered sizes base kind root Walk course =
+    ((page : ℕ) (rule : Rule) → IsBadRoot (base.pages root) root sizes.usable kind page rule → course ≡ stops page rule)
+    × ((place : Place) → IsRootPlace (base.pages root) root sizes.usable kind place → Walk place course)
 
 -- nothing is behind the tree of a root
 pub covers-root : (sizes : Sizes) (base : Paged) (rooted : Rooted) (is : IsRoot sizes base rooted) (Walk : Place → Course → Course → Type 0) (members : List Member)
     → Covers sizes base rooted.kind (λ later course. (place : Place) → IsPlace sizes base rooted.kind rooted.levels rooted.tree place → place.at ≡ 0 → Walk place later course) members
-    → HasCourse sizes base rooted.kind (AtEntered sizes base (root_of rooted) (λ place course. Walk place ends course)) members
+    → HasCourse sizes base rooted.kind (AtEntered sizes base rooted.kind (root_of rooted) (λ place course. Walk place ends course)) members
 covers-root sizes base rooted is Walk members covers = record {
   course = joined covers.spots ends;
   walk = (
     λ page rule bad. absurd (root-not_refused sizes base rooted is page rule bad),
-    λ place entered. covers.walks ends place (root-place sizes base rooted is place entered) entered.first,
+    λ place at_root. covers.walks ends place (root-place sizes base rooted is place at_root.entered) at_root.entered.first,
   );
   members_are = record { cells = subst⁻¹ (λ (spots : List Spot). AllZip (IsMember sizes base rooted.kind) spots members) (append-nil covers.spots) covers.cells; undamaged = refl };
 }
 
 -- a standing tree has a course
 pub tree-course : (sizes : Sizes) (base : Paged) (root : ℕ) (kind : TreeKind) (depth : ℕ) (members : List Member) (numbers : List ℕ) → IsTree sizes base root kind depth members numbers
-    → HasCourse sizes base kind (FromRoot sizes base root) members
+    → HasCourse sizes base kind (FromRoot sizes base kind root) members
 tree-course sizes base root kind depth members numbers is =
     let rooted = is.rooted in
     let covers = tree-covers sizes base rooted.kind most_above rooted.levels (omega (arith, is.deep, is.depth_is)) rooted.tree is.is_root.stands is.is_root.full.below in
     let found = covers-root sizes base rooted is.is_root (From sizes base most_above) (list_in rooted) covers in
-    let at_root = subst (λ (n : ℕ). AtEntered sizes base n (λ place course. From sizes base most_above place ends course) found.course) is.root_is found.walk in
+    let at_root = subst (λ (k : TreeKind). AtEntered sizes base k root (λ place course. From sizes base most_above place ends course) found.course) is.kind_is
+    (subst (λ (n : ℕ). AtEntered sizes base rooted.kind n (λ place course. From sizes base most_above place ends course) found.course) is.root_is found.walk) in
     record {
       course = found.course;
       walk = record { refused = at_root.0; entered = at_root.1 };

@@ -15,7 +15,7 @@ use Rattle.tree_spec.specs.Standing.{Sizes, Paged, Stands, IsRoot}
 use Rattle.tree_walk.specs.declared.page.TreePage.{TreePage}
 use Rattle.tree_walk.specs.declared.place.Place.{Place}
 use Rattle.tree_walk.specs.Pages.{IsDecoded, tree_kind}
-use Rattle.tree_walk.specs.Places.{Rises, child_or, rowid_or, low_in, child_at, low_at, high_at, IsBadStep, IsOutOfPlace, IsBadRoot, IsEntered, IsChild}
+use Rattle.tree_walk.specs.Places.{Rises, child_or, rowid_or, low_in, child_at, low_at, high_at, IsBadStep, IsOutOfPlace, IsBadRoot, IsEntered, IsNoRoot, IsChild}
 use Rattle.tree_walk.proofs.TreeFacts.{IsWithin, child_tree, tree_kind-at, not-refused, read-kind, read-tree_kind, read-views, read-right, tree-rises, child-page, child-stands, child-full, child-within}
 
 -- the place is in the own page of a standing tree
@@ -151,10 +151,21 @@ module _ (sizes : Sizes) (base : Paged) (rooted : Rooted) (is : IsRoot sizes bas
   root_in_order : (read : TreePage) → IsDecoded (base.pages (page_of rooted.levels rooted.tree)) (page_of rooted.levels rooted.tree) sizes.usable read → Rises (tree_kind read.kind) None greatest_rowid read.views
   root_in_order = in_order sizes base rooted.kind rooted.levels rooted.tree is.stands is.full.below None greatest_rowid root_within_is
 
-  pub root-not_refused : (page : ℕ) (r : Rule) → IsBadRoot (base.pages (page_of rooted.levels rooted.tree)) (page_of rooted.levels rooted.tree) sizes.usable page r → ⊥
+  root-not_out : (read : TreePage) (r : Rule) → IsDecoded (base.pages (page_of rooted.levels rooted.tree)) (page_of rooted.levels rooted.tree) sizes.usable read → IsNoRoot rooted.kind read r → ⊥
+  root-not_out read broken.Kind decoded wrong = wrong (read-tree_kind sizes base rooted.kind rooted.levels rooted.tree is.stands read decoded)
+  root-not_out read broken.Cells decoded wrong = wrong.1 (root_in_order read decoded)
+  root-not_out read broken.Empty decoded wrong = wrong
+  root-not_out read broken.Child decoded wrong = wrong
+  root-not_out read broken.Depth decoded wrong = wrong
+  root-not_out read broken.Chain decoded wrong = wrong
+  root-not_out read broken.Trunk decoded wrong = wrong
+  root-not_out read broken.Count decoded wrong = wrong
+  root-not_out read broken.Record decoded wrong = wrong
+
+  pub root-not_refused : (page : ℕ) (r : Rule) → IsBadRoot (base.pages (page_of rooted.levels rooted.tree)) (page_of rooted.levels rooted.tree) sizes.usable rooted.kind page r → ⊥
   root-not_refused page r bad = elim bad.1 [
     | inl refused ↦ not-refused sizes base rooted.kind rooted.levels rooted.tree is.stands r refused
-    | inr out ↦ out.3 (root_in_order out.0 out.1)
+    | inr wrong ↦ root-not_out wrong.0 r wrong.1 wrong.2
   ]
 
   -- the place of a root

@@ -7,7 +7,7 @@ use Rattle.format_spec.specs.declared.CellView.{CellView}
 use Rattle.format_spec.specs.Page.{RightChild, cell_place, header_place}
 use Rattle.page_spec.specs.Pages.{Pages, IsInRange}
 use Rattle.page_spec.specs.Rooms.{array_end}
-use Rattle.page_layout.specs.Views.{HasKind, IsRefused}
+use Rattle.page_layout.specs.Views.{IsRefused}
 use Rattle.page_layout.specs.ViewsLaws.{kind_byte-same}
 use Rattle.refusal.specs.declared.Rule.{Rule}
 use Rattle.refusal.specs.declared.Rule.TheVariants as broken
@@ -16,7 +16,8 @@ use Rattle.tree_spec.specs.Bounds.{greatest_rowid}
 use Rattle.tree_walk.specs.declared.page.TreePage.{TreePage}
 use Rattle.tree_walk.specs.declared.place.Place.{Place}
 use Rattle.tree_walk.specs.Pages.{IsDecoded, tree_kind}
-use Rattle.tree_walk.specs.Places.{Rises, child_at, low_at, high_at, most_above, IsBadPage, IsBadRoot, IsBadStep, IsChild, IsEntered, IsOutOfPlace}
+use Rattle.tree_walk.specs.PagesLaws.{refused-one, refused-not_read}
+use Rattle.tree_walk.specs.Places.{Rises, child_at, low_at, high_at, most_above, IsBadPage, IsBadRoot, IsBadStep, IsChild, IsEntered, IsNoRoot, IsOutOfPlace, IsRootPlace}
 use Rattle.tree_walk.proofs.TreeFacts.{right-one, views-one}
 
 -- pages of one number, kind, right child, and of the same bytes and views are one page
@@ -40,41 +41,6 @@ module _ (bytes : List ℕ) (number usable : ℕ) where
       let kind : a.kind ≡ b.kind = kind_byte-same a.kind b.kind (sym one.kind_is ∙ two.kind_is) in
       same_page a b (one.number_is ∙ sym two.number_is) kind (one.bytes_are ∙ sym two.bytes_are) (views-one bytes number usable a.views b.views one.has_views two.has_views)
       (right-one b.kind bytes (header_place number) a.right b.right (subst (λ (k : PageKind). RightChild k bytes (header_place number) a.right) kind one.right_is) two.right_is)
-
-  -- why a page is refused
-  abbrev WhyRefused : Rule → Type 0
-  WhyRefused r = ((r ≡ broken.Kind) × ((kind : PageKind) → ¬ HasKind bytes number kind)) ⊎ ((r ≡ broken.Cells) × ((kind : PageKind) × HasKind bytes number kind))
-
-  why_refused : (r : Rule) → IsRefused bytes number usable r → WhyRefused r
-  why_refused broken.Kind refused = inl (refl, refused)
-  why_refused broken.Cells refused = inr (refl, refused.0)
-  why_refused broken.Child refused = absurd refused
-  why_refused broken.Depth refused = absurd refused
-  why_refused broken.Empty refused = absurd refused
-  why_refused broken.Chain refused = absurd refused
-  why_refused broken.Trunk refused = absurd refused
-  why_refused broken.Count refused = absurd refused
-  why_refused broken.Record refused = absurd refused
-
-  refused-one : (r s : Rule) → IsRefused bytes number usable r → IsRefused bytes number usable s → r ≡ s
-  refused-one r s one two = by (why_refused r one) (why_refused s two)
-    where
-      by : WhyRefused r → WhyRefused s → r ≡ s
-      by (inl a) (inl b) = a.0 ∙ sym b.0
-      by (inl a) (inr b) = absurd (a.1 b.1.0 b.1.1)
-      by (inr a) (inl b) = absurd (b.1 a.1.0 a.1.1)
-      by (inr a) (inr b) = a.0 ∙ sym b.0
-
-  refused-not_read : (r : Rule) → IsRefused bytes number usable r → (read : TreePage) → IsDecoded bytes number usable read → ⊥
-  refused-not_read broken.Kind refused read decoded = refused read.kind decoded.kind_is
-  refused-not_read broken.Cells refused read decoded = let has = decoded.has_views in refused.1 has.kind has.cells has.right has.is_page
-  refused-not_read broken.Child refused read decoded = refused
-  refused-not_read broken.Depth refused read decoded = refused
-  refused-not_read broken.Empty refused read decoded = refused
-  refused-not_read broken.Chain refused read decoded = refused
-  refused-not_read broken.Trunk refused read decoded = refused
-  refused-not_read broken.Count refused read decoded = refused
-  refused-not_read broken.Record refused read decoded = refused
 
 -- why a page that was read is out of its place
 module _ (kind : TreeKind) (low : Option ℤ) (high : ℤ) (read : TreePage) where
@@ -174,22 +140,56 @@ entered-one bytes number usable low high a b one two =
     let at : a.at ≡ b.at = one.first ∙ sym two.first in
     λ i. record { page = page i; low = lower i; high = higher i; at = at i }
 
-module _ (bytes : List ℕ) (number usable : ℕ) where
-  pub bad_root-one : (page other : ℕ) (r s : Rule) → IsBadRoot bytes number usable page r → IsBadRoot bytes number usable other s → Same page r other s
+-- why a page that was read is no root of this kind
+module _ (kind : TreeKind) (read : TreePage) where
+  abbrev WhyNoRoot : Rule → Type 0
+  WhyNoRoot r = ((r ≡ broken.Kind) × (tree_kind read.kind ≢ kind)) ⊎ ((r ≡ broken.Cells) × ((tree_kind read.kind ≡ kind) × ¬ Rises (tree_kind read.kind) None greatest_rowid read.views))
+
+  why_no_root : (r : Rule) → IsNoRoot kind read r → WhyNoRoot r
+  why_no_root broken.Kind wrong = inl (refl, wrong)
+  why_no_root broken.Cells wrong = inr (refl, (wrong.0, wrong.1))
+  why_no_root broken.Empty wrong = absurd wrong
+  why_no_root broken.Child wrong = absurd wrong
+  why_no_root broken.Depth wrong = absurd wrong
+  why_no_root broken.Chain wrong = absurd wrong
+  why_no_root broken.Trunk wrong = absurd wrong
+  why_no_root broken.Count wrong = absurd wrong
+  why_no_root broken.Record wrong = absurd wrong
+
+  no_root-one : (r s : Rule) → IsNoRoot kind read r → IsNoRoot kind read s → r ≡ s
+  no_root-one r s one two = by (why_no_root r one) (why_no_root s two)
+    where
+      by : WhyNoRoot r → WhyNoRoot s → r ≡ s
+      by (inl a) (inl b) = a.0 ∙ sym b.0
+      by (inl a) (inr b) = absurd (a.1 b.1.0)
+      by (inr a) (inl b) = absurd (b.1 a.1.0)
+      by (inr a) (inr b) = a.0 ∙ sym b.0
+
+  -- a page in the place of a root is one
+  pub no_root-not_in : (r : Rule) → IsNoRoot kind read r → tree_kind read.kind ≡ kind → Rises (tree_kind read.kind) None greatest_rowid read.views → ⊥
+  no_root-not_in r wrong kind_is rises = by (why_no_root r wrong)
+    where
+      by : WhyNoRoot r → ⊥
+      by (inl a) = a.1 kind_is
+      by (inr a) = a.1.1 rises
+
+module _ (bytes : List ℕ) (number usable : ℕ) (kind : TreeKind) where
+  pub bad_root-one : (page other : ℕ) (r s : Rule) → IsBadRoot bytes number usable kind page r → IsBadRoot bytes number usable kind other s → Same page r other s
   bad_root-one page other r s one two = (one.0 ∙ sym two.0, by one.1 two.1)
     where
-      by : IsRefused bytes number usable r ⊎ ((read : TreePage) × IsDecoded bytes number usable read × (r ≡ broken.Cells) × ¬ Rises (tree_kind read.kind) None greatest_rowid read.views)
-          → IsRefused bytes number usable s ⊎ ((read : TreePage) × IsDecoded bytes number usable read × (s ≡ broken.Cells) × ¬ Rises (tree_kind read.kind) None greatest_rowid read.views) → r ≡ s
+      by : IsRefused bytes number usable r ⊎ ((read : TreePage) × IsDecoded bytes number usable read × IsNoRoot kind read r)
+          → IsRefused bytes number usable s ⊎ ((read : TreePage) × IsDecoded bytes number usable read × IsNoRoot kind read s) → r ≡ s
       by (inl a) (inl b) = refused-one bytes number usable r s a b
       by (inl a) (inr b) = absurd (refused-not_read bytes number usable r a b.0 b.1)
       by (inr a) (inl b) = absurd (refused-not_read bytes number usable s b a.0 a.1)
-      by (inr a) (inr b) = a.2 ∙ sym b.2
+      by (inr a) (inr b) =
+          let same = read-one bytes number usable b.0 a.0 b.1 a.1 in no_root-one kind a.0 r s a.2 (subst (λ (p : TreePage). IsNoRoot kind p s) same b.2)
 
-  pub bad_root-not_entered : (page : ℕ) (r : Rule) → IsBadRoot bytes number usable page r → (place : Place) → IsEntered bytes number usable None greatest_rowid place → ⊥
-  bad_root-not_entered page r bad place entered = by bad.1
+  pub bad_root-not_entered : (page : ℕ) (r : Rule) → IsBadRoot bytes number usable kind page r → (place : Place) → IsRootPlace bytes number usable kind place → ⊥
+  bad_root-not_entered page r bad place is = by bad.1
     where
-      by : IsRefused bytes number usable r ⊎ ((read : TreePage) × IsDecoded bytes number usable read × (r ≡ broken.Cells) × ¬ Rises (tree_kind read.kind) None greatest_rowid read.views) → ⊥
-      by (inl refused) = refused-not_read bytes number usable r refused place.page entered.decoded
-      by (inr out) =
-          let same = read-one bytes number usable place.page out.0 entered.decoded out.1 in
-          out.3 (subst (λ (p : TreePage). Rises (tree_kind p.kind) None greatest_rowid p.views) same entered.rises)
+      by : IsRefused bytes number usable r ⊎ ((read : TreePage) × IsDecoded bytes number usable read × IsNoRoot kind read r) → ⊥
+      by (inl refused) = refused-not_read bytes number usable r refused place.page is.entered.decoded
+      by (inr wrong) =
+          let same = read-one bytes number usable wrong.0 place.page wrong.1 is.entered.decoded in
+          no_root-not_in kind place.page r (subst (λ (p : TreePage). IsNoRoot kind p r) same wrong.2) is.kind_is is.entered.rises

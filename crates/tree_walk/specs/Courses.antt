@@ -4,7 +4,7 @@ use Rattle.common_spec.specs.Reading.{OrFault}
 use Rattle.format_spec.specs.declared.CellView.{CellView}
 use Rattle.page_spec.specs.Pages.{IsInRange}
 use Rattle.refusal.specs.declared.Rule.{Rule}
-use Rattle.tree_spec.specs.Bounds.{greatest_rowid}
+use Rattle.tree_spec.specs.declared.TreeKind.{TreeKind}
 use Rattle.tree_spec.specs.declared.fault.TreeFault.{TreeFault}
 use Rattle.tree_spec.specs.Faults.{IsDamageOrOther}
 use Rattle.tree_spec.specs.Standing.{Sizes, Paged}
@@ -13,7 +13,7 @@ use Rattle.tree_walk.specs.declared.path.Cursor.{Cursor}
 use Rattle.tree_walk.specs.declared.cursor.Row.{Row}
 use Rattle.tree_walk.specs.Pages.{PageView, view_of, has_dividers, is_leaf}
 use Rattle.tree_walk.specs.Payloads.{IsBadPayload, IsPayload}
-use Rattle.tree_walk.specs.Places.{child_at, most_above, IsBadRoot, IsBadStep, IsChild, IsEntered}
+use Rattle.tree_walk.specs.Places.{child_at, most_above, IsBadRoot, IsBadStep, IsChild, IsRootPlace}
 
 -- the cursor stands past all cells of its page, and so past the last member
 abbrev pub IsPast : Cursor → Type 0
@@ -128,10 +128,10 @@ module _ (sizes : Sizes) (base : Paged) where
     pub cell : has_dividers cursor.here.page.kind ≡ true → IsPast cursor
     pub past : IsPast cursor → course ≡ ends
 
-  -- the course of a walk from a root on
-  pub record FromRoot (root : ℕ) (course : Course) : Type 0 where
-    pub refused : (page : ℕ) (rule : Rule) → IsBadRoot (base.pages root) root sizes.usable page rule → course ≡ stops page rule
-    pub entered : (place : Place) → IsEntered (base.pages root) root sizes.usable None greatest_rowid place → From most_above place ends course
+  -- the course of a walk over the tree of this kind at a root
+  pub record FromRoot (kind : TreeKind) (root : ℕ) (course : Course) : Type 0 where
+    pub refused : (page : ℕ) (rule : Rule) → IsBadRoot (base.pages root) root sizes.usable kind page rule → course ≡ stops page rule
+    pub entered : (place : Place) → IsRootPlace (base.pages root) root sizes.usable kind place → From most_above place ends course
 
 -- A call that goes on to the first cell of a course: the cursor comes to stand there, or the course stops before it, and the call refuses just that.
 abbrev pub Reaches : {T F : Type 0} → (Course → Cursor → Type 0) → Course → Cursor → Result T (TreeFault F) → Type 0
@@ -159,9 +159,9 @@ abbrev pub StartsAt : {F : Type 0} → Sizes → Paged → Place → Result Curs
 StartsAt sizes base place result = (course : Course) → From sizes base most_above place ends course
     → OrFault (StandsOn sizes base course) (IsDamageOrOther (λ page rule. course ≡ stops page rule)) result
 
--- a cursor stands at the first cell of the walk from a root on
-abbrev pub StartsWalk : {F : Type 0} → Sizes → Paged → ℕ → Result Cursor (TreeFault F) → Type 0
-StartsWalk sizes base root result = (course : Course) → FromRoot sizes base root course
+-- a cursor stands at the first cell of the walk over the tree of this kind at a root
+abbrev pub StartsWalk : {F : Type 0} → Sizes → Paged → TreeKind → ℕ → Result Cursor (TreeFault F) → Type 0
+StartsWalk sizes base kind root result = (course : Course) → FromRoot sizes base kind root course
     → OrFault (StandsOn sizes base course) (IsDamageOrOther (λ page rule. course ≡ stops page rule)) result
 
 -- The row of the first of these cells, and none where there is none.

@@ -1,12 +1,15 @@
 pub mod Stores
 pub mod Pages
+pub mod PagesLaws
 pub mod Places
 pub mod Paths
 pub mod PathsLaws
 pub mod Payloads
+pub mod PayloadsLaws
 pub mod Walks
 pub mod Rising
 pub mod Courses
+pub mod CoursesLaws
 pub mod Seeks
 pub mod SoughtCourses
 pub mod Lengths

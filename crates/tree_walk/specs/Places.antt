@@ -91,11 +91,16 @@ abbrev pub IsBadPage : List ℕ → ℕ → ℕ → TreeKind → Option ℤ → 
 IsBadPage bytes number usable kind low high page rule =
     (page ≡ number) × (IsRefused bytes number usable rule ⊎ ((read : TreePage) × IsDecoded bytes number usable read × IsOutOfPlace kind low high read rule))
 
--- the page of a root is refused: it may have no cell, and either kind
-abbrev pub IsBadRoot : List ℕ → ℕ → ℕ → ℕ → Rule → Type 0
-IsBadRoot bytes number usable page rule =
-    (page ≡ number) × (IsRefused bytes number usable rule
-    ⊎ ((read : TreePage) × IsDecoded bytes number usable read × (rule ≡ broken.Cells) × ¬ Rises (tree_kind read.kind) None greatest_rowid read.views))
+-- why a page that was read is no root of a tree of this kind, of several the first: it may have no cell
+abbrev pub IsNoRoot : TreeKind → TreePage → Rule → Type 0
+IsNoRoot kind page broken.Kind = tree_kind page.kind ≢ kind
+IsNoRoot kind page broken.Cells = (tree_kind page.kind ≡ kind) × ¬ Rises (tree_kind page.kind) None greatest_rowid page.views
+IsNoRoot kind page _ = ⊥
+
+-- a page of these bytes is refused as the root of a tree of this kind: as a page, or in its place
+abbrev pub IsBadRoot : List ℕ → ℕ → ℕ → TreeKind → ℕ → Rule → Type 0
+IsBadRoot bytes number usable kind page rule =
+    (page ≡ number) × (IsRefused bytes number usable rule ⊎ ((read : TreePage) × IsDecoded bytes number usable read × IsNoRoot kind read rule))
 
 -- the first place of a page of these bytes, with these bounds
 pub record IsEntered (bytes : List ℕ) (number usable : ℕ) (low : Option ℤ) (high : ℤ) (place : Place) : Type 0 where
@@ -104,6 +109,11 @@ pub record IsEntered (bytes : List ℕ) (number usable : ℕ) (low : Option ℤ)
   pub high_is : place.high ≡ high
   pub first : place.at ≡ 0
   pub rises : Rises (tree_kind place.page.kind) low high place.page.views
+
+-- the first place of the root of a tree of this kind
+pub record IsRootPlace (bytes : List ℕ) (number usable : ℕ) (kind : TreeKind) (place : Place) : Type 0 where
+  pub entered : IsEntered bytes number usable None greatest_rowid place
+  pub kind_is : tree_kind place.page.kind ≡ kind
 
 -- the first place of a page below another, which has its kind, a cell, and the bounds that it gives
 pub record IsBelow (bytes : List ℕ) (number usable : ℕ) (parent child : Place) : Type 0 where
@@ -115,9 +125,9 @@ pub record IsBelow (bytes : List ℕ) (number usable : ℕ) (parent child : Plac
 abbrev pub EntersPage : {F : Type 0} → List ℕ → ℕ → ℕ → Place → Result Place (TreeFault F) → Type 0
 EntersPage bytes number usable parent result = OrFault (IsBelow bytes number usable parent) (IsDamageOrOther (IsBadPage bytes number usable (tree_kind parent.page.kind) (low_at parent) (high_at parent))) result
 
--- the page of a root is entered
-abbrev pub EntersRoot : {F : Type 0} → List ℕ → ℕ → ℕ → Result Place (TreeFault F) → Type 0
-EntersRoot bytes number usable result = OrFault (IsEntered bytes number usable None greatest_rowid) (IsDamageOrOther (IsBadRoot bytes number usable)) result
+-- the page of the root of a tree of this kind is entered
+abbrev pub EntersRoot : {F : Type 0} → List ℕ → ℕ → ℕ → TreeKind → Result Place (TreeFault F) → Type 0
+EntersRoot bytes number usable kind result = OrFault (IsRootPlace bytes number usable kind) (IsDamageOrOther (IsBadRoot bytes number usable kind)) result
 
 module _ (pages : Pages) where
   -- the place of the child of another

@@ -1,15 +1,15 @@
 -- What a walk comes to that begins where a rowid belongs, whatever the store holds.
-use Rattle.std.specs.Prelude.{◌≡◌, ℕ, ℤ, zero, suc, ◌-◌, None, Result}
+use Rattle.std.specs.Prelude.{◌≡◌, ℕ, ℤ, zero, suc, ◌-◌, Result}
 use Rattle.common_spec.specs.Reading.{OrFault}
 use Rattle.refusal.specs.declared.Rule.{Rule}
-use Rattle.tree_spec.specs.Bounds.{greatest_rowid}
+use Rattle.tree_spec.specs.declared.TreeKind.TheVariants.{Table}
 use Rattle.tree_spec.specs.declared.fault.TreeFault.{TreeFault}
 use Rattle.tree_spec.specs.Faults.{IsDamageOrOther}
 use Rattle.tree_spec.specs.Standing.{Sizes, Paged}
 use Rattle.tree_walk.specs.declared.place.Place.{Place}
 use Rattle.tree_walk.specs.declared.path.Cursor.{Cursor}
 use Rattle.tree_walk.specs.Pages.{is_leaf}
-use Rattle.tree_walk.specs.Places.{rowids, most_above, IsBadRoot, IsEntered}
+use Rattle.tree_walk.specs.Places.{rowids, most_above, IsBadRoot, IsRootPlace}
 use Rattle.tree_walk.specs.Seeks.{IsIndexOf}
 use Rattle.tree_walk.specs.Courses.{Course, ends, stops, cells_left, cells_then, OnLeaf, Enters, Behind, Below, FromCell, IsOn, StandsOn, Reaches}
 
@@ -33,10 +33,10 @@ module _ (sizes : Sizes) (base : Paged) (rowid : ℤ) where
   Deeper zero place later course = Unit {0}
   Deeper (suc room) place later course = FromSought room place later course
 
-  -- the course of a walk from where the rowid belongs in the tree at a root
+  -- the course of a walk from where the rowid belongs in the table at a root
   pub record FromRowid (root : ℕ) (course : Course) : Type 0 where
-    pub refused : (page : ℕ) (rule : Rule) → IsBadRoot (base.pages root) root sizes.usable page rule → course ≡ stops page rule
-    pub entered : (place : Place) → IsEntered (base.pages root) root sizes.usable None greatest_rowid place → FromSought most_above place ends course
+    pub refused : (page : ℕ) (rule : Rule) → IsBadRoot (base.pages root) root sizes.usable Table page rule → course ≡ stops page rule
+    pub entered : (place : Place) → IsRootPlace (base.pages root) root sizes.usable Table place → FromSought most_above place ends course
 
 -- a cursor goes down to the leaf in which a rowid belongs
 abbrev pub SeeksOn : {T F : Type 0} → Sizes → Paged → ℤ → Cursor → Cursor → Result T (TreeFault F) → Type 0

@@ -38,9 +38,9 @@ abbrev pub Leaves : {T F : Type 0} → (Cursor → Type 0) → Cursor → Result
 Leaves P cursor (Ok done) = P cursor
 Leaves P cursor (Err fault) = IsOther fault
 
--- the cursor stands at the first of all members of the tree at a root
-abbrev pub StandsFirst : {F : Type 0} → Sizes → Paged → ℕ → Result Cursor (TreeFault F) → Type 0
-StandsFirst sizes base root result = (kind : TreeKind) (depth : ℕ) (members : List Member) (numbers : List ℕ) → IsTree sizes base root kind depth members numbers
+-- the cursor stands at the first of all members of the tree of this kind at a root
+abbrev pub StandsFirst : {F : Type 0} → Sizes → Paged → TreeKind → ℕ → Result Cursor (TreeFault F) → Type 0
+StandsFirst sizes base kind root result = (depth : ℕ) (members : List Member) (numbers : List ℕ) → IsTree sizes base root kind depth members numbers
     → OrFault (StandsAt sizes base kind members) IsOther result
 
 -- a cursor that stands in a tree moves to the next member

@@ -24,7 +24,7 @@ use page_store::PageRead;
 use rbu_value::Bytes;
 use std::alloc::Global;
 use std::mem;
-use tree_spec::TreeFault;
+use tree_spec::{TreeFault, TreeKind};
 
 /// A member of a tree: a row of a table, with its record, or an entry of an index, whose rowid is 0.
 #[derive(Drop)]
@@ -166,21 +166,23 @@ impl Cursor {
         }
     }
 
-    /// Stands at the first member of the tree at a root. Refuses [55].
+    /// Stands at the first member of the tree of this kind at a root. Refuses [55]: with `kind` where the root is one of the other kind.
     pub fn first<S: PageRead>(
         alloc: Global,
         store: &mut S,
         root: u32,
+        kind: TreeKind,
     ) -> Result<Cursor, TreeFault<S::Fault>>
         requires sizes { HasSizes S.PageRead store.old }
         requires first { 1 ≤ root }
         requires within { root ≤ S.count store.old }
-        ensures pages { SeesTree S.PageRead store.old store.new (λ sizes base. StandsFirst sizes base root result) }
-        ensures walk { SeesTree S.PageRead store.old store.new (λ sizes base. StartsWalk sizes base root result) }
+        ensures pages { SeesTree S.PageRead store.old store.new (λ sizes base. StandsFirst sizes base kind root result) }
+        ensures walk { SeesTree S.PageRead store.old store.new (λ sizes base. StartsWalk sizes base kind root result) }
+        ensures of_kind { IfOk result (λ cursor. kind_of cursor ≡ kind) }
         ensures few { SeesTree S.PageRead store.old store.new (λ sizes base. StartsShort sizes base result) }
         ensures owes { OwesBy S.PageRead fault_in store.old store.new result }
     {
-        match enter_root(alloc, store, root) {
+        match enter_root(alloc, store, root, kind) {
             Ok(here) => Cursor::from_root(alloc, store, here),
             Err(fault) => Err(fault),
         }

@@ -12,11 +12,10 @@ use crate::bounds::is_in_order;
 use crate::page::TreePage;
 use crate::place::Place;
 use crate::reading::{read_page, tree_kind};
-use cell_codec::PageKind;
 use page_store::{PageRead, is_in_range};
 use refusal::Rule;
 use std::alloc::Global;
-use tree_spec::{TreeFault, damaged};
+use tree_spec::{TreeFault, TreeKind, damaged};
 
 // The number of the child at which a place is.
 fn child_of(place: &Place) -> u32
@@ -64,11 +63,11 @@ fn has_no_cell(page: &TreePage) -> bool
     page.views.as_slice().is_empty()
 }
 
-// Whether the pages of two kinds are those of one kind of tree.
-fn are_of_one_kind(one: PageKind, other: PageKind) -> bool
-    ensures { IsTrue result ↔ (tree_kind_of one ≡ tree_kind_of other) }
+// Whether the page is one of a tree of this kind.
+fn has_kind(page: &TreePage, kind: TreeKind) -> bool
+    ensures { IsTrue result ↔ (tree_kind_of page.now.kind ≡ kind) }
 {
-    tree_kind(one) == tree_kind(other)
+    tree_kind(page.kind) == kind
 }
 
 // Stands at the first cell or child of a page below another. Refuses [55] with `kind`, `empty` or `cells`.
@@ -77,7 +76,7 @@ fn stand_below<F>(page: TreePage, parent: &Place) -> Result<Place, TreeFault<F>>
     ensures under { IfOk result (IsFirstUnder parent.now) }
     ensures cause { IfErr result (λ fault. fault_in fault ≡ None) }
 {
-    if !are_of_one_kind(page.kind, parent.page.kind) {
+    if !has_kind(&page, tree_kind(parent.page.kind)) {
         return Err(damaged(page.number, Rule::Kind));
     }
     if has_no_cell(&page) {
@@ -129,30 +128,36 @@ pub fn enter_child<S: PageRead>(
     enter_page(alloc, store, parent, number)
 }
 
-// Stands at the first cell or child of a root's page. Refuses [55] with `cells`.
-fn stand_at_root<F>(page: TreePage) -> Result<Place, TreeFault<F>>
-    ensures answer { (bytes : List ℕ) (number usable : ℕ) → IsDecoded bytes number usable page → EntersRoot bytes number usable result }
+// Stands at the first cell or child of the page of the root of a tree of this kind. Refuses [55] with `kind` or `cells`.
+fn stand_at_root<F>(page: TreePage, kind: TreeKind) -> Result<Place, TreeFault<F>>
+    ensures answer { (bytes : List ℕ) (number usable : ℕ) → IsDecoded bytes number usable page → EntersRoot bytes number usable kind result }
     ensures kept { IfOk result IsKept }
+    ensures of_kind { IfOk result (λ place. tree_kind_of place.page.kind ≡ kind) }
     ensures cause { IfErr result (λ fault. fault_in fault ≡ None) }
 {
+    if !has_kind(&page, kind) {
+        return Err(damaged(page.number, Rule::Kind));
+    }
     stand(page, None, i64::MAX)
 }
 
-/// Enters the page of a root. Refuses [55] with `kind` or `cells`.
+/// Enters the page of the root of a tree of this kind. Refuses [55] with `kind` or `cells`.
 pub fn enter_root<S: PageRead>(
     alloc: Global,
     store: &mut S,
     root: u32,
+    kind: TreeKind,
 ) -> Result<Place, TreeFault<S::Fault>>
     requires sizes { HasSizes S.PageRead store.old }
     requires first { 1 ≤ root }
     requires within { root ≤ S.count store.old }
-    ensures pages { Sees S.PageRead store.old store.new (λ m. EntersRoot (m root) root (S.usable store.old) result) }
+    ensures pages { Sees S.PageRead store.old store.new (λ m. EntersRoot (m root) root (S.usable store.old) kind result) }
     ensures kept { IfOk result IsKept }
+    ensures of_kind { IfOk result (λ place. tree_kind_of place.page.kind ≡ kind) }
     ensures owes { OwesBy S.PageRead fault_in store.old store.new result }
 {
     match read_page(alloc, store, root) {
-        Ok(page) => stand_at_root(page),
+        Ok(page) => stand_at_root(page, kind),
         Err(fault) => Err(fault),
     }
 }

@@ -14,14 +14,14 @@ ghost use Rattle.tree_walk.specs.Walks.{HasMembers};
 /// The walk over a standing tree comes to all its members and to its end; the one that begins where a rowid belongs, to those whose rowid is not less.
 pub fn standing_trees_have_courses()
     ensures first { (sizes : Sizes) (base : Paged) (root : ℕ) (kind : TreeKind) (depth : ℕ) (members : List Member) (numbers : List ℕ) →
-        IsTree sizes base root kind depth members numbers → (course : Course) × FromRoot sizes base root course × HasMembers sizes base kind members course }
+        IsTree sizes base root kind depth members numbers → (course : Course) × FromRoot sizes base kind root course × HasMembers sizes base kind members course }
     ensures sought { (sizes : Sizes) (base : Paged) (root : ℕ) (depth : ℕ) (members : List Member) (numbers : List ℕ) (rowid : ℤ) →
         IsTree sizes base root Table depth members numbers → (course : Course) × FromRowid sizes base rowid root course × HasMembers sizes base Table (not_less rowid members) course }
 {}
 
-/// No store is without a course from a root.
+/// No store is without a course over the tree of a kind at a root.
 pub fn stores_have_courses()
-    ensures { (sizes : Sizes) (base : Paged) (root : ℕ) → 1 ≤ root → root ≤ base.count → Surely ((course : Course) × FromRoot sizes base root course) }
+    ensures { (sizes : Sizes) (base : Paged) (kind : TreeKind) (root : ℕ) → 1 ≤ root → root ≤ base.count → Surely ((course : Course) × FromRoot sizes base kind root course) }
 {}
 
 /// A cursor before which no cell is left is past the last.

@@ -27,4 +27,4 @@ pub use path::Cursor;
 pub use payload::read_payload;
 pub use reading::read_page;
 pub use seeking::index_of;
-pub use tree_spec::TreeFault;
+pub use tree_spec::{TreeFault, TreeKind};

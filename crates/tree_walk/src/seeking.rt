@@ -19,7 +19,7 @@ use arrayvec::ArrayVec;
 use cell_codec::CellView;
 use page_store::PageRead;
 use std::alloc::Global;
-use tree_spec::TreeFault;
+use tree_spec::{TreeFault, TreeKind};
 
 // Whether the rowid of a cell is not less than another.
 fn is_not_less(view: &CellView, rowid: i64) -> bool
@@ -115,7 +115,7 @@ impl Cursor {
         }
     }
 
-    /// Stands at the first member of the table at a root whose rowid is not less than another, or past the last. Refuses [55].
+    /// Stands at the first member of the table at a root whose rowid is not less than another, or past the last. Refuses [55]: with `kind` where the root is one of an index.
     pub fn seek<S: PageRead>(
         alloc: Global,
         store: &mut S,
@@ -130,7 +130,7 @@ impl Cursor {
         ensures few { SeesTree S.PageRead store.old store.new (λ sizes base. StartsShort sizes base result) }
         ensures owes { OwesBy S.PageRead fault_in store.old store.new result }
     {
-        match enter_root(alloc, store, root) {
+        match enter_root(alloc, store, root, TreeKind::Table) {
             Ok(here) => Cursor::seek_from(alloc, store, here, rowid),
             Err(fault) => Err(fault),
         }

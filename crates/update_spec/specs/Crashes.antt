@@ -2,7 +2,7 @@
 use Rattle.std.specs.Prelude.{◌≡◌, is_some}
 use Rattle.file_spec.specs.declared.FileName.{FileName}
 use Rattle.file_spec.specs.Files.{Files}
-use Rattle.file_spec.specs.Records.{Record, Every, shown_files}
+use Rattle.file_spec.specs.Records.{Record, IsImage, Every, shown_files}
 use Rattle.file_spec.specs.Trails.{Trail, IsImageSince, clock}
 use Rattle.update_spec.specs.View.{KeepsView}
 use Rattle.update_spec.specs.Update.{Update, SeesOldOrNew}
@@ -15,6 +15,10 @@ ImagesKeepView r = Every (KeepsView (shown_files r)) r
 abbrev pub LeavesOldOrNew : Update → Trail → Trail → Type 0
 LeavesOldOrNew update before after =
     ImagesKeepView before.now.at → (left : Files) → IsImageSince (clock before) after left → SeesOldOrNew update (shown_files before.now.at) left
+
+-- Each image of every moment since could be left at the start.
+abbrev pub LeavesNoMore : Trail → Trail → Type 0
+LeavesNoMore before after = (left : Files) → IsImageSince (clock before) after left → IsImage before.now.at left
 
 -- each image has a file under the names that show one, and under no others
 abbrev pub HasShownNames : Record → Type 0

@@ -5,6 +5,7 @@ pub mod Crashes
 pub mod CrashesLaws
 pub mod Answer
 pub mod Words
+pub mod WordsLaws
 pub mod Text
 pub use Rattle.file_spec.specs.Files
 pub use Rattle.file_spec.specs.Faults

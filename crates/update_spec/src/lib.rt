@@ -8,7 +8,8 @@
 //!   disks show one database whatever a crash leaves;
 //! - `ViewLaws`: those are one list of pages, as `view_is_one` promises;
 //! - `Answer`: which answer the files and words have;
-//! - `Words` and `Text`: the words of each command, and the text of each answer.
+//! - `Words` and `Text`: the words of each command, and the text of each answer;
+//! - `WordsLaws`: words ask for one thing, as `words_ask_for_one_thing` promises.
 #![tactic(auto)]
 
 use file_spec::{DiskCall, FileName};
@@ -24,8 +25,10 @@ pub enum Command {
     State,
     /// Tests that the view is sound.
     Check,
-    /// Prints one table of the view.
-    Dump,
+    /// Prints the table of the schema.
+    DumpSchema,
+    /// Prints another table of the view.
+    DumpTable,
     /// Writes a generated target and RBU database.
     Make { count: u32, seed: u32 },
     /// Writes both, updates until the work is done, and checks.
@@ -63,5 +66,5 @@ pub enum Answer {
 mod laws;
 mod worked;
 
-pub use laws::{images_keep_view, view_is_one};
-pub use worked::{worked_lines, worked_statuses, worked_view};
+pub use laws::{images_keep_view, view_is_one, words_ask_for_one_thing};
+pub use worked::{worked_lines, worked_statuses, worked_view, worked_words};

@@ -12,6 +12,7 @@ ghost use Rattle.update_spec.specs.declared.Answer.TheVariants.{Usage, Ended, Pr
 ghost use Rattle.update_spec.specs.declared.Outcome.TheVariants.{Done, KeyPresent, Refused};
 ghost use Rattle.update_spec.specs.Text.{answer_text, answer_status};
 ghost use Rattle.update_spec.specs.View.{IsView, KeepsView};
+ghost use Rattle.update_spec.specs.Words.{AsksDump, AsksMore};
 ghost use Rattle.format_spec.specs.PageMap.{pages_of};
 ghost use Rattle.format_spec.specs.LittleLog.{little_page, little_log};
 
@@ -45,6 +46,13 @@ pub fn worked_statuses()
     ensures fault { answer_status (Fault Oal Rename) ≡ 6 }
     ensures memory { answer_status NoMemory ≡ 7 }
     ensures printed { answer_status (Printed []) ≡ 0 }
+{}
+
+/// Whose dump the words ask for: the schema's in letters of either case, and another table's, which is not built.
+pub fn worked_words()
+    ensures schema { AsksDump (codes "dump" ∷ codes "SQLite_Schema" ∷ []) }
+    ensures table { AsksMore (codes "dump" ∷ codes "t1" ∷ []) part.Name }
+    ensures check { AsksMore (codes "check" ∷ []) part.Words }
 {}
 
 /// What a reader sees of a target of one page with a byte behind it, alone, and under a log that SQLite wrote, whose frame is its second page.

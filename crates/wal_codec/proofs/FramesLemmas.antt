@@ -151,6 +151,7 @@ log-read bytes needed head read has_head have =
       counts = f.counts;
       long = ap length f.numbers ∙ length-map f.frames (λ frame. frame.number);
       kept = λ i. record {
+        big = head.big;
         page_size = head.page_size;
         salt = array_of salt;
         commit_pages = (f.counts i).commit_pages;

@@ -7,6 +7,7 @@ use Rattle.byte_fields.specs.Numbers.{number_at}
 use Rattle.format_spec.specs.Log.{magic, log_header, frame_header, frame_bytes, Frame, IsFrame}
 use Rattle.format_spec.specs.LogLaws.{length-log_header, length-frame_header}
 use Rattle.wal_codec.specs.LogReading.{Head, HasHead, HasNoFrame}
+use Rattle.wal_codec.specs.LogReadingLaws.{head-size_field}
 
 -- the byte order that a magic number says
 order-magic : (big : Bool) (number : ℕ) → number ≡ magic big → (number == magic true) ≡ big
@@ -30,15 +31,11 @@ head-fields : (bytes : List ℕ) (head : Head) → HasHead bytes head → HasFie
 unfolding log_header
 head-fields bytes head has = record {
   magics = ap (number_at 0 4) has.whole ∙ big_number-reads_back 4 (magic head.big) [] (magic-lt head.big);
-  page_sizes = ap (number_at 8 4) has.whole ∙ big_number-reads_back 4 head.page_size [] has.page_size_fits;
+  page_sizes = head-size_field bytes head has;
   sequences = ap (number_at 12 4) has.whole ∙ big_number-reads_back 4 head.sequence [] has.sequence_fits;
   firsts = ap (number_at 16 4) has.whole ∙ big_number-reads_back 4 head.salt.0 [] has.salt_fits.0;
   seconds = ap (number_at 20 4) has.whole ∙ big_number-reads_back 4 head.salt.1 [] has.salt_fits.1;
 }
-
--- bytes have a header of one page size at most
-pub head-page_size : (bytes : List ℕ) (head other : Head) → HasHead bytes head → HasHead bytes other → head.page_size ≡ other.page_size
-head-page_size bytes head other has also = sym (head-fields bytes head has).page_sizes ∙ (head-fields bytes other also).page_sizes
 
 -- a log's header is what is read of it, written again
 pub head-again : (bytes : List ℕ) (head : Head) (has : HasHead bytes head) (number page_size sequence one two : ℕ) (header : List ℕ)

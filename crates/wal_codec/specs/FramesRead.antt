@@ -65,6 +65,7 @@ pub record HaveReadFrames (head : LogHead) (bytes : List ℕ) (needed : ℕ) (ke
 -- what is kept of a header and of frames that were read
 abbrev pub log_kept : LogHead → ReadFrames → Log
 log_kept head read = record {
+  big = head.big;
   page_size = head.page_size;
   salt = array_of (pair_of head.salt);
   commit_pages = read.counts.commit_pages;

@@ -29,9 +29,10 @@ HasNoFrame big salt sums page_size bytes = (frame : Frame) (more : List ℕ) →
 abbrev pub array_of : ℕ × ℕ → List ℕ
 array_of pair = pair.0 ∷ pair.1 ∷ []
 
--- what is kept of what a log says: the numbers of its frames' pages, how many frames there are up to the last commit, and how many pages after it
+-- what is kept of what a log says: the order in which its checksums take their bytes, the numbers of its frames' pages, how many frames there are up to the last commit, and how many pages after it
 abbrev pub log_of : LogReading → Log
 log_of reading = record {
+  big = reading.big;
   page_size = reading.page_size;
   salt = array_of reading.salt;
   commit_pages = last_commit (committed reading.frames);

@@ -6,12 +6,14 @@ use Rattle.std.proofs.lemmas.Bool.{ne_eqb}
 use Rattle.std.proofs.lemmas.List.{take-append-le}
 use Rattle.common_spec.specs.Reading.{OrFault}
 use Rattle.common_spec.specs.ReadingLaws.{IsOne, OrFault-one}
-use Rattle.format_spec.specs.Log.{Frame, IsLog, committed, last_commit, count_after}
+use Rattle.byteorder.specs.Numbers.{big_number-reads_back}
+use Rattle.byte_fields.specs.Numbers.{number_at}
+use Rattle.format_spec.specs.Log.{log_header, Frame, IsLog, committed, last_commit, count_after}
 use Rattle.format_spec.specs.LogLaws.{log-same, log-same_reading}
 use Rattle.wal_codec.specs.declared.log.Log.{Log}
 use Rattle.wal_codec.specs.declared.log.LogFault.{LogFault}
 use Rattle.wal_codec.specs.declared.log.LogFault.TheVariants.{LogHeader, LogFrame, Memory}
-use Rattle.wal_codec.specs.LogReading.{HasHead, log_of, HasNeeded, LacksFrame, HasLog, HasFault}
+use Rattle.wal_codec.specs.LogReading.{Head, HasHead, log_of, HasNeeded, LacksFrame, HasLog, HasFault}
 
 -- a log has a header
 pub log-head : {bytes : List ℕ} {page_size : ℕ} {frames : List Frame} (log : IsLog bytes page_size frames)
@@ -23,6 +25,15 @@ log-head log = record {
   salt_fits = log.salt_fits;
   whole = log.whole;
 }
+
+-- where a header has its page size
+pub head-size_field : (bytes : List ℕ) (head : Head) → HasHead bytes head → number_at 8 4 bytes ≡ head.page_size
+unfolding log_header
+head-size_field bytes head has = ap (number_at 8 4) has.whole ∙ big_number-reads_back 4 head.page_size [] has.page_size_fits
+
+-- bytes have a header of one page size
+pub head-page_size : (bytes : List ℕ) (head other : Head) → HasHead bytes head → HasHead bytes other → head.page_size ≡ other.page_size
+head-page_size bytes head other has also = sym (head-size_field bytes head has) ∙ head-size_field bytes other also
 
 -- bytes say one log
 one_log : (bytes : List ℕ) (needed : ℕ) → IsOne (HasLog bytes needed)

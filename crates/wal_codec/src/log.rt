@@ -13,6 +13,8 @@ use std::alloc::{AllocError, Global};
 /// What is kept of a write-ahead log: of its header, and of its valid frames.
 #[derive(Drop)]
 pub struct Log {
+    /// Whether its checksums take their words with the most significant byte first, and not last.
+    pub big: bool,
     /// The size of a page in bytes.
     pub page_size: u32,
     pub salt: [u32; 2],
@@ -56,6 +58,7 @@ pub(crate) fn kept(head: &LogHead, frames: ReadFrames) -> Log
         sums,
     } = frames;
     Log {
+        big: head.big,
         page_size: head.page_size,
         salt,
         commit_pages: counts.commit_pages,

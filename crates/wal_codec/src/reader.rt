@@ -76,6 +76,7 @@ impl LogReader {
             → Reads (OrFault (HasLog bytes needed) (HasFault bytes needed)) result }
         ensures place { IfOk result (λ log. 32 + length log.frames * (24 + log.page_size) ≡ place_behind self) }
         ensures size { IfOk result (λ log. (512 ≤ log.page_size) × (log.page_size ≤ 65536)) }
+        ensures words { IfOk result (λ log. log.page_size % 8 ≡ 0) }
     {
         let LogReader { head, needed, read } = self;
         let count = read.numbers.len() as u64;

@@ -1,5 +1,4 @@
 use Rattle.std.proofs.Common.{◌∙◌, ap, arith}
-use Rattle.std.proofs.lemmas.Option.{IfSome_then}
 use Rattle.wal_codec.specs.FramesRead.{place_behind}
 use Rattle.file_pages.proofs.LogCalls.{looks-on, owes-fault, owes-none, read-on, read-last, read-short}
 use Rattle.file_pages.proofs.log.read_frames.Goals as goal
@@ -9,7 +8,7 @@ loop-file-preserved g c =
     let here = c.loop-file.invariant in
     let next = c.in-Ok.ensures in
     record {
-      read = read-on g.D.Disk here.read next.files c.if-not-valid.false next.calls.still next.size (next.place c.if-not-valid.false) here.sized;
+      read = read-on g.D.Disk here.read next.files c.if-not-valid.false next.calls.still next.size (next.place c.if-not-valid.false) here.sized (omega (arith, here.sized));
       sized = here.sized;
       fits = omega arith;
     }
@@ -22,8 +21,8 @@ returns-in-Err-clause-calls g c = let here = c.loop-file.invariant.read in owes-
 
 pub returns-then-not-valid-clause-files : goal.returns-then-not-valid-clause-files
 returns-then-not-valid-clause-files g c =
-    let here = c.loop-file.invariant.read in
-    looks-on g.D.Disk here c.in-Ok.ensures.files (IfSome_then (g.D.Disk.shown c.args.disk.now) (read-last g.D.Disk here c.in-Ok.ensures.files c.if-not-valid.true) (λ f all long. all))
+    let here = c.loop-file.invariant in
+    looks-on g.D.Disk here.read c.in-Ok.ensures.files (read-last g.D.Disk here.read c.in-Ok.ensures.files c.if-not-valid.true here.sized (omega (arith, here.sized)))
 
 pub returns-then-not-valid-clause-place : goal.returns-then-not-valid-clause-place
 returns-then-not-valid-clause-place g c =
@@ -41,7 +40,7 @@ returns-clause-files g c =
     let here = c.loop-file.invariant in
     record {
       same = here.read.shown;
-      answer = read-short g.D.Disk c.args.len here.read here.sized (omega arith);
+      answer = read-short g.D.Disk here.read here.sized (omega arith);
       moments = here.read.moments;
       test = here.read.test;
     }

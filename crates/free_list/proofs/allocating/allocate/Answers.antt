@@ -2,11 +2,11 @@ use Rattle.std.proofs.Common.{◌≡◌, ◌^◌, ◌<◌, ◌≤◌, ◌⊎◌,
 use Rattle.std.proofs.lemmas.Result.{on_ok_weaker}
 use Rattle.common_spec.specs.Told.{Leads}
 use Rattle.format_spec.specs.Header.{freelist_trunk}
-use Rattle.page_spec.specs.FreePages.{page_past}
+use Rattle.page_spec.specs.FreePages.{due_pages, page_past}
 use Rattle.page_store.specs.StoreLaws.{IfSome-told}
 use Rattle.free_list.specs.Answers.{IsOther, IsTakeFault}
 use Rattle.free_list.specs.Written.{Appends, TakesFrom}
-use Rattle.free_list.proofs.Calls.{sizes-stayed, past-taken, past-few, take-taken, take-few, take-answers}
+use Rattle.free_list.proofs.Calls.{sizes-stayed, past-rises, past-taken, past-few, take-taken, take-few, take-answers}
 use Rattle.free_list.proofs.allocating.allocate.Goals as goal
 
 pub returns-then-trunk-eq0-clause-takes : goal.returns-then-trunk-eq0-clause-takes
@@ -46,6 +46,20 @@ returns-then-trunk-eq0-clause-changes g c =
     let is_first : first ≡ m 1 = IfSome-told (λ p. first ≡ p 1) m told read.pages.pages.answer in
     past-few g.row.S-Fault.Denot size usable a.limit count m first is_first c.requires.sizes.usable c.requires.sizes.within long c.append.result found after (same ∙ told)
     (sizes-stayed (λ s u n. IfOk c.append.result (λ page. Leads (Appends n first page) found after)) read.owes.stays.size read.owes.stays.usable read.pages.count c.append.ensures.pages)
+
+pub returns-then-trunk-eq0-clause-rises : goal.returns-then-trunk-eq0-clause-rises
+returns-then-trunk-eq0-clause-rises g c =
+    let a = c.args in
+    let S = g.S.PageRead in
+    let read = c.in_ok-read.ensures in
+    past-rises (S.size a.store.now) (S.count a.store.now) a.limit (S.count c.append.new.store) c.append.result
+    (sizes-stayed (λ s u n. IfOk c.append.result (λ page. (page ≡ page_past s n) × (page ≤ a.limit))) read.owes.stays.size read.owes.stays.usable read.pages.count c.append.ensures.next)
+    c.append.ensures.count
+
+pub returns-clause-rises : goal.returns-clause-rises
+returns-clause-rises g c =
+    let S = g.S.PageRead in
+    on_ok_weaker c.take.result (λ same. omega (arith, ap (due_pages (S.size c.args.store.now)) (same ∙ c.in_ok-read.ensures.pages.count))) c.take.ensures.count
 
 pub returns-clause-answer : goal.returns-clause-answer
 returns-clause-answer g c =

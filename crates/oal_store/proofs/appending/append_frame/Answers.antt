@@ -1,11 +1,10 @@
-use Rattle.std.proofs.Common.{◌≡◌, ◌+◌, ℕ, List, ◌++◌, length, sym, subst, arith}
+use Rattle.std.proofs.Common.{◌+◌, ℕ, List, ◌++◌, length, sym, subst, arith}
 use Rattle.common_spec.specs.Told.{Leads}
 use Rattle.common_spec.specs.ToldLaws.{Leads-then}
 use Rattle.file_spec.specs.declared.FileName.TheVariants.{Oal}
 use Rattle.file_spec.specs.OnlyChangesLaws.{only-written, only-torn, only-then}
 use Rattle.oal_store.specs.Appending.{Appends}
 use Rattle.oal_store.proofs.Appended.{appends-written, appends-then, growing-then, growing-write}
-use Rattle.oal_store.proofs.appending.append_frame.Given as given
 use Rattle.oal_store.proofs.appending.append_frame.Goals as goal
 
 pub returns-in_err-write_at-clause-only : goal.returns-in_err-write_at-clause-only

@@ -1,4 +1,4 @@
-use Rattle.std.proofs.Common.{◌≡◌, ◌+◌, ◌-◌, ◌%◌, ◌<◌, ◌≤◌, ◌==◌, if◌then◌else◌, ℕ, List, [], ◌∷◌, ◌++◌, length, Vec, refl, sym, ap, ap₂, ◌∙◌, subst, arith, length-append}
+use Rattle.std.proofs.Common.{◌≡◌, ◌+◌, ◌-◌, ◌%◌, ◌==◌, if◌then◌else◌, ℕ, List, [], ◌∷◌, ◌++◌, length, Vec, refl, sym, ap, ap₂, ◌∙◌, subst, arith, length-append}
 use Rattle.std.specs.Global.{Global}
 use Rattle.std.specs.List.{All}
 use Rattle.std.specs.Map.Iter.{deref_pair}
@@ -13,7 +13,6 @@ use Rattle.format_spec.specs.Log.{pair_of, Frame, frame_sums, frame_header, fram
 use Rattle.format_spec.specs.LogLaws.{length-frame_header}
 use Rattle.oal_store.specs.Appending.{Appends, frames_of}
 use Rattle.oal_store.proofs.Appended.{appends-none, appended-more, growing-none, growing-then}
-use Rattle.oal_store.proofs.appending.append_pages.Given as given
 use Rattle.oal_store.proofs.appending.append_pages.Goals as goal
 
 pub loop-number-init : goal.loop-number-init

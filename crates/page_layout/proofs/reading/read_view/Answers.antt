@@ -2,6 +2,7 @@ use Rattle.std.proofs.Common.{◌≡◌, ◌+◌, ◌-◌, ℕ, take, drop, Ok, 
 use Rattle.std.proofs.Math.Path.{subst⁻¹}
 use Rattle.format_spec.specs.Page.{array_place}
 use Rattle.cell_codec.specs.Cells.{BeginsWithCell}
+use Rattle.page_layout.specs.Views.{IsViewAt}
 use Rattle.page_layout.proofs.Viewing.{IsViewAt-begins, IsViewAt-begun}
 use Rattle.page_layout.proofs.reading.read_view.Goals as goal
 
@@ -11,9 +12,10 @@ returns-clause-found c =
     let array : c.header_place.result + c.header_length.result ≡ array_place a.number a.kind = ap₂ (λ (x y : ℕ). x + y) c.header_place.ensures.value c.header_length.ensures.value in
     let place = c.place_of-place.ensures.value in
     let holds = rw c.in-Ok.is at c.read_cell.ensures.holds in
-    IsViewAt-begun a.page.now a.number a.usable a.kind c.requires.whole a.count a.index c.in-Ok.view
+    subst⁻¹ (IsViewAt a.page.now a.number a.usable a.kind a.count a.index) c.in_parts.ensures
+    (IsViewAt-begun a.page.now a.number a.usable a.kind c.requires.whole a.count a.index c.in-Ok.view
     (omega (arith, c.if-place-array.false, array, place)) (omega (arith, c.if-place-room.false, c.room.ensures, place))
-    (subst (λ (p : ℕ). BeginsWithCell a.kind a.usable (take (a.usable - p) (drop p a.page.now)) c.in-Ok.view) place holds)
+    (subst (λ (p : ℕ). BeginsWithCell a.kind a.usable (take (a.usable - p) (drop p a.page.now)) c.in-Ok.view) place holds))
 
 pub returns-in_default-clause-none : goal.returns-in_default-clause-none
 returns-in_default-clause-none c view at =

@@ -10,7 +10,7 @@ returns-in-Ok-lines_of-clause-pages g c =
       same = reads.same;
       count = reads.count;
       answer = IfSome_then (g.S.PageRead.pages store) reads.answer (λ m rows.
-          answer-of_rows g.row.S-Fault.Denot (record { size = g.S.PageRead.size store; usable = g.S.PageRead.usable store }) (record { count = g.S.PageRead.count store; pages = m }) c.in-Ok.rows c.in-Ok-lines_of.answer rows
+          answer-of_rows g.row.S-Fault.Denot (record { size = g.S.PageRead.size store; usable = g.S.PageRead.usable store }) (record { count = g.S.PageRead.count store; pages = m }) c.in-Ok.rows.items c.in-Ok-lines_of.answer rows
           (rw c.deref.ensures.value at c.in-Ok-lines_of.ensures));
     }
 

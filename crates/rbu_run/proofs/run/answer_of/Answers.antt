@@ -1,31 +1,38 @@
-use Rattle.std.proofs.Common.{◌≡◌, Some, refl, sym, ◌∙◌, inr, inl, true, map, string_bytes}
-use Rattle.update_spec.specs.declared.Command.TheVariants.{Apply}
-use Rattle.update_spec.specs.Words.{AsksUpdate}
+use Rattle.std.proofs.Common.{◌≡◌, Some, true, refl, sym, ◌∙◌, subst, inl, inr, map, string_bytes}
+use Rattle.update_spec.specs.declared.Command.TheVariants.{Apply, DumpSchema}
+use Rattle.update_spec.specs.Words.{AreWords, AsksUpdate, AsksDump}
 use Rattle.rbu_run.proofs.run.answer_of.Given as given
 use Rattle.rbu_run.proofs.run.answer_of.Goals as goal
 
-pub returns-in_default-clause-files : goal.returns-in_default-clause-files
-returns-in_default-clause-files g c asks =
-    absurd (c.in_default.not-Some (Apply 4294967295) (c.command_of.ensures.only (Apply 4294967295) asks))
+pub returns-in_default-clause-ends : goal.returns-in_default-clause-ends
+returns-in_default-clause-ends g c =
+    inr (inr (inr ((λ command are. c.in_default.not-Some command (c.command_of.ensures.only command are)), refl, refl)))
+
+pub returns-then-is_whole_update-clause-ends : goal.returns-then-is_whole_update-clause-ends
+returns-then-is_whole_update-clause-ends g c =
+    let asks : AsksUpdate (map string_bytes c.args.words.now) = subst (AreWords (map string_bytes c.args.words.now)) (c.is_whole_update.ensures.0 c.if-is_whole_update.true) c.in-Some.ensures.found in
+    inl (asks, record { of_update = c.update_answer.ensures.ended; files = c.update_answer.ensures.files; crash = c.update_answer.ensures.crash })
+
+pub returns-then-is_schema_dump-clause-ends : goal.returns-then-is_schema_dump-clause-ends
+returns-then-is_schema_dump-clause-ends g c =
+    let asks : AsksDump (map string_bytes c.args.words.now) = subst (AreWords (map string_bytes c.args.words.now)) (c.is_schema_dump.ensures.0 c.if-is_schema_dump.true) c.in-Some.ensures.found in
+    inr (inl (asks, record { prints = c.dump_answer.ensures.prints; same = c.dump_answer.ensures.same; crash = c.dump_answer.ensures.crash }))
 
 -- the words ask for another command
-not_update : (g : given.Over) (c : goal.After-not_yet g) → ¬ AsksUpdate (map string_bytes c.args.words.now)
-not_update g c asks =
+no_update : (g : given.Over) (c : goal.After-not_yet g) → ¬ AsksUpdate (map string_bytes c.args.words.now)
+no_update g c asks =
     let read : Some c.in-Some.command ≡ Some (Apply 4294967295) = sym c.in-Some.is ∙ c.command_of.ensures.only (Apply 4294967295) asks in
     let whole : c.in-Some.command ≡ Apply 4294967295 = cc in
     let yes : c.is_whole_update.result ≡ true = c.is_whole_update.ensures.1 whole in
-    cc (yes, c.if-not-is_whole_update.true)
+    cc (yes, c.if-is_whole_update.false)
 
-pub returns-then-not-is_whole_update-clause-words : goal.returns-then-not-is_whole_update-clause-words
-returns-then-not-is_whole_update-clause-words g c =
-    rw c.not_yet.ensures (inr (inl ((not_update g c, (c.in-Some.command, c.in-Some.ensures.found)), refl)))
+no_dump : (g : given.Over) (c : goal.After-not_yet g) → ¬ AsksDump (map string_bytes c.args.words.now)
+no_dump g c asks =
+    let read : Some c.in-Some.command ≡ Some DumpSchema = sym c.in-Some.is ∙ c.command_of.ensures.only DumpSchema asks in
+    let schema : c.in-Some.command ≡ DumpSchema = cc in
+    let yes : c.is_schema_dump.result ≡ true = c.is_schema_dump.ensures.1 schema in
+    cc (yes, c.if-is_schema_dump.false)
 
-pub returns-then-not-is_whole_update-clause-files : goal.returns-then-not-is_whole_update-clause-files
-returns-then-not-is_whole_update-clause-files g c asks = absurd (not_update g c asks)
-
-pub returns-in_default-clause-crash : goal.returns-in_default-clause-crash
-returns-in_default-clause-crash g c asks =
-    absurd (c.in_default.not-Some (Apply 4294967295) (c.command_of.ensures.only (Apply 4294967295) asks))
-
-pub returns-then-not-is_whole_update-clause-crash : goal.returns-then-not-is_whole_update-clause-crash
-returns-then-not-is_whole_update-clause-crash g c asks = absurd (not_update g c asks)
+pub returns-clause-ends : goal.returns-clause-ends
+returns-clause-ends g c =
+    rw c.not_yet.ensures (inr (inr (inl (c.part_of.result, (no_update g c, no_dump g c, (c.in-Some.command, c.in-Some.ensures.found, c.part_of.ensures)), refl, refl))))

@@ -1,4 +1,4 @@
-use Rattle.std.proofs.Common.{◌≡◌, List, [], length, arith}
+use Rattle.std.proofs.Common.{◌≡◌, List, length, arith}
 use Rattle.std.proofs.Math.Path.{subst⁻¹}
 use Rattle.std.specs.Vec.Iter.{into_iter_items}
 use Rattle.std.proofs.lemmas.List.{nil_from_length}

@@ -5,13 +5,13 @@ use Rattle.database_spec.specs.declared.catalog.Catalog.{Catalog}
 use Rattle.schema_read.specs.Answers.{IsAnswer}
 use Rattle.schema_read.proofs.read.read_catalog.Goals as goal
 
-pub returns-in-Ok-clause-pages : goal.returns-in-Ok-clause-pages
-returns-in-Ok-clause-pages g c =
+pub returns-in-Ok-of-clause-pages : goal.returns-in-Ok-of-clause-pages
+returns-in-Ok-of-clause-pages g c =
     let store = c.args.store.now in
     let read = c.in-Ok.ensures.pages in
     record {
       same = read.same;
       count = read.count;
-      answer = IfSome_then (g.S.PageRead.pages store) read.answer (λ m reads depth members numbers tree.
-          subst⁻¹ (λ (k : Catalog). IsAnswer (record { size = g.S.PageRead.size store; usable = g.S.PageRead.usable store }) (record { count = g.S.PageRead.count store; pages = m }) (Ok k)) c.of.ensures (reads depth members numbers tree));
+      answer = IfSome_then (g.S.PageRead.pages store) read.answer (λ m reads.
+          subst⁻¹ (λ (k : Catalog). IsAnswer (record { size = g.S.PageRead.size store; usable = g.S.PageRead.usable store }) (record { count = g.S.PageRead.count store; pages = m }) (Ok k)) c.in-Ok-of.ensures reads);
     }

@@ -1,5 +1,6 @@
-use Rattle.std.proofs.Common.{ℕ, List, [], length, ap, ◌∙◌, subst, arith}
+use Rattle.std.proofs.Common.{ℕ, List, [], length, ap, inl, ◌∙◌, subst, arith}
 use Rattle.std.proofs.Math.Path.{subst⁻¹}
+use Rattle.std.proofs.lemmas.Result.{err_from_is_err_and}
 use Rattle.std.specs.List.{All}
 use Rattle.format_spec.specs.declared.PageKind.{PageKind}
 use Rattle.page_spec.specs.Rooms.{IsOneCell, free_bytes, needs}
@@ -65,3 +66,6 @@ returns-clause-changed g c =
     moves-root z a.page a.change a.comes.items x y (λ cells has.
     subst (λ (n : Node). MovesOut z n (bytes_changed cells a.change a.comes.items) x y) c.node_of-node.ensures
     (subst (λ (m : List (List ℕ)). MovesOut z node m x y) (c.as_slice.ensures.value ∙ c.in_ok-cells.ensures z.usable cells has) s)))) c.move_out.ensures.moved
+
+pub returns-in_err-cells-clause-refuses : goal.returns-in_err-cells-clause-refuses
+returns-in_err-cells-clause-refuses g c = λ m trunks told free. let p = err_from_is_err_and c.from_residual.result c.from_residual.ensures.1 in rw (p.1, p.2) (inl tt)

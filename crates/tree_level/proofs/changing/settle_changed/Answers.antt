@@ -1,5 +1,6 @@
-use Rattle.std.proofs.Common.{ℕ, List, [], length, ap, ◌∙◌, subst, arith}
+use Rattle.std.proofs.Common.{ℕ, List, [], length, ap, inl, ◌∙◌, subst, arith}
 use Rattle.std.proofs.Math.Path.{subst⁻¹}
+use Rattle.std.proofs.lemmas.Result.{err_from_is_err_and}
 use Rattle.std.specs.List.{All}
 use Rattle.format_spec.specs.declared.PageKind.{PageKind}
 use Rattle.page_spec.specs.Rooms.{IsOneCell, free_bytes, needs}
@@ -66,3 +67,13 @@ returns-clause-few g c =
     if-ok_map c.settle.result (λ dividers few. λ low.
     let twice = made-twice z a.page a.change a.comes.items c.requires.page c.in_ok-cells.cells.items c.in_ok-cells.ensures c.requires.sizes.usable low in
     few (omega (arith, twice, ap needs c.as_slice.ensures.value, ap (λ (n : Node). page_room n.kind u) c.node_of-node.ensures))) c.settle.ensures.few
+
+pub returns-in_err-cells-clause-refuses : goal.returns-in_err-cells-clause-refuses
+returns-in_err-cells-clause-refuses g c = λ low m trunks told free. let p = err_from_is_err_and c.from_residual.result c.from_residual.ensures.1 in rw (p.1, p.2) (inl tt)
+
+pub returns-clause-refuses : goal.returns-clause-refuses
+returns-clause-refuses g c = λ low.
+    let a = c.args in
+    let u = g.S.PageRead.usable a.store.now in
+    let twice = made-twice (sizes_of g.S.PageRead a.store.now) a.page a.change a.comes.items c.requires.page c.in_ok-cells.cells.items c.in_ok-cells.ensures c.requires.sizes.usable low in
+    c.settle.ensures.refuses (omega (arith, twice, ap needs c.as_slice.ensures.value, ap (λ (n : Node). page_room n.kind u) c.node_of-node.ensures))

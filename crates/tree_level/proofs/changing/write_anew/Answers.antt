@@ -1,5 +1,6 @@
 use Rattle.std.proofs.Common.{ℕ, List, [], ap, ◌∙◌, subst, arith}
 use Rattle.std.proofs.Math.Path.{subst⁻¹}
+use Rattle.std.proofs.lemmas.Result.{err_from_is_err_and}
 use Rattle.std.specs.List.{All}
 use Rattle.format_spec.specs.declared.PageKind.{PageKind}
 use Rattle.page_spec.specs.Rooms.{IsOneCell, free_bytes, needs}
@@ -42,3 +43,6 @@ returns-clause-written g c =
     subst (λ (n : Node). WritesNode z n (bytes_changed cells a.change a.comes.items) x y) c.node_of-node.ensures
     (subst (λ (m : List (List ℕ)). WritesNode z c.node_of-node.result m x y) (c.as_slice.ensures.value ∙ c.in_ok-cells.ensures z.usable cells has) w) in
     on-ok_map c.write_node.result (Becomes-weaken S a.store.now c.write_node.new.store more) c.write_node.ensures.written
+
+pub returns-in_err-cells-clause-other : goal.returns-in_err-cells-clause-other
+returns-in_err-cells-clause-other g c = let p = err_from_is_err_and c.from_residual.result c.from_residual.ensures.1 in rw (p.1, p.2) tt

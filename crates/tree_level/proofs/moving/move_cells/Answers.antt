@@ -1,5 +1,6 @@
 use Rattle.std.proofs.Common.{◌≡◌, ℕ, ◌<◌, false, List, [], ◌++◌, refl, ap, ◌∙◌, subst, arith}
 use Rattle.std.proofs.Math.Path.{subst⁻¹}
+use Rattle.std.proofs.lemmas.Result.{err_from_is_err_and}
 use Rattle.std.specs.List.{All}
 use Rattle.page_spec.specs.Rooms.{IsOneCell, free_bytes, needs}
 use Rattle.put_spec.specs.Steps.{bytes_in}
@@ -59,3 +60,6 @@ returns-in-Ok-clause-moved g c = λ old told.
           c.as_slice-slice.ensures.value ∙ c.in_ok-cells.ensures z.usable cells has ∙ ap (λ (l : List (List ℕ)). l ++ bytes_in cells) c.new-comes.ensures.items in
           subst (λ (l : List (List ℕ)). WritesNode z node l (paged S a.store.now old) (paged S c.write_node.new.store w.0)) same w.2,
     )
+
+pub returns-in_err-cells-clause-other : goal.returns-in_err-cells-clause-other
+returns-in_err-cells-clause-other g c = let p = err_from_is_err_and c.from_residual.result c.from_residual.ensures.1 in rw (p.1, p.2) tt

@@ -1,17 +1,22 @@
-use Rattle.std.proofs.Common.{◌≡◌, ◌≢◌, ◌≤◌, ℕ, List, [], drop, ◌∙◌, subst, arith}
+use Rattle.std.proofs.Common.{◌≡◌, ◌≢◌, ◌≤◌, ◌+◌, ℕ, List, [], length, drop, ap, inl, ◌∙◌, subst, arith}
 use Rattle.std.proofs.lemmas.List.{length-drop}
 use Rattle.std.proofs.Math.Path.{subst⁻¹}
+use Rattle.std.proofs.lemmas.Result.{IfErr-weaker, err_from_is_err_and}
 use Rattle.std.specs.List.{All}
+use Rattle.page_spec.specs.FreePages.{due_pages}
 use Rattle.format_spec.specs.declared.PageKind.{PageKind}
 use Rattle.page_spec.specs.Pages.{IsInRange}
 use Rattle.page_spec.specs.Rooms.{IsOneCell, needs, free_bytes}
 use Rattle.put_spec.specs.Steps.{Took}
 use Rattle.tree_spec.specs.Standing.{Sizes}
+use Rattle.tree_spec.specs.Worlds.{IsFree}
+use Rattle.tree_pages.specs.Takes.{IsShort}
+use Rattle.tree_pages.specs.TakesLaws.{short-more}
 use Rattle.tree_pages.specs.Writers.{Becomes, paged, sizes_of}
 use Rattle.tree_pages.specs.WritersLaws.{sizes-same}
 use Rattle.tree_level.specs.declared.writing.Node.{Node}
 use Rattle.tree_level.specs.Levels.{WritesNode, above_kind}
-use Rattle.tree_level.proofs.Fronts.{cells-behind, rest-of, room-other, two-fit, spreads-moved, on-ok_map}
+use Rattle.tree_level.proofs.Fronts.{cells-behind, rest-of, room-other, two-fit, spreads-moved, spreads-short, spreads-takes, on-ok_all, on-ok_map}
 use Rattle.tree_level.proofs.settling.move_out.Goals as goal
 
 pub write_node-requires-clause-cells : goal.write_node-requires-clause-cells
@@ -95,3 +100,57 @@ returns-clause-moved g c =
   where
     behind : (n : ℕ) → 1 ≤ n → n ≢ 1 → 2 ≤ n
     behind n some other = omega arith
+
+pub returns-clause-rises : goal.returns-clause-rises
+returns-clause-rises g c =
+    let S = g.S.PageRead in
+    let size = S.size c.args.store.now in
+    let one = c.spread_cells.new.store in
+    let two = c.take_page.new.store in
+    let s = c.in_ok-dividers.ensures in
+    on-ok_all c.write_node-2.result
+    (omega (
+      arith,
+      s.rises,
+      s.few c.requires.twice,
+      subst (λ (n : ℕ). due_pages n (S.count two) ≤ due_pages n (S.count one) + 1) s.owes.stays.size c.in_ok-fresh.ensures.rises,
+      ap (due_pages size) c.in_ok-write_node.ensures.count,
+      ap (due_pages size) c.write_node-2.ensures.count,
+    ))
+
+pub returns-in_err-dividers-clause-refuses : goal.returns-in_err-dividers-clause-refuses
+returns-in_err-dividers-clause-refuses g c = λ m trunks told free.
+    let S = g.S.PageRead in
+    let a = c.args.store.now in
+    let p = err_from_is_err_and c.from_residual.result c.from_residual.ensures.1 in
+    rw (p.1, p.2)
+    (short-more (sizes_of S a) c.args.limit (S.count c.spread_cells.new.store) c.in_err-dividers.field-0.0 (paged S a m) trunks 2 3 (omega arith) (c.in_err-dividers.ensures.refuses c.requires.twice m trunks told free))
+
+pub returns-in_err-fresh-clause-refuses : goal.returns-in_err-fresh-clause-refuses
+returns-in_err-fresh-clause-refuses g c = λ m trunks told free.
+    let S = g.S.PageRead in
+    let a = c.args.store.now in
+    let one = c.spread_cells.new.store in
+    let z = sizes_of S a in
+    let cells = c.args.cells.now in
+    let limit = c.args.limit in
+    let fault = c.in_err-fresh.field-0.0 in
+    let count = S.count c.take_page.new.store in
+    let s = c.in_ok-dividers.ensures in
+    let dividers = c.in_ok-dividers.field-0.dividers.items in
+    let same = sizes-same S a one s.owes.stays in
+    let n = s.spread m told in
+    let x = paged S a m in
+    let y = paged S one n.0 in
+    let takes = spreads-takes z c.args.root.kind cells dividers (drop c.in_ok-dividers.field-0.start cells) x y trunks n.2 c.requires.cells free in
+    let refused = subst (λ (s : Sizes). IsShort s 1 limit y takes.rest count fault) same
+    (c.in_err-fresh.ensures.refuses n.0 takes.rest n.1 (subst⁻¹ (λ (s : Sizes). IsFree s y takes.rest) same (takes.turns.freelist free))) in
+    let p = err_from_is_err_and c.from_residual-in_err-fresh.result c.from_residual-in_err-fresh.ensures.1 in
+    rw (p.1, p.2)
+    (short-more z limit count fault x trunks (length dividers + 1) 3 (omega (arith, s.few c.requires.twice)) (spreads-short z (length dividers) limit count x y trunks fault free s.most takes refused))
+
+pub returns-in_err-write_node-clause-refuses : goal.returns-in_err-write_node-clause-refuses
+returns-in_err-write_node-clause-refuses g c = λ m trunks told free. let p = err_from_is_err_and c.from_residual-in_err-write_node.result c.from_residual-in_err-write_node.ensures.1 in rw (p.1, p.2) (inl c.in_err-write_node.ensures.other)
+
+pub returns-clause-refuses : goal.returns-clause-refuses
+returns-clause-refuses g c = λ m trunks told free. IfErr-weaker c.write_node-2.result _ _ (λ fault other. inl other) c.write_node-2.ensures.other

@@ -1,6 +1,8 @@
-use Rattle.std.proofs.Common.{ℕ, List, drop, subst}
+use Rattle.std.proofs.Common.{ℕ, List, drop, ap, inl, subst, arith}
 use Rattle.std.proofs.Math.Path.{subst⁻¹}
+use Rattle.std.proofs.lemmas.Result.{err_from_is_err_and}
 use Rattle.std.specs.List.{All}
+use Rattle.page_spec.specs.FreePages.{due_pages}
 use Rattle.page_spec.specs.Rooms.{IsOneCell}
 use Rattle.tree_spec.specs.Standing.{Sizes}
 use Rattle.tree_pages.specs.Writers.{paged, sizes_of}
@@ -39,3 +41,12 @@ returns-clause-settled g c = λ old told.
       k.1,
       spreads-settled (sizes_of S a) node cells (drop start cells) dividers x y z n.2 writes,
     )
+
+pub returns-clause-rises : goal.returns-clause-rises
+returns-clause-rises g c = omega (arith, c.in_ok-dividers.ensures.rises, ap (due_pages (g.S.PageRead.size c.args.store.now)) c.in_ok-write_node.ensures.count)
+
+pub returns-in_err-dividers-clause-refuses : goal.returns-in_err-dividers-clause-refuses
+returns-in_err-dividers-clause-refuses g c = λ twice m trunks told free. let p = err_from_is_err_and c.from_residual.result c.from_residual.ensures.1 in rw (p.1, p.2) (c.in_err-dividers.ensures.refuses twice m trunks told free)
+
+pub returns-in_err-write_node-clause-refuses : goal.returns-in_err-write_node-clause-refuses
+returns-in_err-write_node-clause-refuses g c = λ twice m trunks told free. let p = err_from_is_err_and c.from_residual-in_err-write_node.result c.from_residual-in_err-write_node.ensures.1 in rw (p.1, p.2) (inl c.in_err-write_node.ensures.other)

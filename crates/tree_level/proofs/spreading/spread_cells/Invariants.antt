@@ -4,6 +4,7 @@ use Rattle.page_spec.specs.Rooms.{IsOneCell, needs}
 use Rattle.page_store.specs.Store.{Stays}
 use Rattle.tree_balance.specs.Cuts.{page_room}
 use Rattle.tree_level.specs.Levels.{Spreads, above_kind}
+use Rattle.tree_pages.specs.Takes.{RisesBy}
 use Rattle.tree_pages.specs.Writers.{Becomes, sizes_of}
 use Rattle.tree_level.proofs.Fronts.{AreFew}
 use Rattle.tree_level.proofs.spreading.spread_cells.Given as goal
@@ -14,6 +15,7 @@ invariant-loop-alloc g l = record {
   faults : g.S.PageRead.faults l.store ≡ g.S.PageRead.faults l.fn.store;
   grows : g.S.PageRead.count l.fn.store ≤ g.S.PageRead.count l.store;
   limited : g.S.PageRead.count l.store ≤ max l.limit (g.S.PageRead.count l.fn.store);
+  rises : RisesBy g.S.PageRead (length l.dividers.items) l.fn.store l.store;
   whole : length l.page ≡ g.S.PageRead.size l.fn.store;
   left : l.start + l.at < length l.cells;
   over : length l.dividers.items ≡ 0 → l.start ≡ 0;

@@ -1,8 +1,10 @@
-use Rattle.std.proofs.Common.{◌≡◌, ◌+◌, ◌^◌, ◌<◌, ℕ, [], ◌∷◌, length, take, drop, slice_index_or, sym, ap, ◌∙◌, subst, arith}
+use Rattle.std.proofs.Common.{◌≡◌, ◌+◌, ◌^◌, ◌<◌, ℕ, [], ◌∷◌, length, take, drop, slice_index_or, sym, ap, ◌∙◌, subst, inl, arith}
 use Rattle.std.proofs.Math.Path.{subst⁻¹}
 use Rattle.std.proofs.lemmas.List.{get_or_default}
+use Rattle.std.proofs.lemmas.Result.{err_from_is_err_and}
 use Rattle.std.specs.List.{All}
 use Rattle.page_spec.specs.Rooms.{IsOneCell}
+use Rattle.page_spec.specs.FreePages.{due_pages}
 use Rattle.page_spec.specs.Pages.{IsInRange}
 use Rattle.tree_spec.specs.Standing.{Sizes}
 use Rattle.tree_balance.specs.Cuts.{risen}
@@ -76,3 +78,15 @@ returns-clause-divider g c =
     let fits : c.in_ok-child.child < 2 ^ 32 = omega (arith, rw c.in_ok-child.was at c.take_page.type_inv) in
     divider-cell c.args.kind usable c.args.cells.now c.cut-front.result c.in_ok-child.child c.in_ok-divider.divider fits c.requires.cells c.cut-front.ensures.front c.cut-front.ensures.back
     (subst (λ (u : ℕ). IsDivider c.args.kind u c.args.cells.now c.cut-front.result c.in_ok-child.child c.in_ok-divider.divider) c.usable-usable.ensures c.in_ok-divider.ensures)
+
+pub returns-clause-rises : goal.returns-clause-rises
+returns-clause-rises g c = omega (arith, c.in_ok-child.ensures.rises, ap (due_pages (g.S.PageRead.size c.args.store.now)) c.in_ok-write_node.ensures.count)
+
+pub returns-in_err-child-clause-refuses : goal.returns-in_err-child-clause-refuses
+returns-in_err-child-clause-refuses g c = λ m trunks told free. let p = err_from_is_err_and c.from_residual.result c.from_residual.ensures.1 in rw (p.1, p.2) (c.in_err-child.ensures.refuses m trunks told free)
+
+pub returns-in_err-divider-clause-refuses : goal.returns-in_err-divider-clause-refuses
+returns-in_err-divider-clause-refuses g c = λ m trunks told free. let p = err_from_is_err_and c.from_residual-in_err-divider.result c.from_residual-in_err-divider.ensures.1 in rw (p.1, p.2) (inl tt)
+
+pub returns-in_err-write_node-clause-refuses : goal.returns-in_err-write_node-clause-refuses
+returns-in_err-write_node-clause-refuses g c = λ m trunks told free. let p = err_from_is_err_and c.from_residual-in_err-write_node.result c.from_residual-in_err-write_node.ensures.1 in rw (p.1, p.2) (inl c.in_err-write_node.ensures.other)

@@ -1,4 +1,5 @@
-use Rattle.tree_pages.proofs.Taken.{took, refusal}
+use Rattle.tree_pages.specs.Writers.{sizes_of}
+use Rattle.tree_pages.proofs.Taken.{took, refusal, short, stays-refused}
 use Rattle.tree_pages.proofs.taking.take_page.Goals as goal
 
 pub returns-in-Ok-clause-took : goal.returns-in-Ok-clause-took
@@ -9,5 +10,11 @@ returns-in-Ok-clause-took g c = λ old told.
 
 pub returns-in-Err-clause-refuses : goal.returns-in-Err-clause-refuses
 returns-in-Err-clause-refuses g c = λ m trunks told free.
+    let S = g.S.PageRead in
     let a = c.args.store.now in
-    refusal m (g.S.PageRead.size a) (g.S.PageRead.usable a) (g.S.PageRead.count a) c.args.limit _ c.in-Err.fault _ trunks c.of_freelist.ensures free (c.in-Err.ensures.answer m told)
+    let e = c.in-Err.ensures in
+    short (sizes_of S a) c.args.limit (S.count a) (S.count c.allocate.new.store) m trunks c.of_freelist.result (stays-refused c.in-Err.fault c.of_freelist.result c.of_freelist.ensures e.stays)
+    (refusal m (S.size a) (S.usable a) (S.count a) c.args.limit _ c.in-Err.fault c.of_freelist.result trunks c.of_freelist.ensures free (e.answer m told))
+
+pub returns-in-Err-clause-stays : goal.returns-in-Err-clause-stays
+returns-in-Err-clause-stays g c = stays-refused c.in-Err.fault c.of_freelist.result c.of_freelist.ensures c.in-Err.ensures.stays

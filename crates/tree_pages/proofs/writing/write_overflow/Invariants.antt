@@ -1,5 +1,6 @@
-use Rattle.std.proofs.Common.{◌≡◌, ◌≤◌, length, max}
+use Rattle.std.proofs.Common.{◌≡◌, ◌+◌, ◌≤◌, length, max}
 use Rattle.page_spec.specs.Chains.{pages_for}
+use Rattle.page_spec.specs.FreePages.{due_pages}
 use Rattle.page_store.specs.Store.{Stays}
 use Rattle.tree_pages.specs.Writers.{Becomes, sizes_of}
 use Rattle.tree_pages.proofs.Overflowed.{WritingAny}
@@ -11,6 +12,8 @@ invariant-loop-left g l = record {
   faults : g.S.PageRead.faults l.store ≡ g.S.PageRead.faults l.fn.store;
   grows : g.S.PageRead.count l.fn.store ≤ g.S.PageRead.count l.store;
   limited : g.S.PageRead.count l.store ≤ max l.limit (g.S.PageRead.count l.fn.store);
+  rises : due_pages (g.S.PageRead.size l.fn.store) (g.S.PageRead.count l.store) + l.left
+      ≤ due_pages (g.S.PageRead.size l.fn.store) (g.S.PageRead.count l.fn.store) + pages_for (g.S.PageRead.usable l.fn.store) (length l.bytes);
   whole : length l.page ≡ g.S.PageRead.size l.fn.store;
   most : l.left ≤ pages_for (g.S.PageRead.usable l.fn.store) (length l.bytes);
   none : l.left ≡ pages_for (g.S.PageRead.usable l.fn.store) (length l.bytes) → l.next ≡ 0;

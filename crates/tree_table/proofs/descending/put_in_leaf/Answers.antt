@@ -1,4 +1,4 @@
-use Rattle.std.proofs.Common.{ℕ, List, length, sym, ap, ◌∙◌, subst, arith}
+use Rattle.std.proofs.Common.{ℕ, List, length, sym, ap, ◌∙◌, subst, arith, inl}
 use Rattle.std.proofs.lemmas.Int.{to_z-of_z}
 use Rattle.std.specs.Int.{w64}
 use Rattle.std.specs.List.{All}
@@ -8,6 +8,8 @@ use Rattle.tree_pages.specs.Writers.{paged, sizes_of}
 use Rattle.tree_level.specs.Changes.{Changes}
 use Rattle.tree_level.specs.Levels.{above_kind}
 use Rattle.tree_table.proofs.Unders.{leaf-puts, one-row, row-fits}
+use Rattle.std.proofs.lemmas.Result.{err_from_is_err_and}
+use Rattle.tree_table.proofs.Needed.{changes-take}
 use Rattle.tree_table.proofs.descending.put_in_leaf.Goals as goal
 
 pub change_page-requires-clause-comes : goal.change_page-requires-clause-comes
@@ -42,3 +44,37 @@ returns-clause-few g c =
     c.in_ok-dividers.ensures.few
     (row-fits u comes c.args.page.kind c.requires.sizes.usable (one-row u c.args.rowid c.args.cell comes c.args.page.kind c.requires.kind c.requires.cell c.in_ok-comes.ensures)
     (omega (arith, ap length c.in_ok-comes.ensures)))
+
+pub returns-clause-takes : goal.returns-clause-takes
+returns-clause-takes g c = λ old told.
+    let S = g.S.PageRead in
+    let a = c.args.store.now in
+    let z = sizes_of S a in
+    let comes = c.in_ok-comes.comes.items in
+    let all = one-row z.usable c.args.rowid c.args.cell comes c.args.page.kind c.requires.kind c.requires.cell c.in_ok-comes.ensures in
+    let few = c.in_ok-dividers.ensures.few (row-fits z.usable comes c.args.page.kind c.requires.sizes.usable all (omega (arith, ap length c.in_ok-comes.ensures))) in
+    let r = c.in_ok-dividers.ensures.changed old told in (
+      r.0,
+      r.1,
+      changes-take z c.args.page 0 c.leaf_edit-edit.result.change comes c.in_ok-dividers.dividers.items 2 (paged S a old) (paged S c.change_page.new.store r.0) c.requires.page (sym c.requires.kind) all few r.2,
+    )
+
+pub returns-clause-rises : goal.returns-clause-rises
+returns-clause-rises g c =
+    let u = g.S.PageRead.usable c.args.store.now in
+    let comes = c.in_ok-comes.comes.items in
+    let few = c.in_ok-dividers.ensures.few
+    (row-fits u comes c.args.page.kind c.requires.sizes.usable (one-row u c.args.rowid c.args.cell comes c.args.page.kind c.requires.kind c.requires.cell c.in_ok-comes.ensures)
+    (omega (arith, ap length c.in_ok-comes.ensures))) in
+    omega (arith, c.in_ok-dividers.ensures.rises, few)
+
+pub returns-in_err-comes-clause-refuses : goal.returns-in_err-comes-clause-refuses
+returns-in_err-comes-clause-refuses g c = λ m trunks told free. let p = err_from_is_err_and c.from_residual.result c.from_residual.ensures.1 in rw (p.1, p.2) (inl tt)
+
+pub returns-in_err-dividers-clause-refuses : goal.returns-in_err-dividers-clause-refuses
+returns-in_err-dividers-clause-refuses g c = λ m trunks told free.
+    let u = g.S.PageRead.usable c.args.store.now in
+    let comes = c.in_ok-comes.comes.items in
+    let low = row-fits u comes c.args.page.kind c.requires.sizes.usable (one-row u c.args.rowid c.args.cell comes c.args.page.kind c.requires.kind c.requires.cell c.in_ok-comes.ensures)
+    (omega (arith, ap length c.in_ok-comes.ensures)) in
+    let p = err_from_is_err_and c.from_residual-in_err-dividers.result c.from_residual-in_err-dividers.ensures.1 in rw (p.1, p.2) (c.in_err-dividers.ensures.refuses low m trunks told free)

@@ -1,9 +1,10 @@
-use Rattle.std.proofs.Common.{ℕ, List, length, sym, ap, ◌∙◌, subst, arith}
+use Rattle.std.proofs.Common.{ℕ, List, length, sym, ap, ◌∙◌, subst, arith, inl}
 use Rattle.std.proofs.lemmas.Int.{to_z-of_z}
 use Rattle.std.specs.Int.{w64}
 use Rattle.tree_pages.specs.Writers.{paged, sizes_of}
 use Rattle.tree_level.specs.Changes.{ChangesRoot}
 use Rattle.tree_table.proofs.Unders.{leaf-puts_into, one-row, row-fits}
+use Rattle.std.proofs.lemmas.Result.{err_from_is_err_and}
 use Rattle.tree_table.proofs.putting.put_in_root.Goals as goal
 
 pub change_root-requires-clause-comes : goal.change_root-requires-clause-comes
@@ -33,3 +34,13 @@ returns-clause-put g c = λ old told.
           (λ usable cells cell has is. e.ensures.edit usable cells cell has (is ∙ sym back))
           (subst (λ (l : List (List ℕ)). ChangesRoot z c.args.page e.result.change l x y) c.in_ok-comes.ensures r.2),
     )
+
+pub returns-in_err-comes-clause-refuses : goal.returns-in_err-comes-clause-refuses
+returns-in_err-comes-clause-refuses g c = λ m trunks told free.
+    let p = err_from_is_err_and c.from_residual.result c.from_residual.ensures.1 in
+    rw (p.1, p.2) (inl tt)
+
+pub returns-in_err-change_root-clause-refuses : goal.returns-in_err-change_root-clause-refuses
+returns-in_err-change_root-clause-refuses g c = λ m trunks told free.
+    let p = err_from_is_err_and c.from_residual-in_err-change_root.result c.from_residual-in_err-change_root.ensures.1 in
+    rw (p.1, p.2) (c.in_err-change_root.ensures.refuses m trunks told free)

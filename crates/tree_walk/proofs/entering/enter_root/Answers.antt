@@ -19,7 +19,7 @@ returns-in-Err-clause-pages g c =
     record {
       same = reads.same;
       count = reads.count;
-      answer = IfSome_then (g.S.PageRead.pages a.store.now) reads.answer (λ m bad. refused-root (m a.root) a.root (g.S.PageRead.usable a.store.now) c.in-Err.fault bad);
+      answer = IfSome_then (g.S.PageRead.pages a.store.now) reads.answer (λ m bad. refused-root (m a.root) a.root (g.S.PageRead.usable a.store.now) a.kind c.in-Err.fault bad);
     }
 
 pub returns-in-Ok-clause-owes : goal.returns-in-Ok-clause-owes

@@ -3,6 +3,7 @@ use Rattle.std.specs.Int.{w64}
 use Rattle.std.proofs.lemmas.Int.{to_z-of_z}
 use Rattle.std.proofs.lemmas.Option.{IfSome_then}
 use Rattle.common_spec.specs.ToldLaws.{told-both}
+use Rattle.tree_spec.specs.declared.TreeKind.TheVariants.{Table}
 use Rattle.tree_spec.specs.FaultsLaws.{damage-then}
 use Rattle.tree_walk.specs.Stores.{paged, sizes_of}
 use Rattle.tree_walk.specs.Courses.{stops}
@@ -40,7 +41,7 @@ returns-in-Err-clause-walk g c =
       same = enters.pages.same;
       count = enters.pages.count;
       answer = IfSome_then (g.S.PageRead.pages store) enters.pages.answer (λ m bad. λ course from_rowid.
-          damage-then (IsBadRoot (m a.root) a.root (g.S.PageRead.usable store)) (λ page rule. course ≡ stops page rule) from_rowid.refused c.in-Err.fault bad);
+          damage-then (IsBadRoot (m a.root) a.root (g.S.PageRead.usable store) Table) (λ page rule. course ≡ stops page rule) from_rowid.refused c.in-Err.fault bad);
     }
 
 pub returns-in-Ok-clause-pages : goal.returns-in-Ok-clause-pages

@@ -2,8 +2,9 @@ use Rattle.std.proofs.Common.{[], ap, sym, ◌∙◌, subst, refl}
 use Rattle.std.proofs.lemmas.Bool.{true≢false}
 use Rattle.format_spec.specs.Log.{pair_of}
 use Rattle.format_spec.specs.Sizes.{IsPageSize}
+use Rattle.wal_codec.specs.LogReadingLaws.{head-page_size}
 use Rattle.wal_codec.proofs.FramesLemmas.{page_size-whole, counts-none}
-use Rattle.wal_codec.proofs.ReadingLemmas.{head-front, head-within, head-page_size}
+use Rattle.wal_codec.proofs.ReadingLemmas.{head-front, head-within}
 use Rattle.wal_codec.proofs.reader.LogReader.begin.Goals as goal
 
 pub returns-in_default-clause-none : goal.returns-in_default-clause-none

@@ -1,4 +1,4 @@
-use Rattle.std.proofs.Common.{◌≡◌, ◌+◌, ◌*◌, ◌<◌, ◌≤◌, Ok, Err, List, ℕ, length, sym, ap, subst, arith}
+use Rattle.std.proofs.Common.{◌≡◌, ◌+◌, ◌*◌, ◌%◌, ◌<◌, ◌≤◌, Ok, Err, List, ℕ, length, sym, ap, subst, arith}
 use Rattle.wal_codec.specs.declared.log.Log.{Log}
 use Rattle.wal_codec.specs.declared.log.LogFault.TheVariants.{LogFrame}
 use Rattle.wal_codec.specs.declared.reader.LogReader.{LogReader}
@@ -45,6 +45,12 @@ returns-clause-answer c bytes left needed reading end =
 
 pub returns-clause-place : goal.returns-clause-place
 returns-clause-place c = ap (λ (log : Log). 32 + length log.frames * (24 + log.page_size)) c.kept.ensures
+
+pub returns-clause-words : goal.returns-clause-words
+returns-clause-words c =
+    let reader = c.args.self in
+    let same : c.kept.result.page_size ≡ reader.head.page_size = ap (λ (log : Log). log.page_size) c.kept.ensures in
+    subst (λ (n : ℕ). n % 8 ≡ 0) (sym same) reader.words
 
 pub returns-clause-size : goal.returns-clause-size
 returns-clause-size c =

@@ -1,0 +1,10 @@
+pub mod RightFindings
+pub mod FoundTreesLaws
+pub mod RightFindingsLaws
+pub mod FoundFreelistsLaws
+pub mod SubjectsLaws
+pub mod RightFilesLaws
+pub mod SoundFilesLaws
+pub mod WalksMadeLaws
+pub mod FindingsMadeLaws
+pub mod FaultlessFilesLaws

@@ -1,0 +1,4 @@
+pub mod Calls
+pub mod Parts
+pub mod Trunks
+pub mod Needs

@@ -1,0 +1,4 @@
+pub mod Remaining
+pub mod CoursesLaws
+pub mod Rows
+pub mod RemainingLaws

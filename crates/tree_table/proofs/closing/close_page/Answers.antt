@@ -1,0 +1,47 @@
+use Rattle.std.proofs.Common.{subst}
+use Rattle.std.proofs.Math.Path.{subst⁻¹}
+use Rattle.std.specs.List.{All}
+use Rattle.format_spec.specs.declared.PageKind.{PageKind}
+use Rattle.page_spec.specs.Rooms.{IsOneCell}
+use Rattle.tree_pages.specs.Writers.{paged, sizes_of}
+use Rattle.tree_level.specs.Levels.{above_kind}
+use Rattle.tree_table.specs.Deletes.{IsEmptied}
+use Rattle.tree_table.proofs.Closings.{emptied-closes, settled-closes}
+use Rattle.tree_table.proofs.Takings.{none-long}
+use Rattle.tree_table.proofs.Unders.{dividers-fit}
+use Rattle.tree_table.proofs.closing.close_page.Goals as goal
+
+pub returns-then-is_emptied-clause-left : goal.returns-then-is_emptied-clause-left
+returns-then-is_emptied-clause-left g c = λ old told.
+    let S = g.S.PageRead in
+    let a = c.args.store.now in
+    let none : IsEmptied c.args.page c.args.opened = c.is_emptied.ensures.0 c.if-is_emptied.true in (
+      old,
+      told,
+      λ rowid row base there opens.
+          emptied-closes (sizes_of S a) c.args.page c.requires.page c.requires.kind base there rowid row c.args.opened.change c.args.opened.comes.items (paged S a old) c.requires.within c.requires.comes opens none.0 none.1,
+    )
+
+pub change_page-requires-clause-comes : goal.change_page-requires-clause-comes
+change_page-requires-clause-comes g c = subst⁻¹ (λ (k : PageKind). All (IsOneCell k (g.S.PageRead.usable c.args.store.now)) c.args.opened.comes.items) c.requires.kind c.requires.comes
+
+pub returns-clause-left : goal.returns-clause-left
+returns-clause-left g c = λ old told.
+    let S = g.S.PageRead in
+    let a = c.args.store.now in
+    let n = c.in_ok-dividers.ensures.changed old told in (
+      n.0,
+      n.1,
+      λ rowid row base there opens up are.
+          settled-closes (sizes_of S a) c.args.page c.requires.page c.requires.kind base there rowid row c.args.opened.change c.args.opened.comes.items (paged S a old) c.requires.within c.requires.comes opens
+          (λ both.
+          let is = c.is_emptied.ensures.1 (none-long c.args.opened.comes.items both.0, both.1) in
+          cc (is, c.if-is_emptied.false)) c.in_ok-dividers.dividers.items (paged S c.change_page.new.store n.0) n.2 up are,
+    )
+
+pub returns-clause-fit : goal.returns-clause-fit
+returns-clause-fit g c =
+    let u = g.S.PageRead.usable c.args.store.now in (
+      subst (λ (k : PageKind). All (IsOneCell (above_kind k) u) c.in_ok-dividers.dividers.items) c.requires.kind c.in_ok-dividers.ensures.dividers,
+      c.in_ok-dividers.ensures.few (dividers-fit u c.args.opened.comes.items c.args.page.kind c.requires.kind c.requires.sizes.usable c.requires.comes c.requires.few),
+    )

@@ -1,0 +1,23 @@
+use Rattle.std.proofs.Common.{ℕ, List}
+use Rattle.std.proofs.Math.Path.{subst⁻¹}
+use Rattle.tree_pages.specs.Writers.{paged, sizes_of}
+use Rattle.tree_table.specs.Deletes.{Opens}
+use Rattle.tree_table.proofs.Openings.{leaf-gone}
+use Rattle.tree_table.proofs.opening.drop_leaf.Goals as goal
+
+pub returns-clause-opened : goal.returns-clause-opened
+returns-clause-opened g c = λ old told.
+    let S = g.S.PageRead in
+    let a = c.args.store.now in
+    let z = sizes_of S a in
+    let page = c.args.page.now in
+    let change = c.without_child-change.result in
+    let n = c.in_ok-give_page.ensures.released old told in
+    let x = paged S a old in
+    let y = paged S c.give_page.new.store n.0 in (
+      n.0,
+      n.1,
+      λ rowid row base there leaves.
+          subst⁻¹ (λ (l : List (List ℕ)). Opens z rowid row page change l base y) c.new.ensures.items
+          (leaf-gone z page c.requires.page c.requires.kind c.args.step.at c.args.step.child c.requires.child rowid row base there x y leaves n.2 change c.without_child-change.ensures.lost),
+    )

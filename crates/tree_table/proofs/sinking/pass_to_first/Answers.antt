@@ -1,0 +1,94 @@
+use Rattle.std.proofs.Common.{◌≡◌, false, subst, arith}
+use Rattle.std.proofs.Math.Path.{subst⁻¹}
+use Rattle.std.proofs.lemmas.Result.{on_ok_weaker}
+use Rattle.std.specs.List.{All}
+use Rattle.format_spec.specs.declared.PageKind.{PageKind}
+use Rattle.page_spec.specs.Rooms.{IsOneCell}
+use Rattle.tree_spec.specs.Standing.{Sizes}
+use Rattle.put_spec.specs.Steps.{Releases}
+use Rattle.tree_pages.specs.Writers.{paged, sizes_of}
+use Rattle.tree_pages.specs.WritersLaws.{sizes-same}
+use Rattle.tree_level.specs.declared.cells.Change.{Change}
+use Rattle.tree_table.specs.declared.taking.Left.{Left}
+use Rattle.tree_table.specs.declared.taking.Left.TheVariants.{Cells}
+use Rattle.tree_table.specs.Deletes.{IsFit, Leaves}
+use Rattle.tree_table.proofs.Closings.{first-closes, first-interior, first-leaf}
+use Rattle.tree_table.proofs.Openings.{grown-opens}
+use Rattle.tree_table.proofs.Unders.{dividers-fit}
+use Rattle.tree_table.proofs.sinking.pass_to_first.Goals as goal
+
+pub change_root-requires-clause-comes : goal.change_root-requires-clause-comes
+change_root-requires-clause-comes g c =
+    let u = g.S.PageRead.usable c.args.store.now in
+    let fit : IsFit u (Cells c.in-Cells.comes) = subst (IsFit u) c.in-Cells.is c.requires.fit in
+    subst⁻¹ (λ (k : PageKind). All (IsOneCell k u) c.in-Cells.comes.items) c.requires.kind fit.0
+
+pub change_root-requires-clause-few : goal.change_root-requires-clause-few
+change_root-requires-clause-few g c =
+    let u = g.S.PageRead.usable c.args.store.now in
+    let fit : IsFit u (Cells c.in-Cells.comes) = subst (IsFit u) c.in-Cells.is c.requires.fit in
+    dividers-fit u c.in-Cells.comes.items c.args.page.kind c.requires.kind c.requires.sizes.usable fit.0 fit.1
+
+pub returns-in-Cells-clause-passes : goal.returns-in-Cells-clause-passes
+returns-in-Cells-clause-passes g c =
+    let S = g.S.PageRead in
+    let a = c.args.store.now in
+    let z = sizes_of S a in
+    let page = c.args.page in
+    let comes = c.in-Cells.comes.items in
+    let change : Change = record { at = 0; goes = false; right = page.right } in
+    let fit : IsFit z.usable (Cells c.in-Cells.comes) = subst (IsFit z.usable) c.in-Cells.is c.requires.fit in
+    on_ok_weaker c.change_root.result (λ changed. λ old told.
+    let n = changed old told in
+    let x = paged S a old in (
+      n.0,
+      n.1,
+      λ rowid row base there leaves.
+          first-closes z page c.requires.page c.requires.kind base there rowid row change comes x (omega arith) fit.0
+          (grown-opens z page c.requires.page c.requires.kind 0 c.args.child c.requires.child rowid row base there (omega arith) comes x (subst (λ (l : Left). Leaves z rowid row c.args.child l base x) c.in-Cells.is leaves))
+          c.requires.first (paged S c.change_root.new.store n.0) n.2,
+    )) c.change_root.ensures.changed
+
+pub returns-in_ok-write_empty-in-NoCell-clause-passes : goal.returns-in_ok-write_empty-in-NoCell-clause-passes
+returns-in_ok-write_empty-in-NoCell-clause-passes g c =
+    let S = g.S.PageRead in
+    let a = c.args.store.now in
+    let s = c.write_empty.new.store in
+    let z = sizes_of S a in
+    let child = c.args.child in
+    let one : sizes_of S s ≡ z = sizes-same S a s c.in_ok-write_empty-in-NoCell.ensures.owes.stays in
+    on_ok_weaker c.give_page.result (λ released. λ old told.
+    let n = c.in_ok-write_empty-in-NoCell.ensures.written old told in
+    let k = released n.0 n.1 in
+    let x = paged S a old in
+    let y = paged S s n.0 in
+    let w = paged S c.give_page.new.store k.0 in
+    let gives : Releases z child y w = subst (λ (m : Sizes). Releases m child y w) one k.2 in (
+      k.0,
+      k.1,
+      λ rowid row base there leaves.
+          first-leaf z c.args.page c.requires.page c.requires.kind base there rowid row c.requires.first c.requires.none child c.requires.child x y w gives
+          (subst (λ (l : Left). Leaves z rowid row child l base x) c.in-NoCell.is leaves) n.2,
+    )) c.give_page.ensures.released
+
+pub returns-in_ok-write_empty-in-OnlyChild-clause-passes : goal.returns-in_ok-write_empty-in-OnlyChild-clause-passes
+returns-in_ok-write_empty-in-OnlyChild-clause-passes g c =
+    let S = g.S.PageRead in
+    let a = c.args.store.now in
+    let s = c.write_empty-in-OnlyChild.new.store in
+    let z = sizes_of S a in
+    let child = c.args.child in
+    let one : sizes_of S s ≡ z = sizes-same S a s c.in_ok-write_empty-in-OnlyChild.ensures.owes.stays in
+    on_ok_weaker c.give_page-in-OnlyChild.result (λ released. λ old told.
+    let n = c.in_ok-write_empty-in-OnlyChild.ensures.written old told in
+    let k = released n.0 n.1 in
+    let x = paged S a old in
+    let y = paged S s n.0 in
+    let w = paged S c.give_page-in-OnlyChild.new.store k.0 in
+    let gives : Releases z child y w = subst (λ (m : Sizes). Releases m child y w) one k.2 in (
+      k.0,
+      k.1,
+      λ rowid row base there leaves.
+          first-interior z c.args.page c.requires.page c.requires.kind base there rowid row c.requires.first c.requires.none child c.requires.child x y w gives c.in-OnlyChild.only
+          (subst (λ (l : Left). Leaves z rowid row child l base x) c.in-OnlyChild.is leaves) n.2,
+    )) c.give_page-in-OnlyChild.ensures.released

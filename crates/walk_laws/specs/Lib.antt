@@ -1,0 +1,4 @@
+pub mod CellsDecidedLaws
+pub mod PagesDecidedLaws
+pub mod WalksMadeLaws
+pub mod RecordsDecidedLaws

@@ -4,6 +4,7 @@ use Rattle.std.proofs.Math.Path.{subst⁻¹}
 use Rattle.std.proofs.lemmas.List.Elements.{filter-append}
 use Rattle.std.proofs.lemmas.List.Sums.{sum_by-append, sum_by-cons}
 use Rattle.std.proofs.lemmas.Bool.{ltb-false}
+use Rattle.std.specs.List.{AllZip}
 use Rattle.std.specs.Prelude.{filter, filter_map, flat_map, sum_by, nat_lt, if◌then◌else◌, codes}
 use Rattle.refusal.specs.declared.Measure.{Measure}
 use Rattle.refusal.specs.declared.Measure.TheVariants as measure
@@ -12,14 +13,15 @@ use Rattle.schema_spec.specs.declared.schema.SqlFault.{SqlFault}
 use Rattle.schema_spec.specs.declared.schema.Table.{Table}
 use Rattle.schema_spec.specs.declared.schema.Index.{Index}
 use Rattle.tree_spec.specs.declared.TreeKind.TheVariants.{Table as TableTree}
-use Rattle.tree_spec.specs.Standing.{Sizes, Paged, IsTree}
-use Rattle.tree_spec.specs.Trees.{Member}
+use Rattle.tree_spec.specs.Standing.{Sizes, Paged}
 use Rattle.database_spec.specs.declared.catalog.NamedEntry.{NamedEntry}
 use Rattle.database_spec.specs.declared.catalog.Catalog.{Catalog}
+use Rattle.rbu_rows.specs.declared.prepared.Batch.{Batch}
+use Rattle.database_spec.specs.Walks.{Finding, IsWalk}
 use Rattle.prepared_spec.specs.declared.input_fault.InputFault.{InputFault}
 use Rattle.prepared_spec.specs.declared.input_fault.InputFault.TheVariants.{NoTarget, TooMuch}
 use Rattle.prepared_spec.specs.DataTables.{DataTable, begins_with, first_fault, meaning_fault, over, columns_fault, meanings_fault, table_fault}
-use Rattle.prepared_spec.specs.Inputs.{Input, Opens, Closes, Opened, FirstWrongInput, AllRight, IsOpened, IsTableInput, batches_in, input_bytes, is_row, key_twice, prepared_in}
+use Rattle.prepared_spec.specs.Inputs.{Input, Opens, Closes, Opened, FirstWrongInput, AllRight, IsInputOf, IsOpened, IsTableInput, batches_in, input_bytes, is_row, key_twice, prepared_in}
 use Rattle.prepared_spec.specs.InputsLaws.{opened-one}
 use Rattle.prepared_spec.specs.Plans.{table_named}
 use Rattle.rbu_input.specs.declared.fault.InputError.{InputError}
@@ -28,15 +30,13 @@ use Rattle.rbu_input.specs.declared.batches.CountedBatch.{CountedBatch}
 use Rattle.rbu_input.specs.declared.reading.CountedRows.{CountedRows}
 use Rattle.rbu_input.specs.declared.store_fault.StoreFault.{StoreFault}
 use Rattle.rbu_input.specs.declared.sums.Sums.{Sums}
-use Rattle.rbu_input.specs.Batches.{IsClosed, rows_of, AreInBatch, TakesInputs, ReadsBatch, ReadsTable}
+use Rattle.rbu_input.specs.Batches.{IsClosed, with_end, AreInBatch, TakesInputs, ReadsBatch, ReadsTable}
 use Rattle.rbu_input.specs.Keys.{IsKeyTwice}
-use Rattle.rbu_input.specs.Reading.{IsRefusedOrOther, Prepare, AreTaken, of_input_error, opened_as, reads_of}
+use Rattle.rbu_input.specs.Reading.{IsRefusedOrOther, AreTaken, of_input_error, opened_as, joined}
 use Rattle.rbu_input.specs.RowAnswers.{IsWant, Refuses}
 use Rattle.rbu_input.specs.Sums.{AreSums}
 use Rattle.rbu_input.specs.Tables.{Tells}
-use Rattle.rbu_input.proofs.Findings.{inputs-found}
-use Rattle.rbu_input.proofs.Firsts.{right-join, first-behind, first-front}
-use Rattle.rbu_input.proofs.Targets.{walk-ends}
+use Rattle.rbu_input.proofs.Firsts.{right-join, first-behind, first-front, batches-append}
 use Rattle.rbu_input.proofs.Walking.{refused-then, input-refused}
 
 some-none : {A : Type 0} (a : A) (o : Option A) → o ≡ Some a → o ≡ None → ⊥
@@ -53,54 +53,33 @@ sums-same before sums one none free are = record {
     zero-more : (n : ℕ) → n + 0 ≡ n
     zero-more n = omega (arith)
 
-module _ (opened : Opened) where
-  reads-prepared : (members : List Member) (rows : List Prepared) → Prepare opened.target opened.own members (map Some rows) → filter_map prepared_in (reads_of opened members (map Some rows)) ≡ rows
-  reads-prepared [] [] all = refl
-  reads-prepared [] (row ∷ rows) all = absurd all
-  reads-prepared (member ∷ members) [] all = absurd all
-  reads-prepared (member ∷ members) (row ∷ rows) all = ap (λ (rs : List Prepared). row ∷ rs) (reads-prepared members rows all.1)
+module _ (opened : Opened) (catalog : Catalog) (before inputs : List Input) where
+  abbrev pub end : List Input
+  end = Closes opened (filter_map prepared_in inputs) ∷ []
 
-  reads-batches : (members : List Member) (prepared : List (Option Prepared)) (rest : List Input) → batches_in (reads_of opened members prepared ++ rest) ≡ batches_in rest
-  reads-batches [] prepared rest = refl
-  reads-batches (member ∷ members) [] rest = refl
-  reads-batches (member ∷ members) (row ∷ prepared) rest = reads-batches members prepared rest
+  module _ (read : CountedRows) (taken : AreTaken catalog before inputs read.rows.items read.sums) where
+    -- a table of which no two rows have one key
+    pub closed-right : (counted : CountedBatch) → IsClosed opened.source opened.name read counted → key_twice opened.target [] read.rows.items ≡ None → AreInBatch catalog before (with_end opened inputs) counted
+    closed-right counted closed none = record {
+      right = right-join catalog before inputs end taken.right (λ fault twice. some-none (twice.0, twice.1) (key_twice opened.target [] (filter_map prepared_in inputs)) twice.2 (ap (key_twice opened.target []) taken.rows_are ∙ none), tt);
+      batch = batches-append inputs end ∙ ap (λ (bs : List Batch). bs ++ record { table = opened.name; source = opened.source; rows = filter_map prepared_in inputs } ∷ []) taken.batches
+          ∙ ap (λ (rows : List Prepared). record { table = opened.name; source = opened.source; rows = rows } ∷ []) taken.rows_are ∙ ap (λ (b : Batch). b ∷ []) (sym closed.batch);
+      sums = subst (λ (i : List Input). AreSums i counted.sums) (append_assoc before inputs end)
+          (sums-same (before ++ inputs) counted.sums (Closes opened (filter_map prepared_in inputs)) refl refl (subst⁻¹ (AreSums (before ++ inputs)) closed.sums taken.sums_are));
+    }
 
-  module _ (catalog : Catalog) (before : List Input) (members : List Member) (prepared : List (Option Prepared)) (all : Prepare opened.target opened.own members prepared) where
-    abbrev pub reads : List Input
-    reads = reads_of opened members prepared
+    -- one with two of one key
+    pub closed-wrong : {F : Type 0} (fault : InputError) (told : StoreFault F) → told ≡ of_input_error fault → IsWant fault ⊎ Refuses (IsKeyTwice opened.source opened.target read.rows.items) fault
+        → IsRefusedOrOther (FirstWrongInput catalog before (with_end opened inputs)) told
+    closed-wrong fault told e twice =
+        refused-then (IsKeyTwice opened.source opened.target read.rows.items) (FirstWrongInput catalog before (with_end opened inputs)) told
+        (λ refused is. first-behind catalog before inputs end refused taken.right (inl (is.0, is.1, ap (key_twice opened.target []) taken.rows_are ∙ is.2, is.3)))
+        (input-refused (IsKeyTwice opened.source opened.target read.rows.items) fault told e twice)
 
-    module _ (read : CountedRows) (taken : AreTaken catalog before opened members prepared read.rows.items read.sums) where
-      rows-are : filter_map prepared_in reads ≡ read.rows.items
-      rows-are =
-          ap (λ (ps : List (Option Prepared)). filter_map prepared_in (reads_of opened members ps)) taken.prepared_are
-          ∙ reads-prepared members read.rows.items (subst (Prepare opened.target opened.own members) taken.prepared_are all)
-
-      -- a table of which no two rows have one key
-      pub closed-right : (counted : CountedBatch) → IsClosed opened.source opened.name read counted → key_twice opened.target [] read.rows.items ≡ None → AreInBatch catalog before (rows_of opened members prepared) counted
-      closed-right counted closed none = record {
-        right = right-join catalog before reads (Closes opened (filter_map prepared_in reads) ∷ []) taken.right
-            (λ fault twice. some-none (twice.0, twice.1) (key_twice opened.target [] (filter_map prepared_in reads)) twice.2 (ap (key_twice opened.target []) rows-are ∙ none), tt);
-        batch = reads-batches members prepared (Closes opened (filter_map prepared_in reads) ∷ [])
-            ∙ ap (λ (rows : List Prepared). record { table = opened.name; source = opened.source; rows = rows } ∷ []) rows-are ∙ ap (λ b. b ∷ []) (sym closed.batch);
-        sums = subst (λ (inputs : List Input). AreSums inputs counted.sums) (append_assoc before reads (Closes opened (filter_map prepared_in reads) ∷ []))
-            (sums-same (before ++ reads) counted.sums (Closes opened (filter_map prepared_in reads)) refl refl (subst⁻¹ (AreSums (before ++ reads)) closed.sums taken.sums_are));
-      }
-
-      -- one with two of one key
-      pub closed-wrong : {F : Type 0} (fault : InputError) (told : StoreFault F) → told ≡ of_input_error fault → IsWant fault ⊎ Refuses (IsKeyTwice opened.source opened.target read.rows.items) fault
-          → IsRefusedOrOther (FirstWrongInput catalog before (rows_of opened members prepared)) told
-      closed-wrong fault told e twice =
-          refused-then (IsKeyTwice opened.source opened.target read.rows.items) (FirstWrongInput catalog before (rows_of opened members prepared)) told
-          (λ refused is.
-          first-behind catalog before reads (Closes opened (filter_map prepared_in reads) ∷ []) refused taken.right
-          (inl (is.0, is.1, ap (key_twice opened.target []) rows-are ∙ is.2, is.3)))
-          (input-refused (IsKeyTwice opened.source opened.target read.rows.items) fault told e twice)
-
-    -- a row of it is refused
-    pub rows-wrong : {F : Type 0} (fault : StoreFault F) → IsRefusedOrOther (FirstWrongInput catalog before reads) fault → IsRefusedOrOther (FirstWrongInput catalog before (rows_of opened members prepared)) fault
-    rows-wrong fault told =
-        refused-then (FirstWrongInput catalog before reads) (FirstWrongInput catalog before (rows_of opened members prepared)) fault
-        (λ refused wrong. first-front catalog before reads (Closes opened (filter_map prepared_in reads) ∷ []) refused wrong) told
+  -- something of it is refused
+  pub rows-wrong : {F : Type 0} (fault : StoreFault F) → IsRefusedOrOther (FirstWrongInput catalog before inputs) fault → IsRefusedOrOther (FirstWrongInput catalog before (with_end opened inputs)) fault
+  rows-wrong fault told =
+      refused-then (FirstWrongInput catalog before inputs) (FirstWrongInput catalog before (with_end opened inputs)) fault (λ refused wrong. first-front catalog before inputs end refused wrong) told
 
 -- A `data_` table by itself.
 
@@ -182,28 +161,23 @@ module _ (sizes : Sizes) (base : Paged) (catalog : Catalog) (source : DataTable)
     is_opened = record { faultless = faultless; named = named; found = found; target = meaning; own = own_meaning; source_is = refl; name_is = refl }
 
     -- what is found of it behind its name
-    record Behind (inputs : List Input) (members : List Member) : Type 0 where
-      prepared : List (Option Prepared)
-      prepare : Prepare target own members prepared
-      inputs_are : inputs ≡ Opens source ∷ rows_of opened members prepared
+    record Behind (inputs : List Input) : Type 0 where
+      findings : List Finding
+      parts : List (List Input)
+      are_parts : AllZip (IsInputOf opened) findings parts
+      is_walk : IsWalk sizes base TableTree source.entry.root findings
+      inputs_are : inputs ≡ Opens source ∷ with_end opened (joined parts)
 
-    behind : (depth : ℕ) (members : List Member) (numbers : List ℕ) (inputs : List Input) → IsTree sizes base source.entry.root TableTree depth members numbers → IsTableInput sizes base catalog source inputs → Behind inputs members
-    behind depth members numbers inputs tree (inl (fault, some, e)) = absurd (some-none fault (table_fault catalog source) some faultless)
-    behind depth members numbers inputs tree (inr (other, findings, parts, is, walk, are, e)) =
-        let same : other ≡ opened = opened-one catalog source other opened is is_opened in
-        let ends = walk-ends sizes base source.entry.root depth members numbers findings tree walk in
-        let reads = inputs-found other findings parts are ends.goes_on in
-        let members_are = sym ends.members_are in
-        let reads_are : flat_map (λ part. part) parts ≡ reads_of opened members reads.prepared =
-        reads.inputs_are ∙ ap₂ (λ (o : Opened) (ms : List Member). reads_of o ms reads.prepared) same members_are in record {
-          prepared = reads.prepared;
-          prepare = subst (λ (o : Opened). Prepare o.target o.own members reads.prepared) same (subst (λ (ms : List Member). Prepare other.target other.own ms reads.prepared) members_are reads.prepare);
-          inputs_are = e ∙ ap₂ (λ (o : Opened) (rs : List Input). Opens source ∷ (rs ++ Closes o (filter_map prepared_in rs) ∷ [])) same reads_are;
+    behind : (inputs : List Input) → IsTableInput sizes base catalog source inputs → Behind inputs
+    behind inputs (inl (fault, some, e)) = absurd (some-none fault (table_fault catalog source) some faultless)
+    behind inputs (inr (other, findings, parts, is, walk, are, e)) =
+        let same : other ≡ opened = opened-one catalog source other opened is is_opened in record {
+          findings = findings;
+          parts = parts;
+          are_parts = subst (λ (o : Opened). AllZip (IsInputOf o) findings parts) same are;
+          is_walk = walk;
+          inputs_are = e ∙ ap (λ (o : Opened). Opens source ∷ with_end o (joined parts)) same;
         }
-
-    opens-right : (before : List Input) (fault : InputFault) → ¬ FirstWrongInput catalog before (Opens source ∷ []) fault
-    opens-right before fault (inl some) = some-none fault (table_fault catalog source) some faultless
-    opens-right before fault (inr later) = later.1
 
     all-right : (before : List Input) → AllRight catalog before (Opens source ∷ [])
     all-right before = (λ fault some. some-none fault (table_fault catalog source) some faultless, tt)
@@ -218,9 +192,8 @@ module _ (sizes : Sizes) (base : Paged) (catalog : Catalog) (source : DataTable)
         refused-then (FirstWrongInput catalog (before ++ Opens source ∷ []) rest) (FirstWrongInput catalog before (Opens source ∷ rest)) fault (λ refused wrong. inr ((all-right before).0, wrong)) taken
 
     pub table-read : {F : Type 0} (sums : Sums) (result : Result CountedBatch (StoreFault F)) → ReadsBatch sizes base source.source named.name target own source.entry.root sums result → ReadsTable sizes base catalog source sums result
-    table-read sums result reads = λ before inputs are stand is.
-        let stands = stand faultless in
-        let rest = behind stands.depth stands.members stands.numbers inputs stands.is_tree is in
+    table-read sums result reads = λ before inputs are is.
+        let rest = behind inputs is in
         subst⁻¹ (λ (i : List Input). TakesInputs catalog before i result) rest.inputs_are
-        (opens-then before (rows_of opened stands.members rest.prepared) result
-        (reads catalog (before ++ Opens source ∷ []) stands.members rest.prepared (sums-same before sums (Opens source) refl refl are) rest.prepare stands.depth stands.numbers stands.is_tree))
+        (opens-then before (with_end opened (joined rest.parts)) result
+        (reads catalog (before ++ Opens source ∷ []) rest.findings rest.parts (sums-same before sums (Opens source) refl refl are) rest.are_parts rest.is_walk))

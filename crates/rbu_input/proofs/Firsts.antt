@@ -1,9 +1,10 @@
 -- The first thing that is wrong, in one list behind another.
-use Rattle.std.proofs.Common.{List, [], ◌∷◌, ◌++◌, inl, inr, append_assoc, append-nil}
+use Rattle.std.proofs.Common.{◌≡◌, List, [], ◌∷◌, ◌++◌, refl, sym, ap, inl, inr, append_assoc, append-nil}
 use Rattle.std.proofs.Math.Path.{subst, subst⁻¹}
 use Rattle.database_spec.specs.declared.catalog.Catalog.{Catalog}
 use Rattle.prepared_spec.specs.declared.input_fault.InputFault.{InputFault}
-use Rattle.prepared_spec.specs.Inputs.{Input, FirstWrongInput, AllRight}
+use Rattle.rbu_rows.specs.declared.prepared.Batch.{Batch}
+use Rattle.prepared_spec.specs.Inputs.{Input, Opens, Reads, Damages, Closes, FirstWrongInput, AllRight, batches_in}
 use Rattle.prepared_spec.specs.TargetRecords.{TargetFinding, FirstWrongTarget, AllRightTargets}
 
 module _ (catalog : Catalog) where
@@ -33,3 +34,11 @@ pub target-front : (xs ys : List TargetFinding) (fault : InputFault) → FirstWr
 target-front [] ys fault first = absurd first
 target-front (x ∷ xs) ys fault (inl wrong) = inl wrong
 target-front (x ∷ xs) ys fault (inr (right, later)) = inr (right, target-front xs ys fault later)
+
+-- the batches of two lists of what is found
+pub batches-append : (xs ys : List Input) → batches_in (xs ++ ys) ≡ batches_in xs ++ batches_in ys
+batches-append [] ys = refl
+batches-append (Opens source ∷ xs) ys = batches-append xs ys
+batches-append (Reads opened member prepared ∷ xs) ys = batches-append xs ys
+batches-append (Damages stop ∷ xs) ys = batches-append xs ys
+batches-append (Closes opened rows ∷ xs) ys = ap (λ (bs : List Batch). record { table = opened.name; source = opened.source; rows = rows } ∷ bs) (batches-append xs ys)

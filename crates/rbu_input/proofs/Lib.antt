@@ -5,7 +5,6 @@ pub mod Lists
 pub mod SharedKeys
 pub mod Inputs
 pub mod Walking
-pub mod Findings
 pub mod Firsts
 pub mod Records
 pub mod Targets

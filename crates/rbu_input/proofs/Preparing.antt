@@ -14,29 +14,19 @@ use Rattle.database_spec.specs.declared.catalog.NamedEntry.{NamedEntry}
 use Rattle.database_spec.specs.ListsLaws.{all-from}
 use Rattle.prepared_spec.specs.declared.input_fault.InputFault.{InputFault}
 use Rattle.prepared_spec.specs.DataTables.{DataTable}
-use Rattle.prepared_spec.specs.Inputs.{Input, Opens, Reads, Damages, Closes, FirstWrongInput, AllRight, IsTableInput, AreInputs, batches_in, grouped}
+use Rattle.prepared_spec.specs.Inputs.{Input, FirstWrongInput, AllRight, IsTableInput, AreInputs, batches_in, grouped}
 use Rattle.prepared_spec.specs.InputFaultsLaws.{input_answer-one}
 use Rattle.rbu_input.specs.declared.batches.CountedBatch.{CountedBatch}
 use Rattle.rbu_input.specs.declared.store_fault.StoreFault.{StoreFault}
 use Rattle.rbu_input.specs.declared.sums.Sums.{Sums}
 use Rattle.rbu_input.specs.Batches.{ReadsTable}
-use Rattle.rbu_input.specs.Prepared.{TakesAll, StandsIfRead, ReadsBatches, IsInputAnswer}
-use Rattle.rbu_input.specs.Reading.{IsRefusedOrOther}
+use Rattle.rbu_input.specs.Prepared.{TakesAll, ReadsBatches, IsInputAnswer}
+use Rattle.rbu_input.specs.Reading.{IsRefusedOrOther, joined}
 use Rattle.rbu_input.specs.Sources.{is_source}
 use Rattle.rbu_input.specs.Sums.{AreSums}
-use Rattle.rbu_input.proofs.Firsts.{right-join, first-behind, first-front}
+use Rattle.rbu_input.proofs.Firsts.{right-join, first-behind, first-front, batches-append}
 use Rattle.rbu_input.proofs.SourceOrders.{all-of}
 use Rattle.rbu_input.proofs.Walking.{refused-then}
-
-batches-append : (xs ys : List Input) → batches_in (xs ++ ys) ≡ batches_in xs ++ batches_in ys
-batches-append [] ys = refl
-batches-append (Opens source ∷ xs) ys = batches-append xs ys
-batches-append (Reads opened member prepared ∷ xs) ys = batches-append xs ys
-batches-append (Damages stop ∷ xs) ys = batches-append xs ys
-batches-append (Closes opened rows ∷ xs) ys = ap (λ (bs : List Batch). record { table = opened.name; source = opened.source; rows = rows } ∷ bs) (batches-append xs ys)
-
-abbrev pub joined : List (List Input) → List Input
-joined parts = flat_map (λ part. part) parts
 
 module _ (sizes : Sizes) (base : Paged) (catalog : Catalog) where
   -- what was found so far, and what is left of it
@@ -44,7 +34,6 @@ module _ (sizes : Sizes) (base : Paged) (catalog : Catalog) where
     pub found : List Input
     pub left_parts : List (List Input)
     pub are_parts : AllZip (IsTableInput sizes base catalog) left left_parts
-    pub stand : AllByRecursion (StandsIfRead sizes base catalog) left
     pub sums_are : AreSums found sums
     pub right : AllRight catalog found (joined left_parts) → AllRight catalog [] (joined parts)
     pub wrong : (fault : InputFault) → FirstWrongInput catalog found (joined left_parts) fault → FirstWrongInput catalog [] (joined parts) fault
@@ -52,11 +41,11 @@ module _ (sizes : Sizes) (base : Paged) (catalog : Catalog) where
 
   abbrev pub KeepsTables : List DataTable → List DataTable → List Batch → Sums → Type 0
   KeepsTables tables left batches sums =
-      (parts : List (List Input)) → AllZip (IsTableInput sizes base catalog) tables parts → AllByRecursion (StandsIfRead sizes base catalog) tables → Keeps parts left batches sums
+      (parts : List (List Input)) → AllZip (IsTableInput sizes base catalog) tables parts → Keeps parts left batches sums
 
   pub tables-none : (tables : List DataTable) (sums : Sums) → sums.rows ≡ 0 → sums.bytes ≡ 0 → KeepsTables tables tables [] sums
-  tables-none tables sums rows bytes = λ parts are stand.
-      record { found = []; left_parts = parts; are_parts = are; stand = stand; sums_are = record { rows = rows; bytes = bytes }; right = λ right. right; wrong = λ fault wrong. wrong; batches_are = refl }
+  tables-none tables sums rows bytes = λ parts are.
+      record { found = []; left_parts = parts; are_parts = are; sums_are = record { rows = rows; bytes = bytes }; right = λ right. right; wrong = λ fault wrong. wrong; batches_are = refl }
 
   -- the first of those that are left
   record First (source : DataTable) (rest : List DataTable) (parts : List (List Input)) : Type 0 where
@@ -76,11 +65,10 @@ module _ (sizes : Sizes) (base : Paged) (catalog : Catalog) where
 
     pub keeps-next : (F : Type 0) (counted : CountedBatch) → (let read : Result CountedBatch (StoreFault F) = Ok counted in ReadsTable sizes base catalog source sums read) → Keeps parts rest (batches ++ counted.batch ∷ []) counted.sums
     keeps-next F counted reads =
-        let taken = reads keeps.found first.part keeps.sums_are keeps.stand.0 first.is_input in record {
+        let taken = reads keeps.found first.part keeps.sums_are first.is_input in record {
           found = keeps.found ++ first.part;
           left_parts = first.others;
           are_parts = first.are_inputs;
-          stand = keeps.stand.1;
           sums_are = taken.sums;
           right = λ later. keeps.right (subst⁻¹ (λ (ps : List (List Input)). AllRight catalog keeps.found (joined ps)) first.parts_are (right-join catalog keeps.found first.part (joined first.others) taken.right later));
           wrong = λ fault later.
@@ -97,16 +85,16 @@ module _ (sizes : Sizes) (base : Paged) (catalog : Catalog) where
         (λ refused wrong.
         keeps.wrong refused
         (subst⁻¹ (λ (ps : List (List Input)). FirstWrongInput catalog keeps.found (joined ps) refused) first.parts_are (first-front catalog keeps.found first.part (joined first.others) refused wrong)))
-        (reads keeps.found first.part keeps.sums_are keeps.stand.0 first.is_input)
+        (reads keeps.found first.part keeps.sums_are first.is_input)
 
   -- one table more
   pub tables-next : (F : Type 0) (tables : List DataTable) (source : DataTable) (rest : List DataTable) (batches : List Batch) (sums : Sums) (counted : CountedBatch) → KeepsTables tables (source ∷ rest) batches sums
       → (let read : Result CountedBatch (StoreFault F) = Ok counted in ReadsTable sizes base catalog source sums read) → KeepsTables tables rest (batches ++ counted.batch ∷ []) counted.sums
-  tables-next F tables source rest batches sums counted keeps reads = λ parts are stand. keeps-next source rest parts batches sums (keeps parts are stand) F counted reads
+  tables-next F tables source rest batches sums counted keeps reads = λ parts are. keeps-next source rest parts batches sums (keeps parts are) F counted reads
 
   pub tables-fault : (F : Type 0) (tables : List DataTable) (source : DataTable) (rest : List DataTable) (batches : List Batch) (sums : Sums) (fault : StoreFault F) → KeepsTables tables (source ∷ rest) batches sums
       → (let read : Result CountedBatch (StoreFault F) = Err fault in ReadsTable sizes base catalog source sums read) → (let answer : Result (Vec Batch Global) (StoreFault F) = Err fault in ReadsBatches sizes base catalog tables answer)
-  tables-fault F tables source rest batches sums fault keeps reads = λ parts are stand. keeps-fault source rest parts batches sums (keeps parts are stand) fault reads
+  tables-fault F tables source rest batches sums fault keeps reads = λ parts are. keeps-fault source rest parts batches sums (keeps parts are) fault reads
 
   no-parts : (parts : List (List Input)) → AllZip (IsTableInput sizes base catalog) [] parts → parts ≡ []
   no-parts [] are = refl
@@ -114,8 +102,8 @@ module _ (sizes : Sizes) (base : Paged) (catalog : Catalog) where
 
   pub tables-end : (F : Type 0) (tables : List DataTable) (batches : Vec Batch Global) (sums : Sums) → KeepsTables tables [] batches.items sums
       → (let answer : Result (Vec Batch Global) (StoreFault F) = Ok batches in ReadsBatches sizes base catalog tables answer)
-  tables-end F tables batches sums keeps = λ parts are stand.
-      let kept = keeps parts are stand in
+  tables-end F tables batches sums keeps = λ parts are.
+      let kept = keeps parts are in
       let none = no-parts kept.left_parts kept.are_parts in record {
         right = kept.right (subst⁻¹ (λ (ps : List (List Input)). AllRight catalog kept.found (joined ps)) none tt);
         batches_are = kept.batches_are ∙ ap (λ (ps : List (List Input)). batches.items ++ batches_in (joined ps)) none ∙ append-nil batches.items;
@@ -123,11 +111,11 @@ module _ (sizes : Sizes) (base : Paged) (catalog : Catalog) where
 
   -- The one answer, from what was found.
 
-  module _ (rbu : Catalog) (tables : List DataTable) (inputs : List Input) (are : AreInputs sizes base catalog rbu inputs) (same : are.tables ≡ tables) (stand : AllByRecursion (StandsIfRead sizes base catalog) are.tables) where
+  module _ (rbu : Catalog) (tables : List DataTable) (inputs : List Input) (are : AreInputs sizes base catalog rbu inputs) (same : are.tables ≡ tables) where
     taken : {F : Type 0} (result : Result (Vec Batch Global) (StoreFault F)) → ReadsBatches sizes base catalog tables result → TakesAll catalog inputs result
     taken result reads =
         subst⁻¹ (λ (i : List Input). TakesAll catalog i result) are.inputs_are
-        (reads are.parts (subst (λ (ts : List DataTable). AllZip (IsTableInput sizes base catalog) ts are.parts) same are.are_parts) (subst (AllByRecursion (StandsIfRead sizes base catalog)) same stand))
+        (reads are.parts (subst (λ (ts : List DataTable). AllZip (IsTableInput sizes base catalog) ts are.parts) same are.are_parts))
 
     pub prepared-right : (F : Type 0) (batches : Vec Batch Global) (groups : List (List Batch)) → (let read : Result (Vec Batch Global) (StoreFault F) = Ok batches in ReadsBatches sizes base catalog tables read)
         → groups ≡ grouped (length batches.items) batches.items → IsInputAnswer sizes base catalog rbu (Ok groups)

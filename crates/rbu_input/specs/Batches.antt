@@ -1,19 +1,21 @@
 -- What is answered of a `data_` table: its rows as a batch, or the first thing that is wrong with it.
-use Rattle.std.specs.Prelude.{◌≡◌, ◌≤◌, ℕ, List, [], ◌∷◌, ◌++◌, None, Result, Ok, Err, filter_map, Option}
+use Rattle.std.specs.Prelude.{◌≡◌, ◌≤◌, ℕ, List, [], ◌∷◌, ◌++◌, Result, Ok, Err, filter_map}
 use Rattle.rbu_rows.specs.declared.prepared.Prepared.{Prepared}
 use Rattle.schema_spec.specs.declared.schema.Table.{Table}
 use Rattle.tree_spec.specs.declared.TreeKind.TheVariants.{Table as TableTree}
-use Rattle.tree_spec.specs.Standing.{Sizes, Paged, IsTree}
+use Rattle.tree_spec.specs.Standing.{Sizes, Paged}
 use Rattle.tree_spec.specs.Trees.{Member}
 use Rattle.database_spec.specs.declared.catalog.Catalog.{Catalog}
 use Rattle.database_spec.specs.declared.catalog.Entry.{Entry}
-use Rattle.prepared_spec.specs.DataTables.{DataTable, table_fault}
-use Rattle.prepared_spec.specs.Inputs.{Input, Closes, Opened, FirstWrongInput, AllRight, IsTableInput, batches_in, prepared_in}
+use Rattle.std.specs.List.{AllZip}
+use Rattle.database_spec.specs.Walks.{Finding, IsWalk}
+use Rattle.prepared_spec.specs.DataTables.{DataTable}
+use Rattle.prepared_spec.specs.Inputs.{Input, Closes, Opened, FirstWrongInput, AllRight, IsInputOf, IsTableInput, batches_in, prepared_in}
 use Rattle.rbu_input.specs.declared.batches.CountedBatch.{CountedBatch}
 use Rattle.rbu_input.specs.declared.reading.CountedRows.{CountedRows}
 use Rattle.rbu_input.specs.declared.store_fault.StoreFault.{StoreFault}
 use Rattle.rbu_input.specs.declared.sums.Sums.{Sums}
-use Rattle.rbu_input.specs.Reading.{IsRefusedOrOther, Prepare, opened_as, reads_of}
+use Rattle.rbu_input.specs.Reading.{IsRefusedOrOther, joined, opened_as}
 use Rattle.rbu_input.specs.Sums.{AreSums}
 
 -- the batch of rows that were read
@@ -26,9 +28,9 @@ pub record IsRooted (count : ℕ) (entry : Entry) : Type 0 where
   pub first : 1 ≤ entry.root
   pub last : entry.root ≤ count
 
--- the rows of a `data_` table and its end
-abbrev pub rows_of : Opened → List Member → List (Option Prepared) → List Input
-rows_of opened members prepared = reads_of opened members prepared ++ Closes opened (filter_map prepared_in (reads_of opened members prepared)) ∷ []
+-- what is found of the tree of a `data_` table, and its end
+abbrev pub with_end : Opened → List Input → List Input
+with_end opened inputs = inputs ++ Closes opened (filter_map prepared_in inputs) ∷ []
 
 module _ (catalog : Catalog) where
   -- what was found is right, and is this batch
@@ -43,20 +45,12 @@ module _ (catalog : Catalog) where
   TakesInputs before inputs (Err fault) = IsRefusedOrOther (FirstWrongInput catalog before inputs) fault
 
 module _ (sizes : Sizes) (base : Paged) where
-  -- where the tree at a root stands, its rows are taken as a batch
+  -- the rows that a walk over the tree at a root finds are taken as a batch
   abbrev pub ReadsBatch : {F : Type 0} → List ℕ → List ℕ → Table → Table → ℕ → Sums → Result CountedBatch (StoreFault F) → Type 0
   ReadsBatch source name target own root sums result =
-      (catalog : Catalog) (before : List Input) (members : List Member) (prepared : List (Option Prepared)) → AreSums before sums → Prepare target own members prepared
-      → (depth : ℕ) (numbers : List ℕ) → IsTree sizes base root TableTree depth members numbers → TakesInputs catalog before (rows_of (opened_as source name target own) members prepared) result
+      (catalog : Catalog) (before : List Input) (findings : List Finding) (parts : List (List Input)) → AreSums before sums → AllZip (IsInputOf (opened_as source name target own)) findings parts
+      → IsWalk sizes base TableTree root findings → TakesInputs catalog before (with_end (opened_as source name target own) (joined parts)) result
 
-  -- the tree of a table stands
-  pub record Stands (entry : Entry) : Type 0 where
-    pub depth : ℕ
-    pub members : List Member
-    pub numbers : List ℕ
-    pub is_tree : IsTree sizes base entry.root TableTree depth members numbers
-
-  -- Where the tree of a `data_` table without a fault of its own stands, all that is found of it is taken, or the first thing that is wrong is refused.
+  -- Whatever the store holds, all that is found of a `data_` table is taken, or the first thing that is wrong is refused.
   abbrev pub ReadsTable : {F : Type 0} → Catalog → DataTable → Sums → Result CountedBatch (StoreFault F) → Type 0
-  ReadsTable catalog source sums result =
-      (before inputs : List Input) → AreSums before sums → (table_fault catalog source ≡ None → Stands source.entry) → IsTableInput sizes base catalog source inputs → TakesInputs catalog before inputs result
+  ReadsTable catalog source sums result = (before inputs : List Input) → AreSums before sums → IsTableInput sizes base catalog source inputs → TakesInputs catalog before inputs result

@@ -1,17 +1,17 @@
 -- What is answered of the prepared rows of an RBU database for a target.
-use Rattle.std.specs.Prelude.{◌≡◌, ℕ, List, [], None, Result, Ok, Err, IfOk, Vec, flat_map}
+use Rattle.std.specs.Prelude.{◌≡◌, ℕ, List, [], Result, Ok, Err, IfOk, Vec, flat_map}
 use Rattle.std.specs.Global.{Global}
-use Rattle.std.specs.List.{AllByRecursion, AllZip}
+use Rattle.std.specs.List.{AllZip}
 use Rattle.common_spec.specs.Reading.{Reads, OrFault}
 use Rattle.rbu_rows.specs.declared.prepared.Batch.{Batch}
 use Rattle.tree_spec.specs.Standing.{Sizes, Paged}
 use Rattle.database_spec.specs.declared.catalog.Catalog.{Catalog}
 use Rattle.database_spec.specs.declared.catalog.NamedEntry.{NamedEntry}
 use Rattle.prepared_spec.specs.declared.input_fault.InputFault.{InputFault}
-use Rattle.prepared_spec.specs.DataTables.{DataTable, table_fault}
+use Rattle.prepared_spec.specs.DataTables.{DataTable}
 use Rattle.prepared_spec.specs.Inputs.{Input, FirstWrongInput, AllRight, IsTableInput, AreInputs, ArePreparedRows, HasInputFault, batches_in}
 use Rattle.rbu_input.specs.declared.store_fault.StoreFault.{StoreFault}
-use Rattle.rbu_input.specs.Batches.{IsRooted, Stands}
+use Rattle.rbu_input.specs.Batches.{IsRooted}
 use Rattle.rbu_input.specs.Reading.{IsRefusedOrOther}
 
 -- the tree of a table whose text is read has a root among so many pages
@@ -28,14 +28,10 @@ TakesAll catalog inputs (Ok batches) = AreInBatches catalog inputs batches.items
 TakesAll catalog inputs (Err fault) = IsRefusedOrOther (FirstWrongInput catalog [] inputs) fault
 
 module _ (sizes : Sizes) (base : Paged) (catalog : Catalog) where
-  -- the tree of a `data_` table without a fault of its own stands
-  abbrev pub StandsIfRead : DataTable → Type 0
-  StandsIfRead source = table_fault catalog source ≡ None → Stands sizes base source.entry
-
   -- `data_` tables are read, one after the other
   abbrev pub ReadsBatches : {F : Type 0} → List DataTable → Result (Vec Batch Global) (StoreFault F) → Type 0
   ReadsBatches tables result =
-      (parts : List (List Input)) → AllZip (IsTableInput sizes base catalog) tables parts → AllByRecursion StandsIfRead tables → TakesAll catalog (flat_map (λ part. part) parts) result
+      (parts : List (List Input)) → AllZip (IsTableInput sizes base catalog) tables parts → TakesAll catalog (flat_map (λ part. part) parts) result
 
   -- the one answer of an RBU database
   abbrev pub IsInputAnswer : Catalog → Result (List (List Batch)) InputFault → Type 0
@@ -45,6 +41,6 @@ module _ (sizes : Sizes) (base : Paged) (catalog : Catalog) where
   AnswersInputs rbu (Ok groups) = IsInputAnswer rbu (Ok groups)
   AnswersInputs rbu (Err fault) = IsRefusedOrOther (λ refused. IsInputAnswer rbu (Err refused)) fault
 
-  -- Whatever is found of an RBU database, where the trees of its `data_` tables without a fault of their own stand: the prepared rows are answered that it has, or its first refusal.
+  -- Whatever the store holds, and whatever is found of the RBU database in it: the prepared rows are answered that it has, or its first refusal.
   abbrev pub ReadsPrepared : {F : Type 0} → Catalog → Result (List (List Batch)) (StoreFault F) → Type 0
-  ReadsPrepared rbu result = (inputs : List Input) (are : AreInputs sizes base catalog rbu inputs) → AllByRecursion StandsIfRead are.tables → AnswersInputs rbu result
+  ReadsPrepared rbu result = (inputs : List Input) → AreInputs sizes base catalog rbu inputs → AnswersInputs rbu result

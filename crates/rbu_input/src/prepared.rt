@@ -104,7 +104,7 @@ pub fn read_prepared<S: PageRead>(
 ) -> Result<OwnedList<OwnedList<Batch>>, StoreFault<S::Fault>>
     requires sizes { HasSizes S.PageRead rbu.old }
     requires rooted { AllByRecursion (IsRootedIfRead (S.count rbu.old)) rbu_catalog.now.tables }
-    ensures standing { SeesTree S.PageRead rbu.old rbu.new (λ sizes base. ReadsPrepared sizes base target.now rbu_catalog.now result) }
+    ensures rows { SeesTree S.PageRead rbu.old rbu.new (λ sizes base. ReadsPrepared sizes base target.now rbu_catalog.now result) }
     ensures owes { OwesBy S.PageRead fault_in rbu.old rbu.new result }
 {
     let sources = match sorted_sources(alloc, rbu_catalog) {

@@ -23,8 +23,7 @@ use page_store::PageRead;
 use rbu_rows::Prepared;
 use schema_spec::Table;
 use std::alloc::{AllocError, Global};
-use tree_spec::TreeKind;
-use tree_walk::{Cursor, Row};
+use tree_walk::{Cursor, Row, TreeKind};
 
 /// A prepared row, and the sums with it.
 #[derive(Drop)]

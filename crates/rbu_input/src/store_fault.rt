@@ -1,7 +1,7 @@
 // Why an RBU database over a store has no prepared rows.
 ghost use Rattle.std.specs.Prelude.{◌≡◌, None};
-ghost use Rattle.tree_spec.specs.Faults.{fault_in as tree_fault_in, IsOther as IsOtherTree};
-ghost use Rattle.rbu_input.specs.Reading.{IsOther, fault_in, of_input_error};
+ghost use Rattle.tree_spec.specs.Faults.{fault_in as tree_fault_in};
+ghost use Rattle.rbu_input.specs.Reading.{fault_in, of_input_error, of_tree_fault};
 
 use crate::fault::InputError;
 use prepared_spec::InputFault;
@@ -22,8 +22,8 @@ pub enum StoreFault<F> {
 
 // The damage that a walk meets. A walk takes no page, and so it meets no freelist and no limit.
 pub(crate) fn of_tree<F>(fault: TreeFault<F>) -> StoreFault<F>
+    ensures is { result ≡ of_tree_fault fault }
     ensures cause { fault_in result ≡ tree_fault_in fault }
-    ensures other { IsOtherTree fault → IsOther result }
 {
     match fault {
         TreeFault::TreeDamaged { page, rule } => {

@@ -5,7 +5,7 @@ ghost use Rattle.page_store.specs.Store.{HasSizes, OwesBy};
 ghost use Rattle.tree_walk.specs.Stores.{SeesTree};
 ghost use Rattle.rbu_input.specs.Reading.{fault_in};
 ghost use Rattle.rbu_input.specs.RowAnswers.{IsWant, Refuses, member_with};
-ghost use Rattle.rbu_input.specs.Targets.{ChecksBatch, ChecksFrom, ChecksNext, ChecksRows, IsRefusalOf, IsKnown, IsRightRecord, IsTargetAnswer, IsWrongRecord, StandsFor};
+ghost use Rattle.rbu_input.specs.Targets.{ChecksBatch, ChecksFrom, ChecksNext, ChecksRows, IsRefusalOf, IsKnown, IsRightRecord, IsTargetAnswer, IsWrongRecord};
 
 use crate::fault::InputError;
 use crate::store_fault::{StoreFault, of_input, of_tree};
@@ -18,8 +18,7 @@ use rbu_rows::Batch;
 use rbu_value::Bytes;
 use schema_spec::Table;
 use std::alloc::{AllocError, Global};
-use tree_spec::TreeKind;
-use tree_walk::{Cursor, Row};
+use tree_walk::{Cursor, Row, TreeKind};
 
 // The refusal of a record that is not read, unless memory was wanting.
 fn refuse_record(alloc: Global, name: &[u8], row: &Row, unread: Unread) -> InputError
@@ -171,7 +170,7 @@ pub fn are_known(catalog: &Catalog, count: u32, batches: &[Batch]) -> bool
     true
 }
 
-/// Checks that each record of the tables that batches are for is a row of its table, batch by batch; or refuses the first that is none, by rowid: [96].
+/// Checks that each record of the tables that batches are for is a row of its table, batch by batch; or refuses the first that is none, by rowid: [96], or the damage that a walk meets before: [55].
 ///
 /// A batch has to be one for a table of the catalog whose text is read and whose tree has a root in the store.
 pub fn plain_target<S: PageRead>(
@@ -182,7 +181,7 @@ pub fn plain_target<S: PageRead>(
 ) -> Result<(), StoreFault<S::Fault>>
     requires sizes { HasSizes S.PageRead target.old }
     requires known { AllByRecursion (IsKnown catalog.now (S.count target.old)) batches.now }
-    ensures standing { SeesTree S.PageRead target.old target.new (λ sizes base. AllByRecursion (StandsFor sizes base catalog.now) batches.now → IsTargetAnswer sizes base catalog.now batches.now result) }
+    ensures records { SeesTree S.PageRead target.old target.new (λ sizes base. IsTargetAnswer sizes base catalog.now batches.now result) }
     ensures owes { OwesBy S.PageRead fault_in target.old target.new result }
 {
     let mut left = batches;

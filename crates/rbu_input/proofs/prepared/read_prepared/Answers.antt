@@ -16,33 +16,33 @@ read_batches-requires-clause-rooted g c =
     subst⁻¹ (AllByRecursion (λ (one : Bor NamedEntry). IsRootedIfRead count one.now)) c.as_slice.ensures.value
     (sources-all (IsRootedIfRead count) c.args.rbu_catalog.now.tables c.in-Ok.sources.items c.in-Ok.ensures.all c.requires.rooted)
 
-pub returns-in-Ok-group_all-clause-standing : goal.returns-in-Ok-group_all-clause-standing
-returns-in-Ok-group_all-clause-standing g c =
+pub returns-in-Ok-group_all-clause-rows : goal.returns-in-Ok-group_all-clause-rows
+returns-in-Ok-group_all-clause-rows g c =
     let store = c.args.rbu.now in
     let reads = c.in-Ok-read_batches.ensures.pages in
     let sources = c.in-Ok.sources.items in
     record {
       same = reads.same;
       count = reads.count;
-      answer = IfSome_then (g.S.PageRead.pages store) reads.answer (λ m read. λ inputs are stand.
+      answer = IfSome_then (g.S.PageRead.pages store) reads.answer (λ m read. λ inputs are.
           prepared-right (sizes_of g.S.PageRead store) (paged g.S.PageRead store m) c.args.target.now c.args.rbu_catalog.now (sources_in sources) inputs are
-          (sources-ordered c.args.rbu_catalog.now sources are.tables c.in-Ok.ensures.all c.in-Ok.ensures.sorted are.are_tables) stand g.row.S-Fault.Denot c.in-Ok-read_batches.batches c.from_vec.result
+          (sources-ordered c.args.rbu_catalog.now sources are.tables c.in-Ok.ensures.all c.in-Ok.ensures.sorted are.are_tables) g.row.S-Fault.Denot c.in-Ok-read_batches.batches c.from_vec.result
           (subst (λ (l : List (Bor NamedEntry)). ReadsBatches (sizes_of g.S.PageRead store) (paged g.S.PageRead store m) c.args.target.now {F = g.row.S-Fault.Denot} (sources_in l) (Ok c.in-Ok-read_batches.batches))
           c.as_slice.ensures.value read)
           (search rules));
     }
 
-pub returns-in-Err-read_batches-clause-standing : goal.returns-in-Err-read_batches-clause-standing
-returns-in-Err-read_batches-clause-standing g c =
+pub returns-in-Err-read_batches-clause-rows : goal.returns-in-Err-read_batches-clause-rows
+returns-in-Err-read_batches-clause-rows g c =
     let store = c.args.rbu.now in
     let reads = c.in-Err-read_batches.ensures.pages in
     let sources = c.in-Ok.sources.items in
     record {
       same = reads.same;
       count = reads.count;
-      answer = IfSome_then (g.S.PageRead.pages store) reads.answer (λ m read. λ inputs are stand.
+      answer = IfSome_then (g.S.PageRead.pages store) reads.answer (λ m read. λ inputs are.
           prepared-fault (sizes_of g.S.PageRead store) (paged g.S.PageRead store m) c.args.target.now c.args.rbu_catalog.now (sources_in sources) inputs are
-          (sources-ordered c.args.rbu_catalog.now sources are.tables c.in-Ok.ensures.all c.in-Ok.ensures.sorted are.are_tables) stand c.in-Err-read_batches.fault
+          (sources-ordered c.args.rbu_catalog.now sources are.tables c.in-Ok.ensures.all c.in-Ok.ensures.sorted are.are_tables) c.in-Err-read_batches.fault
           (subst (λ (l : List (Bor NamedEntry)). ReadsBatches (sizes_of g.S.PageRead store) (paged g.S.PageRead store m) c.args.target.now {F = g.row.S-Fault.Denot} (sources_in l) (Err c.in-Err-read_batches.fault))
           c.as_slice.ensures.value read));
     }

@@ -1,72 +1,80 @@
-use Rattle.std.proofs.Common.{◌∙◌, Bool, Ok, Err, subst}
+use Rattle.std.proofs.Common.{◌∙◌, ◌↔◌, Bool, IsNone, Option, Ok, Err, refl, subst}
 use Rattle.std.proofs.lemmas.Option.{IfSome_then}
 use Rattle.common_spec.specs.ToldLaws.{told-both}
-use Rattle.page_store.specs.StoreLaws.{at-sizes}
-use Rattle.tree_spec.specs.declared.TreeKind.TheVariants.{Table as TableTree}
+use Rattle.page_store.specs.StoreLaws.{at-sizes, some-all}
+use Rattle.tree_walk.specs.declared.cursor.Row.{Row}
 use Rattle.tree_walk.specs.Stores.{sizes_of, paged}
-use Rattle.tree_walk.specs.Walks.{IsFirstRow, MovesOn}
-use Rattle.rbu_input.specs.Targets.{FirstWrongRecord}
-use Rattle.rbu_input.proofs.Records.{leaves-record, refuses-record}
-use Rattle.rbu_input.proofs.Walking.{other-refused, no-member}
+use Rattle.tree_walk.specs.Courses.{IsPast, MovesOver, ReadsFirst}
+use Rattle.rbu_input.proofs.Records.{leaves-record, refuses-record, damage-behind, damage-first, right-end}
 use Rattle.rbu_input.proofs.target.check_next.Goals as goal
 
 pub returns-in-Ok-next-clause-pages : goal.returns-in-Ok-next-clause-pages
 returns-in-Ok-next-clause-pages g c =
-    let store = c.args.store.now in
+    let a = c.args in
+    let store = a.store.now in
     let reads = c.in-Ok-Some.ensures in
     let moves = c.in-Ok-next.ensures in
     record {
-      same = moves.pages.same ∙ reads.pages.same;
-      count = moves.pages.count ∙ reads.pages.count;
-      answer = told-both (g.S.PageRead.pages store) reads.pages.same reads.pages.answer moves.pages.answer (λ m read move. λ members stands.
-          leaves-record (sizes_of g.S.PageRead store) (paged g.S.PageRead store m) c.args.name.now c.args.table.now members c.in-Ok-Some.row c.next.new.self
-          (subst (IsFirstRow members) c.in-Ok-Some.field-0-is (read TableTree members stands)) c.in-Ok.ensures.right
-          (at-sizes g.S.PageRead reads.owes.stays reads.pages.count (λ s u n.
-          MovesOn {T = Bool} {F = g.row.S-Fault.Denot} (record { size = s; usable = u }) (record { count = n; pages = m }) c.args.cursor.now c.next.new.self (Ok c.in-Ok-next.field-0)) move TableTree members stands));
+      same = moves.walk.same ∙ reads.walk.same;
+      count = moves.walk.count ∙ reads.walk.count;
+      answer = told-both (g.S.PageRead.pages store) reads.walk.same reads.walk.answer moves.walk.answer (λ m read move. λ findings remains.
+          leaves-record (sizes_of g.S.PageRead store) (paged g.S.PageRead store m) a.name.now a.table.now findings a.cursor.now remains g.row.S-Fault.Denot c.in-Ok-Some.row
+          (subst (λ (o : Option Row). ReadsFirst (sizes_of g.S.PageRead store) (paged g.S.PageRead store m) {F = g.row.S-Fault.Denot} a.cursor.now (Ok o)) c.in-Ok-Some.field-0-is read) Bool c.in-Ok-next.field-0 c.next.new.self c.in-Ok.ensures.right
+          (at-sizes g.S.PageRead reads.owes.stays reads.walk.count (λ s u n.
+          MovesOver {T = Bool} {F = g.row.S-Fault.Denot} (record { size = s; usable = u }) (record { count = n; pages = m }) a.cursor.now c.next.new.self (Ok c.in-Ok-next.field-0)) move));
     }
 
 pub returns-in-Ok-clause-pages : goal.returns-in-Ok-clause-pages
 returns-in-Ok-clause-pages g c =
-    let store = c.args.store.now in
+    let a = c.args in
+    let store = a.store.now in
     let reads = c.in-Ok-Some.ensures in
     let moves = c.in-Err-next.ensures in
     record {
-      same = moves.pages.same ∙ reads.pages.same;
-      count = moves.pages.count ∙ reads.pages.count;
-      answer = told-both (g.S.PageRead.pages store) reads.pages.same reads.pages.answer moves.pages.answer (λ m read move. λ members stands.
-          other-refused (FirstWrongRecord c.args.name.now c.args.table.now members) c.of_tree.result
-          (c.of_tree.ensures.other
-          (at-sizes g.S.PageRead reads.owes.stays reads.pages.count (λ s u n.
-          MovesOn {T = Bool} {F = g.row.S-Fault.Denot} (record { size = s; usable = u }) (record { count = n; pages = m }) c.args.cursor.now c.next.new.self (Err c.in-Err-next.fault)) move TableTree members stands)));
+      same = moves.walk.same ∙ reads.walk.same;
+      count = moves.walk.count ∙ reads.walk.count;
+      answer = told-both (g.S.PageRead.pages store) reads.walk.same reads.walk.answer moves.walk.answer (λ m read move. λ findings remains.
+          damage-behind (sizes_of g.S.PageRead store) (paged g.S.PageRead store m) a.name.now a.table.now findings a.cursor.now remains g.row.S-Fault.Denot c.in-Ok-Some.row
+          (subst (λ (o : Option Row). ReadsFirst (sizes_of g.S.PageRead store) (paged g.S.PageRead store m) {F = g.row.S-Fault.Denot} a.cursor.now (Ok o)) c.in-Ok-Some.field-0-is read) Bool c.in-Err-next.fault c.of_tree.result c.next.new.self
+          c.of_tree.ensures.is c.in-Ok.ensures.right
+          (at-sizes g.S.PageRead reads.owes.stays reads.walk.count (λ s u n.
+          MovesOver {T = Bool} {F = g.row.S-Fault.Denot} (record { size = s; usable = u }) (record { count = n; pages = m }) a.cursor.now c.next.new.self (Err c.in-Err-next.fault)) move));
     }
 
 pub returns-in-Ok-Some-clause-pages : goal.returns-in-Ok-Some-clause-pages
 returns-in-Ok-Some-clause-pages g c =
-    let store = c.args.store.now in
+    let a = c.args in
+    let store = a.store.now in
     let reads = c.in-Ok-Some.ensures in
     record {
-      same = reads.pages.same;
-      count = reads.pages.count;
-      answer = IfSome_then (g.S.PageRead.pages store) reads.pages.answer (λ m read. λ members stands.
-          refuses-record (sizes_of g.S.PageRead store) (paged g.S.PageRead store m) c.args.name.now c.args.table.now members c.in-Ok-Some.row c.in-Err-check_record.fault c.of_input.result c.of_input.ensures.is
-          (subst (IsFirstRow members) c.in-Ok-Some.field-0-is (read TableTree members stands)) c.in-Err-check_record.ensures.fault);
+      same = reads.walk.same;
+      count = reads.walk.count;
+      answer = IfSome_then (g.S.PageRead.pages store) reads.walk.answer (λ m read. λ findings remains.
+          refuses-record (sizes_of g.S.PageRead store) (paged g.S.PageRead store m) a.name.now a.table.now findings a.cursor.now remains g.row.S-Fault.Denot c.in-Ok-Some.row
+          (subst (λ (o : Option Row). ReadsFirst (sizes_of g.S.PageRead store) (paged g.S.PageRead store m) {F = g.row.S-Fault.Denot} a.cursor.now (Ok o)) c.in-Ok-Some.field-0-is read) c.in-Err-check_record.fault c.of_input.result
+          c.of_input.ensures.is c.in-Err-check_record.ensures.fault);
     }
 
 pub returns-in-Ok-None-clause-pages : goal.returns-in-Ok-None-clause-pages
 returns-in-Ok-None-clause-pages g c =
+    let a = c.args in
+    let store = a.store.now in
     let reads = c.in-Ok-None.ensures in
+    let past = (subst (λ (o : Option Row). IsNone o ↔ IsPast a.cursor.now) c.in-Ok-None.field-0-is reads.none).0 refl in
     record {
-      same = reads.pages.same;
-      count = reads.pages.count;
-      answer = IfSome_then (g.S.PageRead.pages c.args.store.now) reads.pages.answer (λ m read. λ members stands. no-member members (subst (IsFirstRow members) c.in-Ok-None.field-0-is (read TableTree members stands)));
+      same = reads.walk.same;
+      count = reads.walk.count;
+      answer = some-all (g.S.PageRead.pages store) (λ m. λ findings remains. right-end (sizes_of g.S.PageRead store) (paged g.S.PageRead store m) a.name.now a.table.now findings a.cursor.now remains past);
     }
 
 pub returns-clause-pages : goal.returns-clause-pages
 returns-clause-pages g c =
+    let a = c.args in
+    let store = a.store.now in
     let reads = c.in-Err.ensures in
     record {
-      same = reads.pages.same;
-      count = reads.pages.count;
-      answer = IfSome_then (g.S.PageRead.pages c.args.store.now) reads.pages.answer (λ m read. λ members stands.
-          other-refused (FirstWrongRecord c.args.name.now c.args.table.now members) c.of_tree-in-Err.result (c.of_tree-in-Err.ensures.other (read TableTree members stands)));
+      same = reads.walk.same;
+      count = reads.walk.count;
+      answer = IfSome_then (g.S.PageRead.pages store) reads.walk.answer (λ m read. λ findings remains.
+          damage-first (sizes_of g.S.PageRead store) (paged g.S.PageRead store m) a.name.now a.table.now findings a.cursor.now remains c.in-Err.fault c.of_tree-in-Err.result c.of_tree-in-Err.ensures.is read);
     }

@@ -29,8 +29,8 @@ loop-left-preserved g c =
           ChecksBatch (record { size = s; usable = u }) (record { count = n; pages = m }) c.args.catalog.now {F = g.row.S-Fault.Denot} batch (Ok c.in-Ok.field-0)) checks));
     }
 
-pub returns-in-Err-clause-standing : goal.returns-in-Err-clause-standing
-returns-in-Err-clause-standing g c =
+pub returns-in-Err-clause-records : goal.returns-in-Err-clause-records
+returns-in-Err-clause-records g c =
     let inv = c.loop-left.invariant in
     let step = c.in-Err.ensures in
     let first = c.args.target.now in
@@ -46,8 +46,8 @@ returns-in-Err-clause-standing g c =
           ChecksBatch (record { size = s; usable = u }) (record { count = n; pages = m }) c.args.catalog.now {F = g.row.S-Fault.Denot} batch (Err c.in-Err.fault)) checks));
     }
 
-pub returns-clause-standing : goal.returns-clause-standing
-returns-clause-standing g c =
+pub returns-clause-records : goal.returns-clause-records
+returns-clause-records g c =
     let inv = c.loop-left.invariant in
     let first = c.args.target.now in
     record {

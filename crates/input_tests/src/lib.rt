@@ -1,0 +1,11 @@
+//! Tests of the reader of RBU databases, over pages in memory.
+//!
+//! They stand in a crate of their own, since a crate with tests is proved twice.
+#![tactic(auto)]
+
+#[cfg(test)]
+mod databases;
+#[cfg(test)]
+mod lines;
+#[cfg(test)]
+mod prepared;

@@ -1,11 +1,11 @@
 -- The rows of a `data_` table as a batch, from what is found of it.
-use Rattle.std.proofs.Common.{◌≡◌, ℕ, ◌+◌, ◌≤◌, Bool, true, false, List, [], ◌∷◌, ◌++◌, length, map, Option, Some, None, Result, Ok, Err, ◌⊎◌, refl, sym, ap, ap₂, ◌∙◌, subst, inl, inr, length-append, append_assoc, arith}
+use Rattle.std.proofs.Common.{◌≡◌, ℕ, ◌+◌, ◌≤◌, Bool, true, false, List, [], ◌∷◌, ◌++◌, length, map, Option, Some, None, Result, Ok, Err, ◌⊎◌, refl, sym, ap, ◌∙◌, subst, inl, inr, length-append, append_assoc, arith}
 use Rattle.std.proofs.Math.Path.{subst⁻¹}
 use Rattle.std.proofs.lemmas.List.Elements.{filter-append}
 use Rattle.std.proofs.lemmas.List.Sums.{sum_by-append, sum_by-cons}
 use Rattle.std.proofs.lemmas.Bool.{ltb-false}
 use Rattle.std.specs.List.{AllZip}
-use Rattle.std.specs.Prelude.{filter, filter_map, flat_map, sum_by, nat_lt, if◌then◌else◌, codes}
+use Rattle.std.specs.Prelude.{filter, filter_map, sum_by, nat_lt, if◌then◌else◌, codes}
 use Rattle.refusal.specs.declared.Measure.{Measure}
 use Rattle.refusal.specs.declared.Measure.TheVariants as measure
 use Rattle.rbu_rows.specs.declared.prepared.Prepared.{Prepared}
@@ -21,7 +21,7 @@ use Rattle.database_spec.specs.Walks.{Finding, IsWalk}
 use Rattle.prepared_spec.specs.declared.input_fault.InputFault.{InputFault}
 use Rattle.prepared_spec.specs.declared.input_fault.InputFault.TheVariants.{NoTarget, TooMuch}
 use Rattle.prepared_spec.specs.DataTables.{DataTable, begins_with, first_fault, meaning_fault, over, columns_fault, meanings_fault, table_fault}
-use Rattle.prepared_spec.specs.Inputs.{Input, Opens, Closes, Opened, FirstWrongInput, AllRight, IsInputOf, IsOpened, IsTableInput, batches_in, input_bytes, is_row, key_twice, prepared_in}
+use Rattle.prepared_spec.specs.Inputs.{Input, Opens, Closes, Opened, FirstWrongInput, AllRight, IsInputOf, IsOpened, IsTableInput, input_bytes, is_row, key_twice, prepared_in}
 use Rattle.prepared_spec.specs.InputsLaws.{opened-one}
 use Rattle.prepared_spec.specs.Plans.{table_named}
 use Rattle.rbu_input.specs.declared.fault.InputError.{InputError}

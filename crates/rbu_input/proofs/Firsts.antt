@@ -1,5 +1,5 @@
 -- The first thing that is wrong, in one list behind another.
-use Rattle.std.proofs.Common.{◌≡◌, List, [], ◌∷◌, ◌++◌, refl, sym, ap, inl, inr, append_assoc, append-nil}
+use Rattle.std.proofs.Common.{◌≡◌, List, [], ◌∷◌, ◌++◌, refl, ap, inl, inr, append_assoc, append-nil}
 use Rattle.std.proofs.Math.Path.{subst, subst⁻¹}
 use Rattle.database_spec.specs.declared.catalog.Catalog.{Catalog}
 use Rattle.prepared_spec.specs.declared.input_fault.InputFault.{InputFault}

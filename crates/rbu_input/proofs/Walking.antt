@@ -1,7 +1,6 @@
 -- The rows of a `data_` table that were read, and what is left of them.
 use Rattle.std.proofs.Common.{◌≡◌, ℕ, List, [], ◌∷◌, ◌++◌, Option, Some, None, Result, Ok, Err, IfErr, ◌⊎◌, ◌-◌, refl, sym, ap, ap₂, ◌∙◌, subst, inl, inr, append_assoc, append-nil, arith}
 use Rattle.std.proofs.Math.Path.{subst⁻¹}
-use Rattle.std.proofs.lemmas.List.{map-append}
 use Rattle.common_spec.specs.Reading.{OrNone}
 use Rattle.page_store.specs.declared.store.PageRead.{Ghosts}
 use Rattle.page_store.specs.Store.{IsCause, OwesBy, Stays}
@@ -38,7 +37,7 @@ use Rattle.rbu_input.specs.declared.store_fault.StoreFault.TheVariants.{Refused,
 use Rattle.rbu_input.specs.declared.sums.Sums.{Sums}
 use Rattle.rbu_input.specs.RowAnswers.{IsWant, Refuses, member_with}
 use Rattle.rbu_input.specs.Sums.{AreSums}
-use Rattle.rbu_input.specs.Reading.{fault_in, IsRefusedOrOther, of_input_error, of_tree_fault, opened_as, joined, IsTaken, TakesRow, AreTaken, TakesRows, Leaves, LeavesOrRefuses, OfRows, ReadsNext, ReadsFrom}
+use Rattle.rbu_input.specs.Reading.{fault_in, IsRefusedOrOther, of_input_error, of_tree_fault, opened_as, joined, IsTaken, TakesRow, Leaves, OfRows, ReadsNext, ReadsFrom}
 
 -- what a call owes whose error is told in other words
 pub owes-told : {P F E T R : Type 0} (g : Ghosts P F) {before after : P} (cause_in : E → Option F) (error : E) (told : StoreFault F) → fault_in told ≡ cause_in error

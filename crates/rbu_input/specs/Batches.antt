@@ -1,10 +1,8 @@
 -- What is answered of a `data_` table: its rows as a batch, or the first thing that is wrong with it.
 use Rattle.std.specs.Prelude.{◌≡◌, ◌≤◌, ℕ, List, [], ◌∷◌, ◌++◌, Result, Ok, Err, filter_map}
-use Rattle.rbu_rows.specs.declared.prepared.Prepared.{Prepared}
 use Rattle.schema_spec.specs.declared.schema.Table.{Table}
 use Rattle.tree_spec.specs.declared.TreeKind.TheVariants.{Table as TableTree}
 use Rattle.tree_spec.specs.Standing.{Sizes, Paged}
-use Rattle.tree_spec.specs.Trees.{Member}
 use Rattle.database_spec.specs.declared.catalog.Catalog.{Catalog}
 use Rattle.database_spec.specs.declared.catalog.Entry.{Entry}
 use Rattle.std.specs.List.{AllZip}

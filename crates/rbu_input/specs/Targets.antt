@@ -1,5 +1,5 @@
 -- What is answered of the records of a targeted table, one after the other.
-use Rattle.std.specs.Prelude.{◌≡◌, ◌≤◌, ℤ, ℕ, Some, Bool, true, false, List, [], ◌∷◌, length, map, Result, Ok, Err}
+use Rattle.std.specs.Prelude.{◌≡◌, ◌≤◌, ℤ, ℕ, Some, Bool, true, false, List, length, map, Result, Ok, Err}
 use Rattle.common_spec.specs.Reading.{Reads, OrFault}
 use Rattle.rbu_rows.specs.declared.prepared.Batch.{Batch}
 use Rattle.schema_spec.specs.declared.schema.Table.{Table}

@@ -12,7 +12,7 @@ use std::rt::HostRuntime;
 use std::test::Fail;
 
 // The target, the name and the text of a table of the RBU database, the cells of that table, each with the length of its record and its rowid, and what is answered.
-const CASES: [(&str, &str, &str, &[u8], &str); 21] = [
+const CASES: [(&str, &str, &str, &[u8], &str); 22] = [
     // A row whose columns stand crosswise.
     (
         T,
@@ -146,6 +146,14 @@ const CASES: [(&str, &str, &str, &[u8], &str); 21] = [
         "CREATE TABLE data_k(k, rbu_control)",
         b"\x04\x01\x03\x0f\x08a\x04\x02\x03\x0f\x08b\x04\x03\x03\x0f\x08B",
         "91 data_k 2 3",
+    ),
+    // Rowids that fall.
+    (
+        T,
+        "data_t1",
+        "CREATE TABLE data_t1(a, b, c, rbu_control)",
+        b"\x06\x02\x05\x01\x00\x00\x08\x04\x06\x01\x05\x01\x00\x00\x08\x05",
+        "55 ",
     ),
     // A value of another class.
     (

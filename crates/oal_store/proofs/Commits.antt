@@ -1,5 +1,5 @@
 -- What a commit leaves: the log with the frames that came, and its overlay.
-use Rattle.std.proofs.Common.{◌≡◌, ℕ, ◌+◌, ◌*◌, ◌^◌, ◌<◌, ◌≤◌, ◌==◌, is_some, Bool, true, false, cond, if◌then◌else◌, List, [], ◌∷◌, ◌++◌, length, map, Option, Some, None, IfSome, unwrap_or, Vec, All, refl, sym, ap, ◌∙◌, subst, inl, inr, append_assoc, append-nil, length-append}
+use Rattle.std.proofs.Common.{◌≡◌, ℕ, ◌+◌, ◌*◌, ◌^◌, ◌<◌, ◌≤◌, ◌==◌, is_some, Bool, true, false, cond, if◌then◌else◌, List, [], ◌∷◌, ◌++◌, length, map, Option, Some, None, IfSome, unwrap_or, Vec, All, refl, sym, ap, ◌∙◌, subst, inl, inr, arith, append_assoc, append-nil, length-append}
 use Rattle.std.specs.Global.{Global}
 use Rattle.std.specs.Option.{option_or}
 use Rattle.std.specs.List.{AllByRecursion, IsDistinct}
@@ -32,7 +32,7 @@ use Rattle.oal_store.specs.Appending.{frames_of, Appends}
 use Rattle.oal_store.specs.Changed.{IsChanged}
 use Rattle.oal_store.specs.Committing.{Grows}
 use Rattle.oal_store.specs.Growing.{KeepsGrowing}
-use Rattle.oal_store.specs.Stored.{changed_page, stored_map, KeepsLog, SameStore, HasPagesOf, IsKnown, IsCommitted}
+use Rattle.oal_store.specs.Stored.{changed_page, stored_map, KeepsLog, SameStore, HasPagesOf, IsKnown, AreWithin, AreWithinLastCommit, IsCommitted}
 use Rattle.oal_store.proofs.FramesLaws.{frames_bytes-append, sums_behind-append, valid-append, last_commit-append, last_frame-append, last_place-append, last_place-more, count_after-append, holds-page, held-page}
 use Rattle.oal_store.proofs.PageFrames.{Entry, last_commit-frames_of, numbers-frames_of, valid-frames_of, last_frame-frames_of, length-frames, length-frames_of, compares-back}
 
@@ -128,9 +128,21 @@ or_unwrap : (a b : Option (List ℕ)) (d : List ℕ) → unwrap_or (option_or a 
 or_unwrap None b d = refl
 or_unwrap (Some x) b d = refl
 
-within_of : (size count : ℕ) (es : List Entry) (k : ℕ) → AllByRecursion (IsChanged size k) es → AllByRecursion (λ (frame : Frame). frame.number ≤ k) (frames_of count es)
+within_of : (size count : ℕ) (es : List Entry) (k : ℕ) → AllByRecursion (IsChanged size k) es → AreWithin k (frames_of count es)
 within_of size count [] k all = tt
 within_of size count (e ∷ es) k all = (all.0.within, within_of size count es k all.1)
+
+within_more : (least most : ℕ) (xs ys : List Frame) → least ≤ most → AreWithin least xs → AreWithin most ys → AreWithin most (xs ++ ys)
+within_more least most [] ys up first more = more
+within_more least most (x ∷ xs) ys up first more = (let low = first.0 in omega (arith, low, up), within_more least most xs ys up first.1 more)
+
+-- frames up to the count behind those up to a lesser commit's size, where the count is the size of the commit that came
+within_last-more : (target count : ℕ) (frames more : List Frame) → count_after target (frames ++ more) ≡ count → AreWithin count more
+    → last_commit frames ≤ count → AreWithinLastCommit frames → AreWithinLastCommit (frames ++ more)
+within_last-more target count [] [] size came up within = tt
+within_last-more target count [] (m ∷ more) size came up within = subst (λ (k : ℕ). AreWithin k (m ∷ more)) (sym size) came
+within_last-more target count (x ∷ frames) more size came up within =
+    subst (λ (k : ℕ). AreWithin k (x ∷ frames ++ more)) (sym size) (within_more (last_commit (x ∷ frames)) count (x ∷ frames) more up within came)
 
 -- where no page was written since the last commit, the pages are those of the overlay
 pub unchanged-overlay : (store : OalStore) (frames : List Frame) (files : Files) → store.changed.entries ≡ [] → store.count ≡ count_after store.log.target_pages frames → committed frames ≡ frames
@@ -155,6 +167,7 @@ committed-files store new frames f g grows target appends changed distinct fits 
     let bytes : List ℕ = frames_bytes log.big (pair_of log.salt) (pair_of log.sums) more in
     let behind = appends kept.front kept.rest kept.whole (sym kept.has.size) in
     let now : HasFrames new.log (frames ++ more) (kept.front ++ bytes) = grown log new.log store.count es frames kept.front kept.has grows changed fits positive spare in
+    let within : AreWithin store.count more = within_of log.page_size store.count es store.count changed in
     let keeps : BeginsWithLog new.log (frames ++ more) (content g Oal) = record { front = kept.front ++ bytes; rest = behind.0; has = now; whole = behind.1 } in
     let pages : IsOverlay (target_map new.log g) (frames ++ more) (stored_map store f) = record {
       size = grows.page_size;
@@ -174,7 +187,8 @@ committed-files store new frames f g grows target appends changed distinct fits 
       keeps = keeps;
       pages = pages;
       stay = SamePages-trans (stored_map new g) (overlay (target_map new.log g) (frames ++ more)) (stored_map store f) (unchanged-overlay new (frames ++ more) g empty (count ∙ sym grows.pages ∙ now.pages) now.closed keeps) pages;
-      within = within_of log.page_size store.count es store.count changed;
+      within = within;
+      within_last = within_last-more new.log.target_pages store.count frames more (sym now.pages ∙ grows.pages) within;
     }
 
 -- frames of pages that were written have this length
@@ -197,7 +211,8 @@ committed_old old filled new frames f g same pages is = record {
   pages = SamePages-trans (overlay (target_map new.log g) (frames ++ is.more)) (stored_map filled f) (stored_map old f) is.pages
       (same_map old filled f same pages);
   stay = SamePages-trans (stored_map new g) (stored_map filled f) (stored_map old f) is.stay (same_map old filled f same pages);
-  within = subst (λ (k : ℕ). AllByRecursion (λ (frame : Frame). frame.number ≤ k) is.more) same.count is.within;
+  within = subst (λ (k : ℕ). AreWithin k is.more) same.count is.within;
+  within_last = subst (λ (k : ℕ). last_commit frames ≤ k → AreWithinLastCommit frames → AreWithinLastCommit (frames ++ is.more)) same.count is.within_last;
 }
 
 -- what a commit leaves of the files

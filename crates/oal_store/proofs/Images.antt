@@ -121,6 +121,7 @@ committed_same old new frames f g left log target is = record {
     each = λ n low high. ap (unwrap_or (changed_page new n)) (same_place new.log g left n log target (get nat_cmp new.log.places n)) ∙ is.stay.each n low high;
   };
   within = is.within;
+  within_last = is.within_last;
 }
 
 abbrev bytes_of : Option (List ℕ) → List ℕ

@@ -4,6 +4,7 @@ pub mod Growing
 pub mod Changed
 pub mod Committing
 pub mod Stored
+pub mod StoredLaws
 pub mod Faults
 pub mod Lent
 pub mod Saved

@@ -7,7 +7,7 @@ use Rattle.file_spec.specs.declared.FileName.TheVariants.{Oal, Target}
 use Rattle.file_spec.specs.Files.{Files, content, OnlyChanges}
 use Rattle.file_spec.specs.Records.{Record, IsImage, Every, IsStill, shown_files}
 use Rattle.file_spec.specs.Trails.{Trail, Passes}
-use Rattle.format_spec.specs.Log.{Frame, IsOverlay}
+use Rattle.format_spec.specs.Log.{Frame, last_commit, IsOverlay}
 use Rattle.format_spec.specs.PageMap.{PageMap, SamePages}
 use Rattle.page_spec.specs.Pages.{Pages, lock_byte_page}
 use Rattle.rbu_disk.specs.declared.disk.Disk.{Ghosts}
@@ -44,13 +44,23 @@ HasPagesOf old new files = (number : ℕ) → stored_pages new files number ≡ 
 abbrev pub IsKnown : OalStore → ℕ → Type 0
 IsKnown store number = (number ≤ store.log.target_pages) ⊎ ((number ≡ lock_byte_page store.log.page_size) ⊎ (IsSome (get nat_cmp store.changed number) ⊎ IsSome (get nat_cmp store.log.places number)))
 
+-- the frames are of pages up to the count
+abbrev pub AreWithin : ℕ → List Frame → Type 0
+AreWithin count = AllByRecursion (λ frame. frame.number ≤ count)
+
+-- no frame is of a page past the last commit's size
+abbrev pub AreWithinLastCommit : List Frame → Type 0
+AreWithinLastCommit frames = AreWithin (last_commit frames) frames
+
 -- After a commit the hidden log has further frames, its overlay over the target are the pages of the store before it, and these are the store's still. The frames that came are of pages up to the count.
+-- Where the count is no less than at the last commit and no frame was of a page past that commit's size, no frame is of a page past the size of the commit that came.
 pub record IsCommitted (old new : OalStore) (frames : List Frame) (before after : Files) : Type 0 where
   pub more : List Frame
   pub keeps : KeepsLog new (frames ++ more) after
   pub pages : IsOverlay (target_map new.log after) (frames ++ more) (stored_map old before)
   pub stay : SamePages (stored_map new after) (stored_map old before)
-  pub within : AllByRecursion (λ frame. frame.number ≤ old.count) more
+  pub within : AreWithin old.count more
+  pub within_last : last_commit frames ≤ old.count → AreWithinLastCommit frames → AreWithinLastCommit (frames ++ more)
 
 -- what a crash leaves of the hidden log begins with these bytes, and the other files are those of an image at the record
 pub record LeavesLog (start : Record) (front : List ℕ) (left : Files) : Type 0 where

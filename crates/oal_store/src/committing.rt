@@ -59,7 +59,8 @@ impl OalStore {
     /// page 1 is appended, and where neither a page nor the count changed none. Then the log is made stable. There is a page at least.
     ///
     /// After Ok the hidden log has these frames, and its overlay over the target are the store's pages, in each image too where no change of the
-    /// log's name was pending and each had the shown target. Whatever fails, each image keeps what all had of the log up to the last commit. After
+    /// log's name was pending and each had the shown target. No frame is then of a page past the last commit's size, where that was so before and there are no fewer
+    /// pages than at the commit before. Whatever fails, each image keeps what all had of the log up to the last commit. After
     /// an Err nothing is said of the store.
     pub fn commit<D: Disk>(&mut self, alloc: Global, disk: &mut D) -> Result<(), OalFault>
         requires allowed { AllowsCommit D.Disk disk.old }

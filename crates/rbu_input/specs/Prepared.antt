@@ -1,15 +1,17 @@
 -- What is answered of the prepared rows of an RBU database for a target.
 use Rattle.std.specs.Prelude.{◌≡◌, ℕ, List, [], Result, Ok, Err, IfOk, Vec, flat_map}
 use Rattle.std.specs.Global.{Global}
-use Rattle.std.specs.List.{AllZip}
+use Rattle.std.specs.List.{AllZip, AllByRecursion}
 use Rattle.common_spec.specs.Reading.{Reads, OrFault}
 use Rattle.rbu_rows.specs.declared.prepared.Batch.{Batch}
 use Rattle.tree_spec.specs.Standing.{Sizes, Paged}
 use Rattle.database_spec.specs.declared.catalog.Catalog.{Catalog}
 use Rattle.database_spec.specs.declared.catalog.NamedEntry.{NamedEntry}
+use Rattle.database_spec.specs.ListsLaws.{PairsByRecursion}
 use Rattle.prepared_spec.specs.declared.input_fault.InputFault.{InputFault}
 use Rattle.prepared_spec.specs.DataTables.{DataTable}
 use Rattle.prepared_spec.specs.Inputs.{Input, FirstWrongInput, AllRight, IsTableInput, AreInputs, ArePreparedRows, HasInputFault, batches_in}
+use Rattle.input_laws.specs.CatalogNamesLaws.{IsKnown, OwnName}
 use Rattle.rbu_input.specs.declared.store_fault.StoreFault.{StoreFault}
 use Rattle.rbu_input.specs.Batches.{IsRooted}
 use Rattle.rbu_input.specs.Reading.{IsRefusedOrOther}
@@ -44,3 +46,7 @@ module _ (sizes : Sizes) (base : Paged) (catalog : Catalog) where
   -- Whatever the store holds, and whatever is found of the RBU database in it: the prepared rows are answered that it has, or its first refusal.
   abbrev pub ReadsPrepared : {F : Type 0} → Catalog → Result (List (List Batch)) (StoreFault F) → Type 0
   ReadsPrepared rbu result = (inputs : List Input) → AreInputs sizes base catalog rbu inputs → AnswersInputs rbu result
+
+  -- Whatever the store holds: the prepared rows are answered that the RBU database has, or its first refusal. What that takes of the catalogs, each that is read of a database says: that each text is read or has a fault, and that no two tables of the RBU database have one name.
+  abbrev pub AnswersCatalogs : {F : Type 0} → Catalog → Result (List (List Batch)) (StoreFault F) → Type 0
+  AnswersCatalogs rbu result = AllByRecursion IsKnown catalog.tables → AllByRecursion IsKnown rbu.tables → PairsByRecursion OwnName rbu.tables → AnswersInputs rbu result

@@ -5,7 +5,7 @@ ghost use Rattle.std.specs.Option.{unwrap_or};
 ghost use Rattle.page_store.specs.Store.{HasSizes, OwesBy};
 ghost use Rattle.tree_walk.specs.Stores.{SeesTree};
 ghost use Rattle.prepared_spec.specs.DataTables.{target_in as target_in_of};
-ghost use Rattle.rbu_input.specs.Prepared.{IsRootedIfRead, ReadsBatches, ReadsPrepared};
+ghost use Rattle.rbu_input.specs.Prepared.{AnswersCatalogs, IsRootedIfRead, ReadsBatches, ReadsPrepared};
 ghost use Rattle.rbu_input.specs.Reading.{fault_in};
 ghost use Rattle.rbu_input.specs.Sources.{source_of};
 
@@ -105,6 +105,7 @@ pub fn read_prepared<S: PageRead>(
     requires sizes { HasSizes S.PageRead rbu.old }
     requires rooted { AllByRecursion (IsRootedIfRead (S.count rbu.old)) rbu_catalog.now.tables }
     ensures rows { SeesTree S.PageRead rbu.old rbu.new (λ sizes base. ReadsPrepared sizes base target.now rbu_catalog.now result) }
+    ensures answers { SeesTree S.PageRead rbu.old rbu.new (λ sizes base. AnswersCatalogs sizes base target.now rbu_catalog.now result) }
     ensures owes { OwesBy S.PageRead fault_in rbu.old rbu.new result }
 {
     let sources = match sorted_sources(alloc, rbu_catalog) {

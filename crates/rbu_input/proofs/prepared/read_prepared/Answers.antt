@@ -5,6 +5,7 @@ use Rattle.std.specs.List.{AllByRecursion}
 use denote.Ref.{Bor}
 use Rattle.tree_walk.specs.Stores.{sizes_of, paged}
 use Rattle.database_spec.specs.declared.catalog.NamedEntry.{NamedEntry}
+use Rattle.input_laws.specs.InputsMadeLaws.{inputs-some}
 use Rattle.rbu_input.specs.Prepared.{IsRootedIfRead, ReadsBatches}
 use Rattle.rbu_input.proofs.Preparing.{prepared-right, prepared-fault, sources-all}
 use Rattle.rbu_input.proofs.SourceOrders.{sources-ordered, sources_in}
@@ -45,4 +46,28 @@ returns-in-Err-read_batches-clause-rows g c =
           (sources-ordered c.args.rbu_catalog.now sources are.tables c.in-Ok.ensures.all c.in-Ok.ensures.sorted are.are_tables) c.in-Err-read_batches.fault
           (subst (λ (l : List (Bor NamedEntry)). ReadsBatches (sizes_of g.S.PageRead store) (paged g.S.PageRead store m) c.args.target.now {F = g.row.S-Fault.Denot} (sources_in l) (Err c.in-Err-read_batches.fault))
           c.as_slice.ensures.value read));
+    }
+
+pub returns-in-Ok-group_all-clause-answers : goal.returns-in-Ok-group_all-clause-answers
+returns-in-Ok-group_all-clause-answers g c =
+    let store = c.args.rbu.now in
+    let rows = returns-in-Ok-group_all-clause-rows g c in
+    record {
+      same = rows.same;
+      count = rows.count;
+      answer = IfSome_then (g.S.PageRead.pages store) rows.answer (λ m reads. λ texts own names.
+          let found = inputs-some (sizes_of g.S.PageRead store) (paged g.S.PageRead store m) c.args.target.now texts c.args.rbu_catalog.now own names in
+          reads found.0 found.1);
+    }
+
+pub returns-in-Err-read_batches-clause-answers : goal.returns-in-Err-read_batches-clause-answers
+returns-in-Err-read_batches-clause-answers g c =
+    let store = c.args.rbu.now in
+    let rows = returns-in-Err-read_batches-clause-rows g c in
+    record {
+      same = rows.same;
+      count = rows.count;
+      answer = IfSome_then (g.S.PageRead.pages store) rows.answer (λ m reads. λ texts own names.
+          let found = inputs-some (sizes_of g.S.PageRead store) (paged g.S.PageRead store m) c.args.target.now texts c.args.rbu_catalog.now own names in
+          reads found.0 found.1);
     }

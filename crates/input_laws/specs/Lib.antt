@@ -1,0 +1,3 @@
+pub mod PreparedDecidedLaws
+pub mod CatalogNamesLaws
+pub mod InputsMadeLaws

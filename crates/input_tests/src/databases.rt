@@ -62,7 +62,8 @@ pub fn store_of(alloc: Global, cells: &[u8]) -> Result<PlainStore, Fail> {
     Ok(store)
 }
 
-fn named(alloc: Global, name: &[u8], sql: &[u8]) -> Result<NamedEntry, AllocError> {
+/// A table at root 2, without indexes.
+pub fn named(alloc: Global, name: &[u8], sql: &[u8]) -> Result<NamedEntry, AllocError> {
     let indexes: Vec<(u32, Result<Index, SqlFault>)> = Vec::new(alloc);
     Ok(NamedEntry {
         name: Bytes::of(alloc, name)?,

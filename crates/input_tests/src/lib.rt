@@ -6,6 +6,10 @@
 #[cfg(test)]
 mod databases;
 #[cfg(test)]
+mod limits;
+#[cfg(test)]
 mod lines;
+#[cfg(test)]
+mod orders;
 #[cfg(test)]
 mod prepared;

@@ -107,6 +107,7 @@ fn table_of(fault: &InputFault) -> &[u8] {
         InputFault::ClassChange { table, .. } => table.as_slice(),
         InputFault::DataRecord { table, .. } => table.as_slice(),
         InputFault::TargetRecord { table, .. } => table.as_slice(),
+        InputFault::TooMuch { what, .. } => what.word().as_bytes(),
         _ => b"",
     }
 }
@@ -135,7 +136,7 @@ fn column_of(fault: &InputFault) -> &[u8] {
     }
 }
 
-// A refusal: its number, the table, a rowid, a column, and a second rowid, as far as it has them.
+// A refusal: its number, the table or what is limited, a rowid, a column, and a second rowid, as far as it has them.
 fn push_refusal(line: &mut Vec<u8>, fault: &InputFault) -> Result<(), AllocError> {
     push_number(line, number_of(fault))?;
     line.push(b' ')?;
@@ -155,11 +156,44 @@ fn push_refusal(line: &mut Vec<u8>, fault: &InputFault) -> Result<(), AllocError
     Ok(())
 }
 
+fn push_count(line: &mut Vec<u8>, count: u64) -> Result<(), AllocError> {
+    let mut digits = Buffer::new();
+    line.push(b' ')?;
+    line.extend_from_slice(digits.format(count).as_bytes())
+}
+
+fn push_control_counts(line: &mut Vec<u8>, fault: &ControlFault) -> Result<(), AllocError> {
+    match fault {
+        ControlFault::ControlLength { has, needs } => {
+            push_count(line, *has)?;
+            push_count(line, *needs)
+        }
+        ControlFault::ControlLetter { place } => push_count(line, *place),
+        ControlFault::DeltaColumn { place } => push_count(line, *place),
+        _ => Ok(()),
+    }
+}
+
+// What a refusal counts: of a control its letters or the place of one, of a limit what there is and the limit.
+fn push_counts(line: &mut Vec<u8>, fault: &InputFault) -> Result<(), AllocError> {
+    match fault {
+        InputFault::TooMuch { has, limit, .. } => {
+            push_count(line, *has)?;
+            push_count(line, *limit)
+        }
+        InputFault::Control { fault, .. } => push_control_counts(line, fault),
+        _ => Ok(()),
+    }
+}
+
 /// The line of a fault.
 pub fn fault_line(alloc: Global, fault: &StoreFault<AllocError>) -> Result<Vec<u8>, AllocError> {
     let mut line = Vec::new(alloc);
     match fault {
-        StoreFault::Refused(fault) => push_refusal(&mut line, fault)?,
+        StoreFault::Refused(fault) => {
+            push_refusal(&mut line, fault)?;
+            push_counts(&mut line, fault)?;
+        }
         StoreFault::Store(_) => line.extend_from_slice(b"store")?,
         StoreFault::Memory(_) => line.extend_from_slice(b"memory")?,
     }

@@ -122,7 +122,7 @@ const CASES: [(&str, &str, &str, &[u8], &str); 22] = [
         "data_t1",
         "CREATE TABLE data_t1(a, b, c, rbu_control)",
         b"\x08\x01\x05\x09\x00\x00\x13x.d",
-        "83 data_t1 1",
+        "83 data_t1 1 2",
     ),
     (
         T,
@@ -165,9 +165,11 @@ const CASES: [(&str, &str, &str, &[u8], &str); 22] = [
     ),
 ];
 
-const T: &str = "CREATE TABLE t1(a INTEGER PRIMARY KEY, b TEXT NOT NULL, c UNIQUE)";
+/// A target whose key is its rowid.
+pub const T: &str = "CREATE TABLE t1(a INTEGER PRIMARY KEY, b TEXT NOT NULL, c UNIQUE)";
 
-const Q: &str = "CREATE TABLE q(a)";
+/// A target without a PRIMARY KEY.
+pub const Q: &str = "CREATE TABLE q(a)";
 
 const K: &str = "CREATE TABLE k(k TEXT COLLATE NOCASE PRIMARY KEY)";
 
@@ -181,7 +183,8 @@ fn name_of(target: &str) -> &str {
     "k"
 }
 
-fn answer_line(
+/// The prepared rows of an RBU database, or its refusal, as a line.
+pub fn answer_line(
     alloc: Global,
     store: &mut PlainStore,
     rbu: &Catalog,
@@ -196,7 +199,8 @@ fn answer_line(
     }
 }
 
-fn is_answered(
+/// Whether a table of an RBU database with these cells is answered so.
+pub fn is_answered(
     alloc: Global,
     target: &str,
     name: &str,
@@ -240,7 +244,9 @@ fn tables_of_one_target_are_a_group_in_the_order_of_their_names(
 }
 
 // The cells of a targeted table, and what is answered: nothing where all its records are rows.
-const TARGETS: [(&[u8], &str); 3] = [
+const TARGETS: [(&[u8], &str); 4] = [
+    // Rowids that fall.
+    (b"\x04\x02\x04\x00\x00\x00\x03\x01\x03\x00\x00", "55 "),
     (b"\x04\x01\x04\x00\x00\x00", ""),
     (b"\x04\x01\x04\x00\x00\x00\x03\x02\x03\x00\x00", "96 t1 2"),
     (

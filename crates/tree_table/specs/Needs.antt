@@ -1,4 +1,4 @@
--- How many pages a put takes, and what it refuses.
+-- How many pages a put and a delete take, and what they refuse.
 use Rattle.std.specs.Prelude.{◌≡◌, ℕ, ◌+◌, ◌-◌, ◌*◌, ◌<◌, ◌≤◌, ◌⊎◌, Some, List, length, Result, IfErr}
 use Rattle.format_spec.specs.declared.PageKind.TheVariants.{TableLeaf}
 use Rattle.format_spec.specs.Cell.{local_size}
@@ -10,11 +10,12 @@ use Rattle.page_store.specs.declared.store.PageRead.{Ghosts}
 use Rattle.tree_spec.specs.declared.TreeKind.TheVariants.{Table}
 use Rattle.tree_spec.specs.declared.fault.TreeFault.{TreeFault}
 use Rattle.tree_spec.specs.Faults.{IsFull, IsOther}
-use Rattle.tree_spec.specs.Trees.{Rooted, TreeOf, page_of, pages_of, root_of}
+use Rattle.tree_spec.specs.Trees.{IsFull as IsFullTree, Rooted, TreeOf, page_of, pages_of, root_of}
 use Rattle.tree_spec.specs.Standing.{Sizes, Paged, Stands}
 use Rattle.tree_spec.specs.Worlds.{IsFree, IsWorld, with_tree}
 use Rattle.tree_spec.specs.Changes.{Within}
-use Rattle.tree_pages.specs.Takes.{IsShort, TakesAtMost}
+use Rattle.delete_spec.specs.Steps.{IsReady}
+use Rattle.tree_pages.specs.Takes.{IsShort, TakesAtMost, UsesBy}
 use Rattle.tree_pages.specs.Writers.{paged, sizes_of}
 
 -- how many overflow pages a row's payload of so many bytes fills
@@ -40,6 +41,16 @@ abbrev pub IsShortUnder : {F : Type 0} → Sizes → ℕ → ℕ → ℕ → ℕ
 IsShortUnder sizes most more limit page old count fault =
     (levels : ℕ) (tree : TreeOf levels) (trunks : List Trunk) → levels ≤ most → page_of levels tree ≡ page → Stands sizes old Table levels tree → IsFree sizes old trunks
     → Within sizes old (pages_of levels tree) trunks → IsShort sizes (2 * levels + more) limit old trunks count fault
+
+-- whatever table stands at a page, two pages more at most are in use for each level below its own page
+abbrev pub UsesUnder : Sizes → ℕ → Paged → Paged → Type 0
+UsesUnder sizes page old new = (levels : ℕ) (tree : TreeOf levels) (trunks : List Trunk) → page_of levels tree ≡ page → IsFree sizes old trunks → IsReady sizes levels old tree trunks → UsesBy sizes (2 * levels) old new
+
+-- Whatever table without an empty page stands at a page, of so many levels at most: the fault is that fewer pages could be taken than two for each level below its own page, and some more.
+abbrev pub IsShortBelow : {F : Type 0} → Sizes → ℕ → ℕ → ℕ → ℕ → Paged → ℕ → TreeFault F → Type 0
+IsShortBelow sizes most more limit page old count fault =
+    (levels : ℕ) (tree : TreeOf levels) (trunks : List Trunk) → levels ≤ most → page_of levels tree ≡ page → IsFullTree levels tree → IsFree sizes old trunks → IsReady sizes levels old tree trunks
+    → IsShort sizes (2 * levels + more) limit old trunks count fault
 
 module _ {P F : Type 0} (g : Ghosts P F) where
   -- so what is refused below a page

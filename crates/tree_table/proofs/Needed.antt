@@ -89,7 +89,7 @@ module _ (sizes : Sizes) (base : Paged) (number : ℕ) where
     pub pages : (n : ℕ) → times n (pages_of below child) ≤ times n (pages_of levels tree)
     pub full : IsFullBelow levels tree → IsFullTree below child
 
-  child-in_range : (levels i : ℕ) (children : List (TreeOf levels × TreeCell)) (last : TreeOf levels) → AllByRecursion (StandsBefore sizes base Table levels) children → StandsLast sizes base Table levels last
+  pub child-in_range : (levels i : ℕ) (children : List (TreeOf levels × TreeCell)) (last : TreeOf levels) → AllByRecursion (StandsBefore sizes base Table levels) children → StandsLast sizes base Table levels last
       → IsNumber sizes base (page_of levels (child_at i children last))
   child-in_range levels i [] last all stands = stands.0
   child-in_range levels zero (child ∷ children) last all stands = all.0.0.in_range

@@ -3,7 +3,7 @@ use Rattle.std.proofs.Common.{◌≡◌, ℕ, ℤ, zero, suc, ◌+◌, ◌<◌, 
 use Rattle.std.proofs.Math.Path.{subst⁻¹}
 use Rattle.std.proofs.lemmas.Bool.{cases_lt}
 use Rattle.format_spec.specs.declared.CellView.{CellView}
-use Rattle.format_spec.specs.declared.PageKind.TheVariants.{TableInterior}
+use Rattle.format_spec.specs.declared.PageKind.TheVariants.{TableInterior, TableLeaf}
 use Rattle.format_spec.specs.Page.{IsPage}
 use Rattle.page_layout.specs.ViewsLaws.{kind_byte-same}
 use Rattle.page_spec.specs.Counts.{hit, times}
@@ -11,8 +11,10 @@ use Rattle.page_spec.specs.CountsLaws.{hit-itself, hit-same}
 use Rattle.page_spec.specs.FreePages.{due}
 use Rattle.page_spec.specs.Freelists.{Trunk, free_pages}
 use Rattle.page_spec.specs.FreelistsLaws.{IsInRange-wider}
+use Rattle.page_spec.specs.Pages.{Pages}
 use Rattle.tree_spec.specs.declared.TreeKind.TheVariants.{Table}
-use Rattle.tree_spec.specs.Trees.{TreeOf, TreeCell, cells_behind, kind_at, own_cells, own_right, page_of, pages_of, pages_beside}
+use Rattle.tree_spec.specs.declared.fault.TreeFault.{TreeFault}
+use Rattle.tree_spec.specs.Trees.{IsFull, TreeOf, TreeCell, cells_behind, kind_at, own_cells, own_right, page_of, pages_of, pages_beside}
 use Rattle.tree_spec.specs.Standing.{Sizes, Paged, IsNumber, Stands}
 use Rattle.tree_spec.specs.StandingLaws.{Stands-kept}
 use Rattle.tree_spec.specs.Worlds.{IsFree}
@@ -35,9 +37,9 @@ use Rattle.tree_table.specs.declared.taking.Left.{Left}
 use Rattle.tree_table.specs.declared.taking.Left.TheVariants.{Cells, NoCell, OnlyChild}
 use Rattle.tree_table.specs.declared.taking.Taken.{Taken}
 use Rattle.tree_table.specs.Deletes.{IsFit, Leaves, gone_of}
-use Rattle.tree_table.specs.Needs.{HasBeside, IsBeside}
+use Rattle.tree_table.specs.Needs.{HasBeside, IsBeside, IsOtherAt, IsShortBelow, UsesUnder}
 use Rattle.tree_table.proofs.Edits.{child-got}
-use Rattle.tree_table.proofs.Needed.{child-in_range}
+use Rattle.tree_table.proofs.Needed.{child-in_range, table-kind}
 use Rattle.tree_table.proofs.Takings.{views-many}
 use Rattle.tree_table.proofs.Unders.{decoded-own, has-cells, read-there, spelled-all}
 
@@ -182,3 +184,36 @@ module _ (sizes : Sizes) (number : ℕ) (page : TreePage) (old mid : Paged) (dec
         ]);
       },
     )
+
+module _ (sizes : Sizes) (number : ℕ) (page : TreePage) (old : Paged) (decoded : IsDecoded (old.pages number) number sizes.usable page) (kind : page.kind ≡ TableInterior) where
+  -- an interior page of a table without an empty page has a cell
+  pub inner-some : (levels : ℕ) (tree : TreeOf levels) (trunks : List Trunk) → page_of levels tree ≡ number → IsFree sizes old trunks → IsReady sizes levels old tree trunks → IsFull levels tree → 0 < length page.views
+  inner-some zero tree trunks is free ready full = absurd (let other : TableLeaf ≡ page.kind = table-kind sizes old number zero tree page is ready.stands decoded in let no : ⊥ = cc in no)
+  inner-some (suc below) tree trunks is free ready full =
+      omega (arith, full.0, many sizes number page old old decoded kind below tree is trunks free ready, length-of (λ (child : TreeOf below × TreeCell). child.1) tree.children)
+
+  pub inner-beside : (mid : Paged) (at child : ℕ) → at ≤ length page.views → child ≡ child_or page.right (slice_get page.views at) → (rowid : ℤ) (row : Taken) (left : Left) → IsFit sizes.usable left → Leaves sizes rowid row child left old mid
+      → (levels : ℕ) (tree : TreeOf levels) (trunks : List Trunk) → page_of levels tree ≡ number → IsFree sizes old trunks → IsReady sizes levels old tree trunks → (rest : List Trunk) × HasBeside sizes page at child left mid rest
+  inner-beside mid at child low named rowid row left fit leaves zero tree trunks is free ready =
+      absurd (let other : TableLeaf ≡ page.kind = table-kind sizes old number zero tree page is ready.stands decoded in let no : ⊥ = cc in no)
+  inner-beside mid at child low named rowid row left fit leaves (suc below) tree trunks is free ready = stands-beside sizes number page old mid decoded kind below tree is trunks free ready at child low named rowid row left fit leaves
+
+-- The same with numbers under other names.
+
+pub uses-same : (s z : Sizes) (page number k count : ℕ) (pages : Pages) (new : Paged) → s ≡ z → page ≡ number → k ≡ count → UsesUnder s page (record { count = k; pages = pages }) new → UsesUnder z number (record { count = count; pages = pages }) new
+uses-same s z page number k count pages new sizes is counts uses =
+    subst (λ (x : Sizes). UsesUnder x number (record { count = count; pages = pages }) new) sizes
+    (subst (λ (n : ℕ). UsesUnder s n (record { count = count; pages = pages }) new) is (subst (λ (n : ℕ). UsesUnder s page (record { count = n; pages = pages }) new) counts uses))
+
+pub other-same : {F : Type 0} (s z : Sizes) (page number k count : ℕ) (pages : Pages) (fault : TreeFault F) → s ≡ z → page ≡ number → k ≡ count → IsOtherAt s page (record { count = k; pages = pages }) fault
+    → IsOtherAt z number (record { count = count; pages = pages }) fault
+other-same s z page number k count pages fault sizes is counts other =
+    subst (λ (x : Sizes). IsOtherAt x number (record { count = count; pages = pages }) fault) sizes
+    (subst (λ (n : ℕ). IsOtherAt s n (record { count = count; pages = pages }) fault) is (subst (λ (n : ℕ). IsOtherAt s page (record { count = n; pages = pages }) fault) counts other))
+
+pub below-same : {F : Type 0} (s z : Sizes) (most more limit page number k count now : ℕ) (pages : Pages) (fault : TreeFault F) → s ≡ z → page ≡ number → k ≡ count
+    → IsShortBelow s most more limit page (record { count = k; pages = pages }) now fault → IsShortBelow z most more limit number (record { count = count; pages = pages }) now fault
+below-same s z most more limit page number k count now pages fault sizes is counts short =
+    subst (λ (x : Sizes). IsShortBelow x most more limit number (record { count = count; pages = pages }) now fault) sizes
+    (subst (λ (n : ℕ). IsShortBelow s most more limit n (record { count = count; pages = pages }) now fault) is
+    (subst (λ (n : ℕ). IsShortBelow s most more limit page (record { count = n; pages = pages }) now fault) counts short))

@@ -51,8 +51,8 @@ module _ {P F : Type 0} (g : Ghosts P F) where
   pub same-told : (s : P) (old new : Pages) → g.pages s ≡ Some old → g.pages s ≡ Some new → old ≡ new
   same-told s old new one two = IfSome-told (λ p. old ≡ p) new two (subst⁻¹ (λ (o : Option Pages). IfSome o (λ p. old ≡ p)) one refl)
 
-  pub always : {R : Paged → Paged → Type 0} (before after : P) → Becomes g before after R → Whenever g before after R
-  always {R} before after went old told new later =
+  pub always : (R : Paged → Paged → Type 0) (before after : P) → Becomes g before after R → Whenever g before after R
+  always R before after went old told new later =
       let r = went old told in
       subst (λ (n : Pages). R (paged g before old) (paged g after n)) (same-told after r.0 new r.1 later) r.2
 
@@ -151,7 +151,7 @@ module _ (sizes : Sizes) where
     pub gives-short : {F : Type 0} (most limit count : ℕ) (fault : TreeFault F) → b.count ≡ a.count → ((rest : List Trunk) → IsFree sizes b rest → IsShort sizes most limit b rest count fault) → IsShort sizes most limit a trunks count fault
     gives-short most limit count fault same short =
         let o = gives-open in
-        short-used sizes limit count fault a b trunks o.0 0 most free o.1.0 (omega (arith, same)) (omega (arith, same)) o.1.1 (short o.0 o.1.0)
+        short-used sizes limit count fault a b trunks o.0 0 most free o.1 (omega (arith, same)) (omega (arith, same)) o.2 (short o.0 o.1)
 
 module _ (sizes : Sizes) (number : ℕ) (page : TreePage) (at : ℕ) (a : Paged) (decoded : IsDecoded (a.pages number) number sizes.usable page) (kind : page.kind ≡ TableInterior) where
   has-child : (levels : ℕ) (tree : TreeOf levels) (trunks : List Trunk) → page_of levels tree ≡ number → IsReady sizes levels a tree trunks → HasChild sizes a number levels tree (child_or page.right (slice_get page.views at))
@@ -189,4 +189,4 @@ module _ (sizes : Sizes) (number : ℕ) (page : TreePage) (at : ℕ) (a : Paged)
         let one = below has.below has.child trunks has.named_is free (ready-child levels tree trunks is ready) in
         let later = short levels tree trunks is full free ready in
         short-more sizes limit count fault a trunks (2 * has.below + own) (2 * levels + more) (omega (arith, has.levels_are, low))
-        (short-used sizes limit count fault a b trunks later.0 (2 * has.below) own free later.1.0 grows limited one later.1.1)
+        (short-used sizes limit count fault a b trunks later.0 (2 * has.below) own free later.1 grows limited one later.2)

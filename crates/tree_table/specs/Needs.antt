@@ -97,6 +97,10 @@ module _ {P F : Type 0} (g : Ghosts P F) where
       (m : Pages) (trunks : List Trunk) → g.pages before ≡ Some m → HasBeside (sizes_of g before) page at child below (paged g before m) trunks
       → IfErr result (IsShort (sizes_of g before) most limit (paged g before m) trunks (g.count after))
 
+  -- so what is refused below a page of a table without an empty page
+  abbrev pub RefusesBelow : {T : Type 0} → ℕ → ℕ → ℕ → ℕ → P → P → Result T (TreeFault F) → Type 0
+  RefusesBelow most more limit page before after result = (m : Pages) → g.pages before ≡ Some m → IfErr result (IsShortBelow (sizes_of g before) most more limit page (paged g before m) (g.count after))
+
   -- and one page more at most is in use
   abbrev pub OpensOne : TreePage → ℕ → ℕ → Left → P → P → Type 0
   OpensOne page at child below before after =

@@ -1,5 +1,5 @@
 // What an interior page is to have once something happened to a child of it.
-ghost use Rattle.std.specs.Prelude.{◌≡◌, ◌≤◌, ◌<◌, IfErr, IfOk, List, None, OnOk, Some, length, max};
+ghost use Rattle.std.specs.Prelude.{◌≡◌, ◌≤◌, ◌<◌, IfErr, IfOk, List, None, OnOk, Some, length, max, slice_get, ℕ};
 ghost use Rattle.std.specs.List.{All};
 ghost use Rattle.format_spec.specs.declared.PageKind.TheVariants.{TableInterior};
 ghost use Rattle.page_spec.specs.Rooms.{IsOneCell};
@@ -12,7 +12,7 @@ ghost use Rattle.page_spec.specs.Freelists.{Trunk};
 ghost use Rattle.page_spec.specs.Pages.{Pages};
 ghost use Rattle.tree_spec.specs.Worlds.{IsFree};
 ghost use Rattle.tree_walk.specs.Pages.{IsDecoded};
-ghost use Rattle.tree_walk.specs.Places.{rowids};
+ghost use Rattle.tree_walk.specs.Places.{child_or, rowids};
 ghost use Rattle.tree_walk.specs.Seeks.{IsIndexOf};
 ghost use Rattle.tree_table.specs.Needs.{OpensOne, RefusesBeside};
 ghost use Rattle.tree_table.specs.Deletes.{IsChildAt, IsFit, LosesLeaf, OpensOver};
@@ -53,6 +53,8 @@ pub fn step_below<S: PageRead>(
     ensures within { IfOk result (λ step. step.at ≤ length page.now.views) }
     ensures child { IfOk result (λ step. IsChildAt page.now step.at step.child) }
     ensures in_range { IfOk result (λ step. IsNumber S.PageRead store.now step.child) }
+    ensures named { IfOk result (λ step. step.child ≡ child_or page.now.right (slice_get page.now.views step.at)) }
+    ensures out { IfErr result (λ _. ¬ ((at : ℕ) → IsNumber S.PageRead store.now (child_or page.now.right (slice_get page.now.views at)))) }
     ensures cause { IfErr result (λ fault. fault_in fault ≡ None) }
 {
     let at = index_of(page.views.as_slice(), rowid);

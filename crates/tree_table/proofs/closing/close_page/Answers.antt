@@ -1,3 +1,9 @@
+use Rattle.std.proofs.Common.{length, sym, refl}
+use Rattle.std.proofs.lemmas.Result.{err_from_is_err_and}
+use Rattle.tree_pages.specs.UsesLaws.{uses-more}
+use Rattle.tree_level.specs.Changes.{Changes}
+use Rattle.tree_table.proofs.Unders.{dividers-fit}
+use Rattle.tree_table.proofs.Used.{always, whenever-none, changes-use}
 use Rattle.std.proofs.Common.{subst, arith}
 use Rattle.std.proofs.Math.Path.{subst⁻¹}
 use Rattle.std.specs.List.{All}
@@ -74,7 +80,7 @@ returns-clause-uses g c = λ old told new later trunks free.
     let dividers = c.in_ok-dividers.dividers.items in
     let all = subst⁻¹ (λ (k : PageKind). All (IsOneCell k z.usable) comes) c.requires.kind c.requires.comes in
     let few = c.in_ok-dividers.ensures.one c.requires.kind (once-fits z.usable comes page.kind c.requires.kind c.requires.sizes.usable c.requires.comes c.requires.few) in
-    let changes = always S {Changes z page c.args.opened.change comes dividers} a b c.in_ok-dividers.ensures.changed old told new later in
+    let changes = always S (Changes z page c.args.opened.change comes dividers) a b c.in_ok-dividers.ensures.changed old told new later in
     let x = paged S a old in
     let y = paged S b new in
     uses-more z x y (length dividers) 1 few (changes-use z page page.number 1 c.args.opened.change comes dividers x y c.requires.page (sym c.requires.kind) all changes trunks free)

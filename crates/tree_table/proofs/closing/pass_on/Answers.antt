@@ -1,3 +1,11 @@
+use Rattle.std.proofs.Common.{refl, arith}
+use Rattle.std.proofs.Math.Path.{subst⁻¹}
+use Rattle.std.proofs.lemmas.Result.{err_from_is_err_and, IfErr-weaker}
+use Rattle.tree_spec.specs.Worlds.{IsFree}
+use Rattle.tree_pages.specs.Takes.{IsShort, UsesBy}
+use Rattle.tree_pages.specs.TakesLaws.{short-more}
+use Rattle.tree_pages.specs.UsesLaws.{short-used, uses-then}
+use Rattle.tree_table.proofs.Used.{whenever-none}
 use Rattle.std.proofs.Common.{◌≡◌, subst}
 use Rattle.std.proofs.lemmas.Result.{IfOk-weaker}
 use Rattle.tree_spec.specs.Standing.{Sizes}
@@ -67,8 +75,8 @@ returns-clause-uses g c =
     let x = paged S a old in
     let y = paged S s n.0 in
     let w = paged S v new in
-    let two : UsesBy z 1 y w = subst (λ (q : Sizes). UsesBy q 1 y w) one (closes n.0 n.1 new later o.0 (subst⁻¹ (λ (q : Sizes). IsFree q y o.0) one o.1.0)) in
-    uses-then z x y w 1 1 o.1.1 two) c.close_page.ensures.uses
+    let two : UsesBy z 1 y w = subst (λ (q : Sizes). UsesBy q 1 y w) one (closes n.0 n.1 new later o.0 (subst⁻¹ (λ (q : Sizes). IsFree q y o.0) one o.1)) in
+    uses-then z x y w 1 1 o.2 two) c.close_page.ensures.uses
 
 pub returns-in_err-opened-clause-refuses : goal.returns-in_err-opened-clause-refuses
 returns-in_err-opened-clause-refuses g c = λ m trunks told near.
@@ -95,7 +103,7 @@ returns-clause-refuses g c = λ m trunks told near.
     let x = paged S a m in
     let y = paged S s n.0 in
     let count = S.count c.close_page.new.store in
-    let later : IsFree (sizes_of S s) y o.0 = subst⁻¹ (λ (q : Sizes). IsFree q y o.0) one o.1.0 in
+    let later : IsFree (sizes_of S s) y o.0 = subst⁻¹ (λ (q : Sizes). IsFree q y o.0) one o.1 in
     IfErr-weaker c.close_page.result _ _ (λ fault short.
-    short-used z limit count fault x y trunks o.0 1 2 near.free o.1.0 op.count op.most o.1.1 (subst (λ (q : Sizes). IsShort q 2 limit y o.0 count fault) one short))
+    short-used z limit count fault x y trunks o.0 1 2 near.free o.1 op.count op.most o.2 (subst (λ (q : Sizes). IsShort q 2 limit y o.0 count fault) one short))
     (c.close_page.ensures.refuses n.0 o.0 n.1 later)

@@ -1,3 +1,11 @@
+use Rattle.std.proofs.Common.{◌≤◌, [], ◌∷◌, sym, ap, refl, inl}
+use Rattle.std.proofs.lemmas.Result.{err_from_is_err_and}
+use Rattle.page_spec.specs.Counts.{hit}
+use Rattle.tree_spec.specs.Changes.{Within}
+use Rattle.tree_pages.specs.UsesLaws.{uses-more, uses-then}
+use Rattle.tree_level.specs.Changes.{ChangesAt}
+use Rattle.tree_table.proofs.Needed.{trunks-same}
+use Rattle.tree_table.proofs.Used.{always, free-read, changes-use, changes-free, gives-open, gives-within, gives-short}
 use Rattle.std.proofs.Common.{◌≡◌, ℕ, ◌+◌, false, ◌∙◌, subst, arith, length}
 use Rattle.std.proofs.Math.Path.{subst⁻¹}
 use Rattle.std.specs.List.{All}
@@ -157,16 +165,16 @@ returns-clause-uses g c = λ old told new later trunks near.
     let gives : Releases z child x y = subst (λ (n : ℕ). Releases z child (record { count = n; pages = old }) y) be.count (subst (λ (q : Sizes). Releases q child (paged S s old) y) one n.2) in
     let change : Change = record { at = 0; goes = false; right = beside.right } in
     let changes : ChangesAt z c.in_ok-beside.beside.number beside change middle comes y w =
-    subst (λ (q : Sizes). ChangesAt q c.in_ok-beside.beside.number beside change middle comes y w) two (always S {ChangesAt (sizes_of S t) c.in_ok-beside.beside.number beside change middle comes} t v c.in_ok-comes.ensures.changed n.0 n.1 new later) in
+    subst (λ (q : Sizes). ChangesAt q c.in_ok-beside.beside.number beside change middle comes y w) two (always S (ChangesAt (sizes_of S t) c.in_ok-beside.beside.number beside change middle comes) t v c.in_ok-comes.ensures.changed n.0 n.1 new later) in
     let hand : Within z x (child ∷ []) trunks = λ n. omega (arith, near.within n) in
     let both : Within z x (c.in_ok-beside.beside.number ∷ child ∷ []) trunks = λ n. omega (arith, b.within n, ap (λ (q : ℕ). hit q n) be.named) in
     let o = gives-within z child x y gives trunks near.free hand c.in_ok-beside.beside.number both in
     let e = gives-open z child x y gives trunks near.free hand in
     let all = key-one z.usable page _ _ middle beside.kind be.kind c.in_ok-middle.ensures in
     let few : length comes ≤ 1 = returns-clause-few g c in
-    let f = changes-free z beside c.in_ok-beside.beside.number 1 change middle comes y w be.read (sym be.kind) all changes o.0 o.1.0 o.1.1 in
-    let u = changes-use z beside c.in_ok-beside.beside.number 1 change middle comes y w be.read (sym be.kind) all changes o.0 o.1.0 in (
+    let f = changes-free z beside c.in_ok-beside.beside.number 1 change middle comes y w be.read (sym be.kind) all changes o.0 o.1 o.2 in
+    let u = changes-use z beside c.in_ok-beside.beside.number 1 change middle comes y w be.read (sym be.kind) all changes o.0 o.1 in (
       f.0,
       f.1,
-      uses-more z x w (0 + length comes) 1 (omega (arith, few)) (uses-then z x y w 0 (length comes) e.1.1 u),
+      uses-more z x w (0 + length comes) 1 (omega (arith, few)) (uses-then z x y w 0 (length comes) e.2 u),
     )

@@ -1,3 +1,9 @@
+use Rattle.std.proofs.Common.{◌∙◌, sym}
+use Rattle.std.proofs.lemmas.Result.{err_from_is_err_and}
+use Rattle.page_store.specs.StoreLaws.{IfSome-told}
+use Rattle.tree_pages.specs.Writers.{paged, sizes_of}
+use Rattle.tree_walk.specs.Pages.{IsReadFault}
+use Rattle.tree_table.proofs.Needed.{table-read}
 use Rattle.tree_table.proofs.joining.read_neighbour.Goals as goal
 
 pub returns-in_err-number-clause-refuses : goal.returns-in_err-number-clause-refuses

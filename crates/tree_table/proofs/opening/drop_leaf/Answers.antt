@@ -1,3 +1,8 @@
+use Rattle.std.proofs.Common.{arith}
+use Rattle.std.proofs.lemmas.Result.{err_from_is_err_and}
+use Rattle.put_spec.specs.Steps.{Releases}
+use Rattle.tree_pages.specs.UsesLaws.{uses-more}
+use Rattle.tree_table.proofs.Used.{always, gives-open}
 use Rattle.std.proofs.Common.{ℕ, List}
 use Rattle.std.proofs.Math.Path.{subst⁻¹}
 use Rattle.tree_pages.specs.Writers.{paged, sizes_of}
@@ -31,8 +36,8 @@ returns-clause-uses g c = λ old told new later trunks near.
     let child = c.args.step.child in
     let x = paged S a old in
     let y = paged S b new in
-    let gives : Releases z child x y = always S {Releases z child} a b c.in_ok-give_page.ensures.released old told new later in
-    let o = gives-open z child x y gives trunks near.free near.within in (o.0, o.1.0, uses-more z x y 0 1 (omega arith) o.1.1)
+    let gives : Releases z child x y = always S (Releases z child) a b c.in_ok-give_page.ensures.released old told new later in
+    let o = gives-open z child x y gives trunks near.free near.within in (o.0, o.1, uses-more z x y 0 1 (omega arith) o.2)
 
 pub returns-in_err-give_page-clause-sound : goal.returns-in_err-give_page-clause-sound
 returns-in_err-give_page-clause-sound g c = λ m trunks told free.

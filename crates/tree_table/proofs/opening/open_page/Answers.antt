@@ -1,3 +1,10 @@
+use Rattle.std.proofs.Common.{◌≡◌, inl}
+use Rattle.std.proofs.lemmas.Result.{IfErr-weaker}
+use Rattle.tree_spec.specs.Standing.{Paged}
+use Rattle.tree_spec.specs.Worlds.{IsFree}
+use Rattle.tree_pages.specs.Takes.{UsesBy}
+use Rattle.tree_table.specs.Needs.{HasBeside}
+use Rattle.tree_table.proofs.Used.{same-told}
 use Rattle.std.proofs.Common.{subst, ap, arith}
 use Rattle.std.proofs.lemmas.Result.{IfOk-weaker}
 use Rattle.tree_pages.specs.Writers.{paged, sizes_of}

@@ -1,6 +1,12 @@
+use Rattle.std.proofs.lemmas.Result.{err_from_is_err_and}
 use Rattle.std.proofs.Common.{length, ap, arith}
 use Rattle.tree_table.proofs.Edits.{index-within}
 use Rattle.tree_table.proofs.opening.step_below.Goals as goal
 
 pub returns-clause-within : goal.returns-clause-within
 returns-clause-within g c = omega (arith, index-within _ c.as_slice.result.now c.index_of-at.result c.index_of-at.ensures, ap length c.as_slice.ensures)
+
+pub returns-in_err-child-clause-out : goal.returns-in_err-child-clause-out
+returns-in_err-child-clause-out g c =
+    let p = err_from_is_err_and c.from_residual.result c.from_residual.ensures.1 in
+    rw (p.1, p.2) (λ all. c.in_err-child.ensures.out (all c.index_of-at.result))

@@ -1,3 +1,5 @@
+use Rattle.std.proofs.lemmas.Result.{err_from_is_err_and}
+use Rattle.tree_table.proofs.Used.{whenever-none, uses-read}
 use Rattle.std.proofs.Common.{◌≡◌, ℕ, ℤ, [], Option, Some, ◌∙◌, subst, to_z, of_z}
 use Rattle.std.proofs.lemmas.Int.{to_z-of_z}
 use Rattle.std.specs.Int.{w64}

@@ -1,3 +1,9 @@
+use Rattle.std.proofs.Common.{◌<◌}
+use Rattle.std.proofs.lemmas.Result.{err_from_is_err_and}
+use Rattle.tree_spec.specs.Faults.{IsDamageOrOther}
+use Rattle.tree_walk.specs.Payloads.{IsBadPayload}
+use Rattle.tree_walk.specs.PayloadsLaws.{no_view}
+use Rattle.tree_table.proofs.Used.{payload-other}
 use Rattle.std.proofs.Common.{ℤ, List, length, slice_get, slice_index_or, ap, subst, to_z, of_z, arith}
 use Rattle.std.proofs.Math.Path.{subst⁻¹}
 use Rattle.std.proofs.lemmas.Int.{to_z-of_z}

@@ -1,3 +1,5 @@
+use Rattle.std.proofs.Common.{refl}
+use Rattle.tree_table.proofs.Used.{whenever-none}
 use Rattle.std.proofs.Common.{ℕ, List, length, ap, subst, arith}
 use Rattle.format_spec.specs.declared.PageKind.TheVariants.{TableInterior}
 use Rattle.tree_pages.specs.Writers.{paged, sizes_of}

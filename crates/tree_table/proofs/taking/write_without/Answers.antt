@@ -1,3 +1,9 @@
+use Rattle.std.proofs.lemmas.Result.{on_ok_weaker}
+use Rattle.tree_pages.specs.Takes.{UsesBy}
+use Rattle.tree_pages.specs.UsesLaws.{writes-use}
+use Rattle.tree_pages.specs.Writers.{paged, sizes_of}
+use Rattle.tree_level.specs.ChangesLaws.{spelled-read}
+use Rattle.tree_table.proofs.Used.{always}
 use Rattle.std.proofs.Common.{ℕ, ◌≤◌, List, []}
 use Rattle.std.proofs.Math.Path.{subst⁻¹}
 use Rattle.page_spec.specs.Rooms.{free_bytes, needs}
@@ -19,7 +25,7 @@ returns-clause-uses g c =
     let b = c.write_changed.new.store in
     let page = c.args.page in
     let read = spelled-read z.usable page c.requires.page in
-    on_ok_weaker c.write_changed.result (λ written. always S {UsesBy z 0} a b (λ old told.
+    on_ok_weaker c.write_changed.result (λ written. always S (UsesBy z 0) a b (λ old told.
     let r = written old told in (
       r.0,
       r.1,

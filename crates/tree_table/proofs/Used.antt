@@ -151,7 +151,8 @@ module _ (sizes : Sizes) where
     pub gives-short : {F : Type 0} (most limit count : ℕ) (fault : TreeFault F) → b.count ≡ a.count → ((rest : List Trunk) → IsFree sizes b rest → IsShort sizes most limit b rest count fault) → IsShort sizes most limit a trunks count fault
     gives-short most limit count fault same short =
         let o = gives-open in
-        short-used sizes limit count fault a b trunks o.0 0 most free o.1 (omega (arith, same)) (omega (arith, same)) o.2 (short o.0 o.1)
+        short-more sizes limit count fault a trunks (0 + most) most (omega arith)
+        (short-used sizes limit count fault a b trunks o.0 0 most free o.1 (omega (arith, same)) (omega (arith, same)) o.2 (short o.0 o.1))
 
 module _ (sizes : Sizes) (number : ℕ) (page : TreePage) (at : ℕ) (a : Paged) (decoded : IsDecoded (a.pages number) number sizes.usable page) (kind : page.kind ≡ TableInterior) where
   has-child : (levels : ℕ) (tree : TreeOf levels) (trunks : List Trunk) → page_of levels tree ≡ number → IsReady sizes levels a tree trunks → HasChild sizes a number levels tree (child_or page.right (slice_get page.views at))

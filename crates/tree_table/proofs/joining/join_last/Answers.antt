@@ -164,7 +164,8 @@ returns-clause-uses g c = λ old told new later trunks near.
     let y = paged S t n.0 in
     let w = paged S v new in
     let gives : Releases z c.in_ok-beside.beside.number x y = subst (λ (n : ℕ). Releases z c.in_ok-beside.beside.number (record { count = n; pages = old }) y) be.count (subst (λ (q : Sizes). Releases q c.in_ok-beside.beside.number (paged S s old) y) one n.2) in
-    let change : Change = record { at = length beside.views; goes = false; right = c.args.only_child } in
+    let place = length c.as_slice.result.now in
+    let change : Change = record { at = place; goes = false; right = c.args.only_child } in
     let changes : ChangesAt z child beside change middle comes y w =
     subst (λ (q : Sizes). ChangesAt q child beside change middle comes y w) two (always S (ChangesAt (sizes_of S t) child beside change middle comes) t v c.in_ok-comes.ensures.settled n.0 n.1 new later) in
     let hand : Within z x (c.in_ok-beside.beside.number ∷ []) trunks = λ n. omega (arith, b.within n, ap (λ (q : ℕ). hit q n) be.named) in

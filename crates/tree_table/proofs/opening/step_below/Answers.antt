@@ -7,6 +7,4 @@ pub returns-clause-within : goal.returns-clause-within
 returns-clause-within g c = omega (arith, index-within _ c.as_slice.result.now c.index_of-at.result c.index_of-at.ensures, ap length c.as_slice.ensures)
 
 pub returns-in_err-child-clause-out : goal.returns-in_err-child-clause-out
-returns-in_err-child-clause-out g c =
-    let p = err_from_is_err_and c.from_residual.result c.from_residual.ensures.1 in
-    rw (p.1, p.2) (λ all. c.in_err-child.ensures.out (all c.index_of-at.result))
+returns-in_err-child-clause-out g c = λ all. c.in_err-child.ensures.out (all c.index_of-at.result)

@@ -4,6 +4,7 @@ pub mod Edits
 pub mod Needed
 pub mod Neighbours
 pub mod Openings
+pub mod Roots
 pub mod Spelling
 pub mod Takings
 pub mod Unders

@@ -92,7 +92,7 @@ module _ (sizes : Sizes) (rowid : ℤ) (row : Taken) (child : ℕ) (old mid : Pa
       record { later = hand_after after; rest = d.rest; turns = d.opened.turns; some = after-some levels tree after d.page }
 
 -- a page stands in a list that has it
-hit-some : (page n : ℕ) (numbers : List ℕ) → 0 < times page numbers → hit page n ≤ times n numbers
+pub hit-some : (page n : ℕ) (numbers : List ℕ) → 0 < times page numbers → hit page n ≤ times n numbers
 hit-some page n numbers some = elim (cases_lt 0 (hit page n)) [
   | inl there ↦
       let same = hit-same page n there in
@@ -186,11 +186,15 @@ module _ (sizes : Sizes) (number : ℕ) (page : TreePage) (old mid : Paged) (dec
     )
 
 module _ (sizes : Sizes) (number : ℕ) (page : TreePage) (old : Paged) (decoded : IsDecoded (old.pages number) number sizes.usable page) (kind : page.kind ≡ TableInterior) where
-  -- an interior page of a table without an empty page has a cell
+  -- an interior page has the cells that its tree says
+  pub inner-cells : (levels : ℕ) (tree : TreeOf levels) (trunks : List Trunk) → page_of levels tree ≡ number → IsFree sizes old trunks → IsReady sizes levels old tree trunks → 0 < length (own_cells levels tree) → 0 < length page.views
+  inner-cells zero tree trunks is free ready some = absurd (let other : TableLeaf ≡ page.kind = table-kind sizes old number zero tree page is ready.stands decoded in let no : ⊥ = cc in no)
+  inner-cells (suc below) tree trunks is free ready some =
+      omega (arith, some, many sizes number page old old decoded kind below tree is trunks free ready, length-of (λ (child : TreeOf below × TreeCell). child.1) tree.children)
+
+  -- so one of a table without an empty page
   pub inner-some : (levels : ℕ) (tree : TreeOf levels) (trunks : List Trunk) → page_of levels tree ≡ number → IsFree sizes old trunks → IsReady sizes levels old tree trunks → IsFull levels tree → 0 < length page.views
-  inner-some zero tree trunks is free ready full = absurd (let other : TableLeaf ≡ page.kind = table-kind sizes old number zero tree page is ready.stands decoded in let no : ⊥ = cc in no)
-  inner-some (suc below) tree trunks is free ready full =
-      omega (arith, full.0, many sizes number page old old decoded kind below tree is trunks free ready, length-of (λ (child : TreeOf below × TreeCell). child.1) tree.children)
+  inner-some levels tree trunks is free ready full = inner-cells levels tree trunks is free ready full.0
 
   pub inner-beside : (mid : Paged) (at child : ℕ) → at ≤ length page.views → child ≡ child_or page.right (slice_get page.views at) → (rowid : ℤ) (row : Taken) (left : Left) → IsFit sizes.usable left → Leaves sizes rowid row child left old mid
       → (levels : ℕ) (tree : TreeOf levels) (trunks : List Trunk) → page_of levels tree ≡ number → IsFree sizes old trunks → IsReady sizes levels old tree trunks → (rest : List Trunk) × HasBeside sizes page at child left mid rest

@@ -41,7 +41,7 @@ use Rattle.tree_walk.specs.Places.{child_or}
 use Rattle.tree_level.specs.declared.cells.Change.{Change}
 use Rattle.tree_level.specs.Changes.{ChangesAt, changed}
 use Rattle.tree_level.specs.ChangesLaws.{spelled-read}
-use Rattle.tree_table.specs.Needs.{IsOtherAt, IsShortBelow, UsesUnder, Whenever}
+use Rattle.tree_table.specs.Needs.{IsOtherAt, IsShortBelow, IsShortRoot, UsesUnder, Whenever}
 use Rattle.tree_table.proofs.Needed.{HasChild, table-child, table-kind}
 use Rattle.tree_table.proofs.Unders.{has-cells, spelled-all}
 
@@ -189,5 +189,22 @@ module _ (sizes : Sizes) (number : ℕ) (page : TreePage) (at : ℕ) (a : Paged)
         let has = has-child levels tree trunks is ready in
         let one = below has.below has.child trunks has.named_is free (ready-child levels tree trunks is ready) in
         let later = short levels tree trunks is full free ready in
+        short-more sizes limit count fault a trunks (2 * has.below + own) (2 * levels + more) (omega (arith, has.levels_are, low))
+        (short-used sizes limit count fault a b trunks later.0 (2 * has.below) own free later.1 grows limited one later.2)
+
+    -- the same from the page of a root
+    pub root-child : (most deeper more : ℕ) → most + 1 ≡ deeper → 1 ≤ more → IsShortBelow sizes most 1 limit (child_or page.right (slice_get page.views at)) a count fault → IsShortRoot sizes deeper more limit number a count fault
+    root-child most deeper more deep wide below levels tree trunks low is full free ready =
+        let has = has-child levels tree trunks is ready in
+        short-more sizes limit count fault a trunks (2 * has.below + 1) (2 * levels + more) (omega (arith, has.levels_are, wide))
+        (below has.below has.child trunks (omega (arith, low, has.levels_are, deep)) has.named_is (has.full full.below) free (ready-child levels tree trunks is ready))
+
+    pub root-passed : (most more own : ℕ) (b : Paged) → own ≤ more + 2 → UsesUnder sizes (child_or page.right (slice_get page.views at)) a b → a.count ≤ b.count → b.count ≤ max limit a.count
+        → ((levels : ℕ) (tree : TreeOf levels) (trunks : List Trunk) → page_of levels tree ≡ number → IsFree sizes a trunks → IsReady sizes levels a tree trunks → (rest : List Trunk) × IsFree sizes b rest × IsShort sizes own limit b rest count fault)
+        → IsShortRoot sizes most more limit number a count fault
+    root-passed most more own b low below grows limited short levels tree trunks few is full free ready =
+        let has = has-child levels tree trunks is ready in
+        let one = below has.below has.child trunks has.named_is free (ready-child levels tree trunks is ready) in
+        let later = short levels tree trunks is free ready in
         short-more sizes limit count fault a trunks (2 * has.below + own) (2 * levels + more) (omega (arith, has.levels_are, low))
         (short-used sizes limit count fault a b trunks later.0 (2 * has.below) own free later.1 grows limited one later.2)

@@ -1,5 +1,5 @@
 -- How many pages a put and a delete take, and what they refuse.
-use Rattle.std.specs.Prelude.{◌≡◌, ℕ, suc, [], ◌∷◌, slice_get, ◌+◌, ◌-◌, ◌*◌, ◌<◌, ◌≤◌, ◌⊎◌, Some, List, length, Result, IfErr}
+use Rattle.std.specs.Prelude.{◌≡◌, ℕ, ℤ, suc, [], ◌∷◌, slice_get, ◌+◌, ◌-◌, ◌*◌, ◌<◌, ◌≤◌, ◌⊎◌, Some, List, length, Result, IfErr}
 use Rattle.format_spec.specs.declared.PageKind.TheVariants.{TableInterior, TableLeaf}
 use Rattle.format_spec.specs.Cell.{local_size}
 use Rattle.page_spec.specs.Chains.{pages_for}
@@ -10,7 +10,7 @@ use Rattle.page_store.specs.declared.store.PageRead.{Ghosts}
 use Rattle.tree_spec.specs.declared.TreeKind.TheVariants.{Table}
 use Rattle.tree_spec.specs.declared.fault.TreeFault.{TreeFault}
 use Rattle.tree_spec.specs.Faults.{IsFull, IsOther}
-use Rattle.tree_spec.specs.Trees.{IsFull as IsFullTree, Rooted, TreeOf, kind_at, page_of, pages_of, root_of}
+use Rattle.tree_spec.specs.Trees.{IsFull as IsFullTree, IsFullRoot, Rooted, TreeOf, kind_at, page_of, pages_of, root_of}
 use Rattle.tree_spec.specs.Standing.{IsNumber, Sizes, Paged, Stands}
 use Rattle.tree_spec.specs.Worlds.{IsFree, IsWorld, with_tree}
 use Rattle.tree_spec.specs.Changes.{Within}
@@ -21,6 +21,8 @@ use Rattle.tree_walk.specs.declared.page.TreePage.{TreePage}
 use Rattle.tree_walk.specs.Places.{child_or}
 use Rattle.tree_table.specs.declared.taking.Left.{Left}
 use Rattle.tree_table.specs.declared.taking.Left.TheVariants.{OnlyChild}
+use Rattle.tree_table.specs.declared.taking.Taken.{Taken}
+use Rattle.tree_table.specs.Deletes.{Leaves}
 
 -- how many overflow pages a row's payload of so many bytes fills
 abbrev pub overflow_pages : ℕ → ℕ → ℕ
@@ -56,6 +58,12 @@ IsShortBelow sizes most more limit page old count fault =
     (levels : ℕ) (tree : TreeOf levels) (trunks : List Trunk) → levels ≤ most → page_of levels tree ≡ page → IsFullTree levels tree → IsFree sizes old trunks → IsReady sizes levels old tree trunks
     → IsShort sizes (2 * levels + more) limit old trunks count fault
 
+-- So of the page of a root, over a table that has cells as a root's tree has them.
+abbrev pub IsShortRoot : {F : Type 0} → Sizes → ℕ → ℕ → ℕ → ℕ → Paged → ℕ → TreeFault F → Type 0
+IsShortRoot sizes most more limit page old count fault =
+    (levels : ℕ) (tree : TreeOf levels) (trunks : List Trunk) → levels ≤ most → page_of levels tree ≡ page → IsFullRoot levels tree → IsFree sizes old trunks → IsReady sizes levels old tree trunks
+    → IsShort sizes (2 * levels + more) limit old trunks count fault
+
 -- whatever table stands at a page, the store failed or memory is wanting
 abbrev pub IsOtherAt : {F : Type 0} → Sizes → ℕ → Paged → TreeFault F → Type 0
 IsOtherAt sizes page base fault = (levels : ℕ) (tree : TreeOf levels) → page_of levels tree ≡ page → Stands sizes base Table levels tree → IsOther fault
@@ -64,6 +72,19 @@ IsOtherAt sizes page base fault = (levels : ℕ) (tree : TreeOf levels) → page
 abbrev pub IsOtherInside : {F : Type 0} → Sizes → ℕ → Paged → TreeFault F → Type 0
 IsOtherInside sizes page base fault =
     (levels : ℕ) (tree : TreeOf levels) → page_of levels tree ≡ page → kind_at Table levels ≡ TableInterior → Stands sizes base Table levels tree → IsNumber sizes base page → IsOther fault
+
+-- so of a page of either kind that is in range
+abbrev pub IsOtherInRange : {F : Type 0} → Sizes → ℕ → Paged → TreeFault F → Type 0
+IsOtherInRange sizes page base fault = (levels : ℕ) (tree : TreeOf levels) → page_of levels tree ≡ page → Stands sizes base Table levels tree → IsNumber sizes base page → IsOther fault
+
+-- The only child that is left to a root stands, and the root's page is in hand.
+pub record HasOnly (sizes : Sizes) (root only : ℕ) (base : Paged) (trunks : List Trunk) : Type 0 where
+  pub levels : ℕ
+  pub tree : TreeOf levels
+  pub page_is : page_of levels tree ≡ only
+  pub stands : Stands sizes base Table levels tree
+  pub in_range : IsNumber sizes base only
+  pub within : Within sizes base (root ∷ []) trunks
 
 -- An interior page beside a child, as a join needs it.
 pub record IsBeside (sizes : Sizes) (named child : ℕ) (base : Paged) (trunks : List Trunk) : Type 0 where
@@ -96,6 +117,23 @@ module _ {P F : Type 0} (g : Ghosts P F) where
   RefusesBeside most limit page at child below before after result =
       (m : Pages) (trunks : List Trunk) → g.pages before ≡ Some m → HasBeside (sizes_of g before) page at child below (paged g before m) trunks
       → IfErr result (IsShort (sizes_of g before) most limit (paged g before m) trunks (g.count after))
+
+  -- so over a sound freelist, and pages of which more is known
+  abbrev pub RefusesOver : {T : Type 0} → ℕ → ℕ → (Paged → List Trunk → Type 0) → P → P → Result T (TreeFault F) → Type 0
+  RefusesOver most limit Has before after result =
+      (m : Pages) (trunks : List Trunk) → g.pages before ≡ Some m → IsFree (sizes_of g before) (paged g before m) trunks → Has (paged g before m) trunks
+      → IfErr result (IsShort (sizes_of g before) most limit (paged g before m) trunks (g.count after))
+
+  -- so behind a delete below a child, whatever row goes and whatever table stood before
+  abbrev pub RefusesPassed : {T : Type 0} → ℕ → ℕ → TreePage → ℕ → ℕ → Left → P → P → Result T (TreeFault F) → Type 0
+  RefusesPassed most limit page at child below before after result =
+      (rowid : ℤ) (row : Taken) (base : Paged) (levels : ℕ) (tree : TreeOf levels) (trunks : List Trunk) → base.pages page.number ≡ page.bytes → page_of levels tree ≡ page.number → IsFree (sizes_of g before) base trunks
+      → IsReady (sizes_of g before) levels base tree trunks → (m : Pages) (rest : List Trunk) → g.pages before ≡ Some m → Leaves (sizes_of g before) rowid row child below base (paged g before m)
+      → HasBeside (sizes_of g before) page at child below (paged g before m) rest → IfErr result (IsShort (sizes_of g before) most limit (paged g before m) rest (g.count after))
+
+  -- so what is refused in the tree of a root
+  abbrev pub RefusesRoot : {T : Type 0} → ℕ → ℕ → ℕ → ℕ → P → P → Result T (TreeFault F) → Type 0
+  RefusesRoot most more limit page before after result = (m : Pages) → g.pages before ≡ Some m → IfErr result (IsShortRoot (sizes_of g before) most more limit page (paged g before m) (g.count after))
 
   -- so what is refused below a page of a table without an empty page
   abbrev pub RefusesBelow : {T : Type 0} → ℕ → ℕ → ℕ → ℕ → P → P → Result T (TreeFault F) → Type 0

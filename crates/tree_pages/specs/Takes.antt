@@ -1,5 +1,6 @@
 -- How many pages a call takes, and when there are too few.
 use Rattle.std.specs.Prelude.{◌≡◌, ℕ, ◌+◌, ◌<◌, ◌≤◌, ◌⊎◌, Some, List, length, Result, IfErr}
+use Rattle.format_spec.specs.Header.{freelist_pages}
 use Rattle.page_spec.specs.Counts.{times}
 use Rattle.page_spec.specs.FreePages.{due_pages}
 use Rattle.page_spec.specs.Freelists.{Trunk}
@@ -19,6 +20,10 @@ pub record TakesAtMost (sizes : Sizes) (most : ℕ) (hand : List ℕ) (old : Pag
   pub turns : Turns sizes old hand trunks new later rest
   pub keeps : (n : ℕ) → times n hand ≤ times n later
   pub few : length later ≤ length hand + most
+
+-- At most so many pages more are in use, which are those that are due but for the free ones that page 1 counts.
+abbrev pub UsesBy : Sizes → ℕ → Paged → Paged → Type 0
+UsesBy sizes most old new = due_pages sizes.size new.count + freelist_pages (old.pages 1) ≤ due_pages sizes.size old.count + freelist_pages (new.pages 1) + most
 
 -- The store failed or memory is wanting; or it is refusal 51, with the pages that there are then and the limit, and fewer than so many pages could be taken before.
 abbrev pub IsShort : {F : Type 0} → Sizes → ℕ → ℕ → Paged → List Trunk → ℕ → TreeFault F → Type 0

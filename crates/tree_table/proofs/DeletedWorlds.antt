@@ -1,5 +1,5 @@
 -- A row deleted from a table of a world.
-use Rattle.std.proofs.Common.{◌≡◌, ℕ, ℤ, ◌≤◌, List, Option, Result, Ok, Err, OnOk, subst}
+use Rattle.std.proofs.Common.{◌≡◌, ℕ, ℤ, ◌≤◌, List, Option, Result, Ok, Err, IfErr, OnOk, subst}
 use Rattle.std.proofs.Math.Path.{subst⁻¹}
 use Rattle.page_spec.specs.Freelists.{Trunk}
 use Rattle.page_spec.specs.Pages.{Pages}
@@ -38,6 +38,10 @@ world-deleted sizes gone front old back p a b c root first bytes world kind is i
 pub on-ok_all : {T E P : Type 0} (result : Result T E) → P → OnOk result P
 on-ok_all (Ok x) holds = holds
 on-ok_all (Err e) holds = tt
+
+pub if-err_all : {T E P : Type 0} (result : Result T E) → P → IfErr result (λ _. P)
+if-err_all (Ok x) holds = tt
+if-err_all (Err e) holds = holds
 
 -- The same delete, with its numbers under other names.
 

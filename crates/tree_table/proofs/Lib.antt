@@ -2,8 +2,11 @@ pub mod Closings
 pub mod DeletedWorlds
 pub mod Edits
 pub mod Needed
+pub mod Neighbours
 pub mod Openings
+pub mod Roots
 pub mod Spelling
 pub mod Takings
 pub mod Unders
+pub mod Used
 pub mod Worlds

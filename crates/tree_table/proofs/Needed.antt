@@ -20,11 +20,11 @@ use Rattle.tree_spec.specs.declared.TreeKind.TheVariants.{Table}
 use Rattle.tree_spec.specs.declared.fault.TreeFault.{TreeFault}
 use Rattle.tree_spec.specs.declared.fault.TreeFault.TheVariants.{TreeDamaged, TrunkDamaged, TargetFull, Store, Memory}
 use Rattle.tree_spec.specs.Faults.{IsFull, IsOther}
-use Rattle.tree_spec.specs.Trees.{TreeOf, TreeCell, cells_behind, kind_at, own_right, page_of, pages_of}
+use Rattle.tree_spec.specs.Trees.{IsFull as IsFullTree, IsFullBelow, TreeOf, TreeCell, cells_behind, kind_at, own_right, page_of, pages_of}
 use Rattle.tree_spec.specs.Standing.{Sizes, Paged, IsNumber, Stands, StandsBefore, StandsLast}
 use Rattle.tree_spec.specs.Worlds.{IsFree}
 use Rattle.put_spec.specs.Children.{child_at}
-use Rattle.put_spec.specs.ChildrenLaws.{child-stands, child-within}
+use Rattle.put_spec.specs.ChildrenLaws.{all-child, child-stands, child-within}
 use Rattle.put_spec.specs.ImagesLaws.{length-of}
 use Rattle.put_spec.specs.PutsLaws.{pages-parts}
 use Rattle.put_spec.specs.Steps.{Spelled, child_page, spelled}
@@ -87,8 +87,9 @@ module _ (sizes : Sizes) (base : Paged) (number : ℕ) where
     pub in_range : IsNumber sizes base named
     pub stands : Stands sizes base Table below child
     pub pages : (n : ℕ) → times n (pages_of below child) ≤ times n (pages_of levels tree)
+    pub full : IsFullBelow levels tree → IsFullTree below child
 
-  child-in_range : (levels i : ℕ) (children : List (TreeOf levels × TreeCell)) (last : TreeOf levels) → AllByRecursion (StandsBefore sizes base Table levels) children → StandsLast sizes base Table levels last
+  pub child-in_range : (levels i : ℕ) (children : List (TreeOf levels × TreeCell)) (last : TreeOf levels) → AllByRecursion (StandsBefore sizes base Table levels) children → StandsLast sizes base Table levels last
       → IsNumber sizes base (page_of levels (child_at i children last))
   child-in_range levels i [] last all stands = stands.0
   child-in_range levels zero (child ∷ children) last all stands = all.0.0.in_range
@@ -117,6 +118,7 @@ module _ (sizes : Sizes) (base : Paged) (number : ℕ) where
         in_range = subst (IsNumber sizes base) named (child-in_range below at tree.children tree.last stands.1.0 stands.1.1);
         stands = child-stands sizes Table base below at tree.children tree.last stands.1.0 stands.1.1.1;
         pages = λ n. omega (arith, child-within n below at tree.children tree.last);
+        full = λ full. all-child (IsFullTree below) at tree.children tree.last full.0 full.1;
       }
 
 -- a page stands among those of its tree

@@ -1,14 +1,17 @@
 // What a delete below a child leaves of its parent.
-ghost use Rattle.std.specs.Prelude.{◌≡◌, ◌≤◌, ◌<◌, ◌↔◌, IfOk, IsTrue, OnOk, length, max};
+ghost use Rattle.std.specs.Prelude.{◌≡◌, ◌≤◌, ◌<◌, ◌↔◌, IfOk, List, IsTrue, OnOk, length, max};
 ghost use Rattle.std.specs.List.{All};
 ghost use Rattle.format_spec.specs.declared.PageKind.TheVariants.{TableInterior};
 ghost use Rattle.page_spec.specs.Rooms.{IsOneCell};
 ghost use Rattle.page_store.specs.Store.{HasSizes, IsNumber, OwesBy};
 ghost use Rattle.tree_level.specs.Changes.{behind};
-ghost use Rattle.tree_pages.specs.Takes.{RisesBy};
+ghost use Rattle.tree_pages.specs.Takes.{RefusesShort, RisesBy, UsesBy};
 ghost use Rattle.tree_pages.specs.Writers.{Becomes, sizes_of};
 ghost use Rattle.tree_spec.specs.Faults.{fault_in};
+ghost use Rattle.page_spec.specs.Freelists.{Trunk};
+ghost use Rattle.tree_spec.specs.Worlds.{IsFree};
 ghost use Rattle.tree_walk.specs.Pages.{IsDecoded};
+ghost use Rattle.tree_table.specs.Needs.{HasBeside, RefusesBeside, Whenever};
 ghost use Rattle.tree_table.specs.Deletes.{Closes, IsChildAt, IsEmptied, IsFit, IsStill, Passes};
 
 use crate::opening::{Opened, Step, open_page};
@@ -58,6 +61,8 @@ fn close_page<S: PageWrite>(
     ensures count { OnOk result (S.count store.old ≤ S.count store.new) }
     ensures most { OnOk result (S.count store.new ≤ max limit (S.count store.old)) }
     ensures rises { OnOk result (RisesBy S.PageRead 1 store.old store.new) }
+    ensures uses { OnOk result (Whenever S.PageRead store.old store.new (λ a b. (trunks : List Trunk) → IsFree (sizes_of S.PageRead store.old) a trunks → UsesBy (sizes_of S.PageRead store.old) 1 a b)) }
+    ensures refuses { RefusesShort S.PageRead 2 limit store.old store.new result }
     ensures owes { OwesBy S.PageRead fault_in store.old store.new result }
 {
     if is_emptied(&page, &opened) {
@@ -91,6 +96,8 @@ pub fn pass_on<S: PageWrite>(
     ensures count { OnOk result (S.count store.old ≤ S.count store.new) }
     ensures most { OnOk result (S.count store.new ≤ max limit (S.count store.old)) }
     ensures rises { OnOk result (RisesBy S.PageRead 2 store.old store.new) }
+    ensures uses { OnOk result (Whenever S.PageRead store.old store.new (λ a b. (trunks : List Trunk) → HasBeside (sizes_of S.PageRead store.old) page step.at step.child below a trunks → UsesBy (sizes_of S.PageRead store.old) 2 a b)) }
+    ensures refuses { RefusesBeside S.PageRead 3 limit page step.at step.child below store.old store.new result }
     ensures owes { OwesBy S.PageRead fault_in store.old store.new result }
 {
     if is_still(&below) {

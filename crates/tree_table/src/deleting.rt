@@ -6,6 +6,7 @@ ghost use Rattle.tree_pages.specs.Takes.{RisesBy};
 ghost use Rattle.tree_pages.specs.Writers.{Becomes, sizes_of};
 ghost use Rattle.tree_spec.specs.Faults.{fault_in};
 ghost use Rattle.tree_walk.specs.Pages.{IsDecoded};
+ghost use Rattle.tree_table.specs.Needs.{RefusesAt, RefusesFull, RefusesRoot};
 ghost use Rattle.tree_table.specs.Deletes.{DeletesInto, DeletesRow, delete_pages};
 
 use crate::opening::step_below;
@@ -39,6 +40,7 @@ fn delete_in_root<S: PageWrite>(
     requires kind { page.kind ≡ TableLeaf }
     ensures deleted { IfOk result (λ taken. Becomes S.PageRead store.old store.new (λ a b. a.pages page.number ≡ page.bytes → DeletesInto (sizes_of S.PageRead store.old) page.number rowid taken a b)) }
     ensures count { S.count store.new ≡ S.count store.old }
+    ensures refuses { RefusesAt S.PageRead page store.old result }
     ensures owes { OwesBy S.PageRead fault_in store.old store.new result }
 {
     let sought = find_row(alloc, store, &page, rowid)?;
@@ -66,6 +68,7 @@ fn delete_root<S: PageWrite>(
     ensures count { OnOk result (S.count store.old ≤ S.count store.new) }
     ensures most { OnOk result (S.count store.new ≤ max limit (S.count store.old)) }
     ensures rises { OnOk result (RisesBy S.PageRead 50 store.old store.new) }
+    ensures refuses { RefusesRoot S.PageRead 24 2 limit root store.old store.new result }
     ensures owes { OwesBy S.PageRead fault_in store.old store.new result }
 {
     let page = read_page(alloc, store, root)?;
@@ -91,7 +94,7 @@ fn delete_root<S: PageWrite>(
 
 /// Deletes the row of a rowid from the table at a root, and answers its payload; None exactly where there is none, and then nothing changed. The pages that the table has no longer go to the freelist, also those of the row's overflow chain. Pages are taken, as by `put` up to a limit, only where an interior page has no room for a cell that comes. Refuses [55] where it meets a damaged page, [50] a damaged freelist, and [51] where a page is needed and none can be taken.
 ///
-/// After an error the store may hold part of the change.
+/// The count of pages rises by at most 54, and [51] comes only where free pages and pages up to the limit were together fewer. After an error the store may hold part of the change.
 pub fn delete<S: PageWrite>(
     alloc: Global,
     store: &mut S,
@@ -106,6 +109,7 @@ pub fn delete<S: PageWrite>(
     ensures count { OnOk result (S.count store.old ≤ S.count store.new) }
     ensures most { OnOk result (S.count store.new ≤ max limit (S.count store.old)) }
     ensures rises { OnOk result (S.count store.new ≤ S.count store.old + delete_pages) }
+    ensures refuses { RefusesFull S.PageRead root delete_pages limit store.old store.new result }
     ensures owes { OwesBy S.PageRead fault_in store.old store.new result }
 {
     let taken = delete_root(alloc, store, root, rowid, limit)?;

@@ -1,5 +1,5 @@
 // Joins an interior page that has no cell any more with a neighbour.
-ghost use Rattle.std.specs.Prelude.{◌≡◌, ◌≤◌, ◌<◌, IfOk, OnOk, Some, length, max};
+ghost use Rattle.std.specs.Prelude.{◌≡◌, ◌≤◌, ◌<◌, IfErr, IfOk, OnOk, Some, length, max, slice_get};
 ghost use Rattle.std.specs.List.{All};
 ghost use Rattle.format_spec.specs.declared.PageKind.TheVariants.{TableInterior};
 ghost use Rattle.page_spec.specs.Pages.{Pages};
@@ -7,9 +7,11 @@ ghost use Rattle.page_spec.specs.Rooms.{IsOneCell};
 ghost use Rattle.page_store.specs.Store.{HasSizes, IsNumber, OwesBy};
 ghost use Rattle.tree_level.specs.Changes.{behind};
 ghost use Rattle.tree_pages.specs.Takes.{RisesBy};
-ghost use Rattle.tree_pages.specs.Writers.{Becomes, sizes_of};
+ghost use Rattle.tree_pages.specs.Writers.{Becomes, paged, sizes_of};
 ghost use Rattle.tree_spec.specs.Faults.{fault_in};
 ghost use Rattle.tree_walk.specs.Pages.{IsDecoded};
+ghost use Rattle.tree_walk.specs.Places.{child_or};
+ghost use Rattle.tree_table.specs.Needs.{IsOtherInside, OpensOne, RefusesBeside};
 ghost use Rattle.tree_table.specs.Deletes.{IsChildAt, IsKey, OpensOver};
 ghost use Rattle.tree_table.specs.declared.taking.Left.TheVariants.{OnlyChild};
 
@@ -41,6 +43,8 @@ fn read_neighbour<S: PageRead>(
     ensures whole { IfOk result (λ beside. length beside.bytes ≡ S.size store.old) }
     ensures same { S.pages store.new ≡ S.pages store.old }
     ensures count { S.count store.new ≡ S.count store.old }
+    ensures named { IfOk result (λ beside. beside.number ≡ child_or page.now.right (slice_get page.now.views at)) }
+    ensures refuses { (m : Pages) → S.pages store.old ≡ Some m → IfErr result (IsOtherInside (sizes_of S.PageRead store.old) (child_or page.now.right (slice_get page.now.views at)) (paged S.PageRead store.old m)) }
     ensures owes { OwesBy S.PageRead fault_in store.old store.new result }
 {
     let number = child_number(store, page, at)?;
@@ -87,6 +91,8 @@ pub fn join_next<S: PageWrite>(
     ensures count { OnOk result (S.count store.old ≤ S.count store.new) }
     ensures most { OnOk result (S.count store.new ≤ max limit (S.count store.old)) }
     ensures rises { OnOk result (RisesBy S.PageRead 1 store.old store.new) }
+    ensures uses { OnOk result (OpensOne S.PageRead page.now step.at step.child (OnlyChild only_child) store.old store.new) }
+    ensures refuses { RefusesBeside S.PageRead 2 limit page.now step.at step.child (OnlyChild only_child) store.old store.new result }
     ensures owes { OwesBy S.PageRead fault_in store.old store.new result }
 {
     let beside = read_neighbour(alloc, store, page, step.at + 1)?;
@@ -131,6 +137,8 @@ pub fn join_last<S: PageWrite>(
     ensures count { OnOk result (S.count store.old ≤ S.count store.new) }
     ensures most { OnOk result (S.count store.new ≤ max limit (S.count store.old)) }
     ensures rises { OnOk result (RisesBy S.PageRead 1 store.old store.new) }
+    ensures uses { OnOk result (OpensOne S.PageRead page.now step.at step.child (OnlyChild only_child) store.old store.new) }
+    ensures refuses { RefusesBeside S.PageRead 2 limit page.now step.at step.child (OnlyChild only_child) store.old store.new result }
     ensures owes { OwesBy S.PageRead fault_in store.old store.new result }
 {
     let end = step.at - 1;

@@ -1,16 +1,20 @@
 // What an interior page is to have once something happened to a child of it.
-ghost use Rattle.std.specs.Prelude.{◌≡◌, ◌≤◌, ◌<◌, IfErr, IfOk, None, OnOk, length, max};
+ghost use Rattle.std.specs.Prelude.{◌≡◌, ◌≤◌, ◌<◌, IfErr, IfOk, List, None, OnOk, Some, length, max, slice_get, ℕ};
 ghost use Rattle.std.specs.List.{All};
 ghost use Rattle.format_spec.specs.declared.PageKind.TheVariants.{TableInterior};
 ghost use Rattle.page_spec.specs.Rooms.{IsOneCell};
 ghost use Rattle.page_store.specs.Store.{HasSizes, IsNumber, OwesBy};
 ghost use Rattle.tree_level.specs.Changes.{behind};
 ghost use Rattle.tree_pages.specs.Takes.{RisesBy};
-ghost use Rattle.tree_pages.specs.Writers.{Becomes, sizes_of};
-ghost use Rattle.tree_spec.specs.Faults.{fault_in};
+ghost use Rattle.tree_pages.specs.Writers.{Becomes, paged, sizes_of};
+ghost use Rattle.tree_spec.specs.Faults.{IsOther, fault_in};
+ghost use Rattle.page_spec.specs.Freelists.{Trunk};
+ghost use Rattle.page_spec.specs.Pages.{Pages};
+ghost use Rattle.tree_spec.specs.Worlds.{IsFree};
 ghost use Rattle.tree_walk.specs.Pages.{IsDecoded};
-ghost use Rattle.tree_walk.specs.Places.{rowids};
+ghost use Rattle.tree_walk.specs.Places.{child_or, rowids};
 ghost use Rattle.tree_walk.specs.Seeks.{IsIndexOf};
+ghost use Rattle.tree_table.specs.Needs.{OpensOne, RefusesBeside};
 ghost use Rattle.tree_table.specs.Deletes.{IsChildAt, IsFit, LosesLeaf, OpensOver};
 ghost use Rattle.tree_table.specs.declared.taking.Left.TheVariants.{NoCell};
 
@@ -49,6 +53,8 @@ pub fn step_below<S: PageRead>(
     ensures within { IfOk result (λ step. step.at ≤ length page.now.views) }
     ensures child { IfOk result (λ step. IsChildAt page.now step.at step.child) }
     ensures in_range { IfOk result (λ step. IsNumber S.PageRead store.now step.child) }
+    ensures named { IfOk result (λ step. step.child ≡ child_or page.now.right (slice_get page.now.views step.at)) }
+    ensures out { IfErr result (λ _. ¬ ((at : ℕ) → IsNumber S.PageRead store.now (child_or page.now.right (slice_get page.now.views at)))) }
     ensures cause { IfErr result (λ fault. fault_in fault ≡ None) }
 {
     let at = index_of(page.views.as_slice(), rowid);
@@ -96,6 +102,8 @@ fn drop_leaf<S: PageWrite>(
     ensures within { IfOk result (λ opened. behind opened.change.at opened.change.goes ≤ length page.now.views) }
     ensures none { IfOk result (λ opened. length opened.comes.items ≡ 0) }
     ensures count { OnOk result (S.count store.new ≡ S.count store.old) }
+    ensures uses { OnOk result (OpensOne S.PageRead page.now step.at step.child NoCell store.old store.new) }
+    ensures sound { (m : Pages) (trunks : List Trunk) → S.pages store.old ≡ Some m → IsFree (sizes_of S.PageRead store.old) (paged S.PageRead store.old m) trunks → IfErr result IsOther }
     ensures owes { OwesBy S.PageRead fault_in store.old store.new result }
 {
     let change = without_child(page, step.at);
@@ -130,6 +138,8 @@ pub fn open_page<S: PageWrite>(
     ensures count { OnOk result (S.count store.old ≤ S.count store.new) }
     ensures most { OnOk result (S.count store.new ≤ max limit (S.count store.old)) }
     ensures rises { OnOk result (RisesBy S.PageRead 1 store.old store.new) }
+    ensures uses { OnOk result (OpensOne S.PageRead page.now step.at step.child below store.old store.new) }
+    ensures refuses { RefusesBeside S.PageRead 2 limit page.now step.at step.child below store.old store.new result }
     ensures owes { OwesBy S.PageRead fault_in store.old store.new result }
 {
     match below {

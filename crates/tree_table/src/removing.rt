@@ -1,10 +1,11 @@
 // Deletes a row below a page.
-ghost use Rattle.std.specs.Prelude.{◌≡◌, ◌*◌, ◌≤◌, ◌<◌, IfErr, IfOk, IfSome, None, OnOk, length, max};
+ghost use Rattle.std.specs.Prelude.{◌≡◌, ◌*◌, ◌≤◌, ◌<◌, ◌⊎◌, IfErr, IfOk, IfSome, None, OnOk, length, max};
 ghost use Rattle.page_store.specs.Store.{HasSizes, IsNumber, OwesBy};
 ghost use Rattle.tree_pages.specs.Takes.{RisesBy};
 ghost use Rattle.tree_pages.specs.Writers.{Becomes, sizes_of};
 ghost use Rattle.tree_spec.specs.Faults.{fault_in};
 ghost use Rattle.tree_table.specs.Deletes.{DeletesUnder, IsFit};
+ghost use Rattle.tree_table.specs.Needs.{RefusesBelow, UsesUnder, Whenever};
 
 use crate::closing::pass_on;
 use crate::opening::step_below;
@@ -21,6 +22,7 @@ use tree_walk::{TreePage, read_page};
 fn check_inner<F>(page: &TreePage, levels: u32) -> Result<(), TreeFault<F>>
     ensures deep { OnOk result (0 < levels) }
     ensures some { OnOk result (0 < length page.now.views) }
+    ensures refused { IfErr result (λ _. (levels ≡ 0) ⊎ (length page.now.views ≡ 0)) }
     ensures cause { IfErr result (λ fault. fault_in fault ≡ None) }
 {
     if levels == 0 {
@@ -48,6 +50,8 @@ pub fn delete_below<S: PageWrite>(
     ensures count { OnOk result (S.count store.old ≤ S.count store.new) }
     ensures most { OnOk result (S.count store.new ≤ max limit (S.count store.old)) }
     ensures rises { OnOk result (RisesBy S.PageRead (2 * levels) store.old store.new) }
+    ensures uses { OnOk result (Whenever S.PageRead store.old store.new (UsesUnder (sizes_of S.PageRead store.old) number)) }
+    ensures refuses { RefusesBelow S.PageRead levels 1 limit number store.old store.new result }
     ensures owes { OwesBy S.PageRead fault_in store.old store.new result }
 {
     let page = read_page(alloc, store, number)?;

@@ -1,5 +1,5 @@
 // What a delete below a root leaves of the root.
-ghost use Rattle.std.specs.Prelude.{◌≡◌, ◌≢◌, ◌≤◌, ◌<◌, [], IfOk, OnOk, Some, length, max};
+ghost use Rattle.std.specs.Prelude.{◌≡◌, ◌≢◌, ◌≤◌, ◌<◌, [], IfErr, IfOk, OnOk, Some, length, max};
 ghost use Rattle.std.specs.List.{All};
 ghost use Rattle.format_spec.specs.declared.PageKind.TheVariants.{TableInterior, TableLeaf};
 ghost use Rattle.page_spec.specs.Pages.{Pages};
@@ -8,9 +8,10 @@ ghost use Rattle.page_store.specs.Store.{HasSizes, IsNumber, OwesBy};
 ghost use Rattle.tree_level.specs.Changes.{behind};
 ghost use Rattle.tree_level.specs.Levels.{WritesNode};
 ghost use Rattle.tree_pages.specs.Takes.{RisesBy};
-ghost use Rattle.tree_pages.specs.Writers.{Becomes, sizes_of};
-ghost use Rattle.tree_spec.specs.Faults.{fault_in};
+ghost use Rattle.tree_pages.specs.Writers.{Becomes, paged, sizes_of};
+ghost use Rattle.tree_spec.specs.Faults.{IsOther, fault_in};
 ghost use Rattle.tree_walk.specs.Pages.{IsDecoded};
+ghost use Rattle.tree_table.specs.Needs.{HasOnly, IsOtherInRange, RefusesBeside, RefusesOver, RefusesPassed};
 ghost use Rattle.tree_table.specs.Deletes.{ClosesRoot, IsChildAt, IsEmptied, IsFit, IsOfTable, PassesRoot};
 
 use crate::closing::{is_emptied, is_still};
@@ -39,6 +40,7 @@ fn write_empty<S: PageWrite>(
     requires whole { length page.bytes ≡ S.size store.old }
     ensures written { OnOk result (Becomes S.PageRead store.old store.new (WritesNode (sizes_of S.PageRead store.old) (record { number = page.number; kind = kind; right = right }) [])) }
     ensures count { S.count store.new ≡ S.count store.old }
+    ensures other { IfErr result IsOther }
     ensures owes { OwesBy S.PageRead fault_in store.old store.new result }
 {
     let node = Node {
@@ -73,6 +75,7 @@ fn pass_to_first<S: PageWrite>(
     ensures count { OnOk result (S.count store.old ≤ S.count store.new) }
     ensures most { OnOk result (S.count store.new ≤ max limit (S.count store.old)) }
     ensures rises { OnOk result (RisesBy S.PageRead 3 store.old store.new) }
+    ensures refuses { RefusesBeside S.PageRead 3 limit page 0 child below store.old store.new result }
     ensures owes { OwesBy S.PageRead fault_in store.old store.new result }
 {
     match below {
@@ -111,6 +114,7 @@ fn read_only<S: PageRead>(
     ensures whole { IfOk result (λ child. length child.bytes ≡ S.size store.old) }
     ensures same { S.pages store.new ≡ S.pages store.old }
     ensures count { S.count store.new ≡ S.count store.old }
+    ensures refuses { (m : Pages) → S.pages store.old ≡ Some m → IfErr result (IsOtherInRange (sizes_of S.PageRead store.old) only (paged S.PageRead store.old m)) }
     ensures owes { OwesBy S.PageRead fault_in store.old store.new result }
 {
     if !is_in_range(store.page_size(), store.count(), only) {
@@ -144,6 +148,7 @@ fn take_only_child<S: PageWrite>(
     ensures count { OnOk result (S.count store.old ≤ S.count store.new) }
     ensures most { OnOk result (S.count store.new ≤ max limit (S.count store.old)) }
     ensures rises { OnOk result (RisesBy S.PageRead 3 store.old store.new) }
+    ensures refuses { RefusesOver S.PageRead 3 limit (HasOnly (sizes_of S.PageRead store.old) page.number opened.change.right) store.old store.new result }
     ensures owes { OwesBy S.PageRead fault_in store.old store.new result }
 {
     let only = opened.change.right;
@@ -176,6 +181,7 @@ fn close_root<S: PageWrite>(
     ensures count { OnOk result (S.count store.old ≤ S.count store.new) }
     ensures most { OnOk result (S.count store.new ≤ max limit (S.count store.old)) }
     ensures rises { OnOk result (RisesBy S.PageRead 3 store.old store.new) }
+    ensures refuses { RefusesOver S.PageRead 3 limit (HasOnly (sizes_of S.PageRead store.old) page.number opened.change.right) store.old store.new result }
     ensures owes { OwesBy S.PageRead fault_in store.old store.new result }
 {
     if is_emptied(&page, &opened) {
@@ -208,6 +214,7 @@ pub fn pass_to_root<S: PageWrite>(
     ensures count { OnOk result (S.count store.old ≤ S.count store.new) }
     ensures most { OnOk result (S.count store.new ≤ max limit (S.count store.old)) }
     ensures rises { OnOk result (RisesBy S.PageRead 4 store.old store.new) }
+    ensures refuses { RefusesPassed S.PageRead 4 limit page step.at step.child below store.old store.new result }
     ensures owes { OwesBy S.PageRead fault_in store.old store.new result }
 {
     if is_still(&below) {

@@ -1,12 +1,14 @@
 // Takes a row out of a leaf.
-ghost use Rattle.std.specs.Prelude.{◌≡◌, ◌≤◌, ◌<◌, true, [], IfOk, IfSome, OnOk, Some, length};
+ghost use Rattle.std.specs.Prelude.{◌≡◌, ◌≤◌, ◌<◌, true, [], IfErr, IfOk, IfSome, OnOk, Some, length};
 ghost use Rattle.format_spec.specs.declared.PageKind.TheVariants.{TableLeaf};
 ghost use Rattle.page_spec.specs.Pages.{Pages};
 ghost use Rattle.page_store.specs.Store.{HasSizes, OwesBy};
 ghost use Rattle.tree_level.specs.Changes.{WritesChange};
+ghost use Rattle.tree_pages.specs.Takes.{UsesBy};
 ghost use Rattle.tree_pages.specs.Writers.{Becomes, paged, sizes_of};
-ghost use Rattle.tree_spec.specs.Faults.{fault_in};
+ghost use Rattle.tree_spec.specs.Faults.{IsOther, fault_in};
 ghost use Rattle.tree_walk.specs.Pages.{IsDecoded};
+ghost use Rattle.tree_table.specs.Needs.{RefusesAt, Whenever};
 ghost use Rattle.tree_table.specs.Deletes.{DeletesUnder, IsFit, IsFound, Shrinks};
 
 use crate::leaf::{OldChain, chain_of, meets};
@@ -65,6 +67,7 @@ pub fn find_row<S: PageRead>(
     ensures within { IfOk result (λ found. IfSome found (λ it. it.change.at < length page.now.views)) }
     ensures same { S.pages store.new ≡ S.pages store.old }
     ensures count { S.count store.new ≡ S.count store.old }
+    ensures refuses { RefusesAt S.PageRead page.now store.old result }
     ensures owes { OwesBy S.PageRead fault_in store.old store.new result }
 {
     let views = page.views.as_slice();
@@ -100,6 +103,8 @@ pub fn write_without<S: PageWrite>(
     requires within { change.at < length page.views }
     ensures written { OnOk result (Becomes S.PageRead store.old store.new (WritesChange (sizes_of S.PageRead store.old) page change [])) }
     ensures count { S.count store.new ≡ S.count store.old }
+    ensures uses { OnOk result (Whenever S.PageRead store.old store.new (UsesBy (sizes_of S.PageRead store.old) 0)) }
+    ensures other { IfErr result IsOther }
     ensures owes { OwesBy S.PageRead fault_in store.old store.new result }
 {
     write_changed(alloc, store, page, change, Vec::new(alloc))
@@ -123,6 +128,8 @@ fn shrink_leaf<S: PageWrite>(
     ensures left { IfOk result (λ left. Becomes S.PageRead store.old store.new (Shrinks (sizes_of S.PageRead store.old) page change left)) }
     ensures fit { IfOk result (IsFit (S.usable store.old)) }
     ensures count { S.count store.new ≡ S.count store.old }
+    ensures uses { OnOk result (Whenever S.PageRead store.old store.new (UsesBy (sizes_of S.PageRead store.old) 0)) }
+    ensures other { IfErr result IsOther }
     ensures owes { OwesBy S.PageRead fault_in store.old store.new result }
 {
     if page.views.as_slice().len() == 1 {
@@ -148,6 +155,8 @@ pub fn delete_in_leaf<S: PageWrite>(
     ensures deleted { IfOk result (λ removed. Becomes S.PageRead store.old store.new (λ a b. a.pages page.number ≡ page.bytes → DeletesUnder (sizes_of S.PageRead store.old) page.number rowid removed a b)) }
     ensures fit { IfOk result (λ removed. IfSome removed (λ it. IsFit (S.usable store.old) it.left)) }
     ensures count { S.count store.new ≡ S.count store.old }
+    ensures uses { OnOk result (Whenever S.PageRead store.old store.new (UsesBy (sizes_of S.PageRead store.old) 0)) }
+    ensures refuses { RefusesAt S.PageRead page store.old result }
     ensures owes { OwesBy S.PageRead fault_in store.old store.new result }
 {
     let sought = find_row(alloc, store, &page, rowid)?;

@@ -1,3 +1,9 @@
+use Rattle.std.proofs.Common.{length, sym, refl}
+use Rattle.std.proofs.lemmas.Result.{err_from_is_err_and}
+use Rattle.tree_pages.specs.UsesLaws.{uses-more}
+use Rattle.tree_level.specs.Changes.{Changes}
+use Rattle.tree_table.proofs.Unders.{dividers-fit}
+use Rattle.tree_table.proofs.Used.{always, whenever-none, changes-use}
 use Rattle.std.proofs.Common.{subst, arith}
 use Rattle.std.proofs.Math.Path.{subst⁻¹}
 use Rattle.std.specs.List.{All}
@@ -54,3 +60,37 @@ returns-clause-rises g c =
       c.in_ok-dividers.ensures.one c.requires.kind (once-fits u c.args.opened.comes.items c.args.page.kind c.requires.kind c.requires.sizes.usable c.requires.comes c.requires.few),
       c.in_ok-dividers.ensures.rises,
     )
+
+pub returns-then-is_emptied-clause-uses : goal.returns-then-is_emptied-clause-uses
+returns-then-is_emptied-clause-uses g c = λ old told new later trunks free.
+    let S = g.S.PageRead in
+    let a = c.args.store.now in
+    let z = sizes_of S a in
+    let none = whenever-none S z a a refl refl old told new later in
+    omega (arith, none)
+
+pub returns-clause-uses : goal.returns-clause-uses
+returns-clause-uses g c = λ old told new later trunks free.
+    let S = g.S.PageRead in
+    let a = c.args.store.now in
+    let z = sizes_of S a in
+    let b = c.change_page.new.store in
+    let page = c.args.page in
+    let comes = c.args.opened.comes.items in
+    let dividers = c.in_ok-dividers.dividers.items in
+    let all = subst⁻¹ (λ (k : PageKind). All (IsOneCell k z.usable) comes) c.requires.kind c.requires.comes in
+    let few = c.in_ok-dividers.ensures.one c.requires.kind (once-fits z.usable comes page.kind c.requires.kind c.requires.sizes.usable c.requires.comes c.requires.few) in
+    let changes = always S (Changes z page c.args.opened.change comes dividers) a b c.in_ok-dividers.ensures.changed old told new later in
+    let x = paged S a old in
+    let y = paged S b new in
+    uses-more z x y (length dividers) 1 few (changes-use z page page.number 1 c.args.opened.change comes dividers x y c.requires.page (sym c.requires.kind) all changes trunks free)
+
+pub returns-in_err-dividers-clause-refuses : goal.returns-in_err-dividers-clause-refuses
+returns-in_err-dividers-clause-refuses g c = λ m trunks told free.
+    let S = g.S.PageRead in
+    let a = c.args.store.now in
+    let z = sizes_of S a in
+    let comes = c.args.opened.comes.items in
+    let fits = dividers-fit z.usable comes c.args.page.kind c.requires.kind c.requires.sizes.usable c.requires.comes (omega (arith, c.requires.few)) in
+    let p = err_from_is_err_and c.from_residual.result c.from_residual.ensures.1 in
+    rw (p.1, p.2) (c.in_err-dividers.ensures.refuses fits m trunks told free)

@@ -1,3 +1,7 @@
+use Rattle.std.proofs.Common.{inl}
+use Rattle.std.proofs.lemmas.Result.{err_from_is_err_and}
+use Rattle.tree_table.proofs.Roots.{deleted-freed, world-refused}
+use Rattle.tree_table.proofs.Worlds.{IsFreed}
 use Rattle.std.proofs.Common.{◌≡◌, ℕ, ℤ, Option, None, subst, to_z, of_z, arith}
 use Rattle.std.proofs.Math.Path.{subst⁻¹}
 use Rattle.std.proofs.lemmas.Int.{to_z-of_z}
@@ -76,3 +80,34 @@ returns-in_ok-give_back-in-Some-clause-rises g c =
       due_pages-least size (g.S.PageRead.count c.delete_root.new.store),
       due_pages-most size (g.S.PageRead.count c.args.store.now),
     )
+
+pub returns-in_err-taken-clause-refuses : goal.returns-in_err-taken-clause-refuses
+returns-in_err-taken-clause-refuses g c = λ m front table behind trunks told world kind is.
+    let S = g.S.PageRead in
+    let a = c.args.store.now in
+    let z = sizes_of S a in
+    let fault = c.in_err-taken.field-0.0 in
+    let count = S.count c.delete_root.new.store in
+    let p = err_from_is_err_and c.from_residual.result c.from_residual.ensures.1 in
+    rw (p.1, p.2) (world-refused z front table behind (paged S a m) trunks c.args.root world kind is c.args.limit count fault (c.in_err-taken.ensures.refuses m told))
+
+pub returns-in_err-give_back-in-Some-clause-refuses : goal.returns-in_err-give_back-in-Some-clause-refuses
+returns-in_err-give_back-in-Some-clause-refuses g c = λ m front table behind trunks told world kind is.
+    let S = g.S.PageRead in
+    let a = c.args.store.now in
+    let s = c.delete_root.new.store in
+    let z = sizes_of S a in
+    let row = c.in-Some.row in
+    let back = to_z-of_z w64 c.args.rowid c.ranges.rowid in
+    let one : sizes_of S s ≡ z = sizes-same S a s c.in_ok-taken.ensures.owes.stays in
+    let n = c.in_ok-taken.ensures.deleted m told in
+    let x = paged S a m in
+    let y = paged S s n.0 in
+    let first = row.old.first in
+    let bytes = row.old.bytes in
+    let into : LeavesRoot z c.args.rowid row c.args.root x y =
+    subst (λ (q : ℤ). LeavesRoot z q row c.args.root x y) back (subst (λ (o : Option Taken). DeletesInto z c.args.root (to_z w64 (of_z w64 c.args.rowid)) o x y) c.in-Some.is n.2) in
+    let here : IsFreed (sizes_of S s) first bytes y =
+    subst⁻¹ (λ (q : Sizes). IsFreed q first bytes y) one (deleted-freed z front table behind x trunks c.args.root world kind is (gone_of c.args.rowid row) y first bytes into) in
+    let p = err_from_is_err_and c.from_residual-in_err-give_back-in-Some.result c.from_residual-in_err-give_back-in-Some.ensures.1 in
+    rw (p.1, p.2) (inl (c.in_err-give_back-in-Some.ensures.sound n.0 here.chain here.trunks n.1 here.is_chain here.free here.within))

@@ -1,3 +1,9 @@
+use Rattle.std.proofs.Common.{◌<◌}
+use Rattle.std.proofs.lemmas.Result.{err_from_is_err_and}
+use Rattle.tree_spec.specs.Faults.{IsDamageOrOther}
+use Rattle.tree_walk.specs.Payloads.{IsBadPayload}
+use Rattle.tree_walk.specs.PayloadsLaws.{no_view}
+use Rattle.tree_table.proofs.Used.{payload-other}
 use Rattle.std.proofs.Common.{ℤ, List, length, slice_get, slice_index_or, ap, subst, to_z, of_z, arith}
 use Rattle.std.proofs.Math.Path.{subst⁻¹}
 use Rattle.std.proofs.lemmas.Int.{to_z-of_z}
@@ -58,3 +64,19 @@ pub returns-clause-within : goal.returns-clause-within
 returns-clause-within g c =
     let met = c.meets.ensures.0 (let no = c.if-not-meets.false in cc) in
     omega (arith, got-low _ c.as_slice-views.result.now c.index_of-at.result met, ap length c.as_slice-views.ensures)
+
+pub returns-in_err-payload-clause-refuses : goal.returns-in_err-payload-clause-refuses
+returns-in_err-payload-clause-refuses g c = λ m told there.
+    let S = g.S.PageRead in
+    let a = c.args.store.now in
+    let z = sizes_of S a in
+    let page = c.args.page.now in
+    let at = c.index_of-at.result in
+    let fault = c.in_err-payload.field-0.0 in
+    let met = c.meets.ensures.0 (let no = c.if-not-meets.false in cc) in
+    let low : at < length page.views = omega (arith, got-low _ c.as_slice-views.result.now c.index_of-at.result met, ap length c.as_slice-views.ensures) in
+    let bad : IsDamageOrOther (IsBadPayload m (S.size a) (S.usable a) (S.count a) (view_of page) at) fault =
+    IfSome-told (λ p. IsDamageOrOther (IsBadPayload p (S.size a) (S.usable a) (S.count a) (view_of page) at) fault) m told c.in_err-payload.ensures.pages.answer in
+    let p = err_from_is_err_and c.from_residual.result c.from_residual.ensures.1 in
+    rw (p.1, p.2)
+    (payload-other z (paged S a m) page there c.requires.page c.requires.kind at low no_view fault bad)

@@ -1,3 +1,5 @@
+use Rattle.std.proofs.Common.{refl}
+use Rattle.tree_table.proofs.Used.{whenever-none}
 use Rattle.std.proofs.Common.{ℕ, List, length, ap, subst, arith}
 use Rattle.format_spec.specs.declared.PageKind.TheVariants.{TableInterior}
 use Rattle.tree_pages.specs.Writers.{paged, sizes_of}
@@ -25,3 +27,6 @@ returns-clause-left g c = λ old told.
           leaf-shrunk (sizes_of S a) c.args.page (paged S a old) there c.requires.page c.requires.kind rowid row c.args.change c.requires.goes c.requires.within opens (paged S c.write_without.new.store n.0) n.2
           (λ one. c.if-as_slice-eq1.false (omega (arith, one, ap length c.as_slice.ensures))) up (subst (λ (l : List (List ℕ)). AreSpelled TableInterior (S.usable a) up l) c.new.ensures.items are),
     )
+
+pub returns-then-as_slice-eq1-clause-uses : goal.returns-then-as_slice-eq1-clause-uses
+returns-then-as_slice-eq1-clause-uses g c = whenever-none g.S.PageRead (sizes_of g.S.PageRead c.args.store.now) c.args.store.now c.args.store.now refl refl

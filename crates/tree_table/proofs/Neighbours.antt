@@ -1,5 +1,5 @@
 -- A neighbour stands as it stood, once a delete below a child is done.
-use Rattle.std.proofs.Common.{◌≡◌, ℕ, ℤ, zero, suc, ◌+◌, ◌<◌, ◌≤◌, ◌⊎◌, ◌∙◌, List, [], ◌∷◌, length, map, slice_get, sym, ap, subst, inl, inr, arith}
+use Rattle.std.proofs.Common.{◌≡◌, ℕ, ℤ, zero, suc, ◌+◌, ◌<◌, ◌≤◌, ◌∙◌, List, [], ◌∷◌, length, map, slice_get, sym, ap, subst, inl, inr, arith}
 use Rattle.std.proofs.Math.Path.{subst⁻¹}
 use Rattle.std.proofs.lemmas.Bool.{cases_lt}
 use Rattle.format_spec.specs.declared.CellView.{CellView}

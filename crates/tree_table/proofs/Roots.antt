@@ -1,5 +1,5 @@
 -- What stands in the page of a root once a delete below it is done, and what is refused there.
-use Rattle.std.proofs.Common.{◌≡◌, ℕ, ℤ, zero, suc, ◌+◌, ◌*◌, ◌<◌, ◌≤◌, ◌⊎◌, ◌-◌, ◌∙◌, List, [], ◌∷◌, ◌++◌, drop, length, refl, sym, ap, subst, arith}
+use Rattle.std.proofs.Common.{◌≡◌, ℕ, ℤ, zero, suc, ◌+◌, ◌*◌, ◌<◌, ◌⊎◌, ◌-◌, ◌∙◌, List, [], ◌∷◌, ◌++◌, drop, length, sym, ap, subst, arith}
 use Rattle.std.proofs.Math.Path.{subst⁻¹}
 use Rattle.std.specs.List.{All}
 use Rattle.format_spec.specs.Header.{freelist_trunk}

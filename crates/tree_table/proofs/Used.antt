@@ -19,10 +19,10 @@ use Rattle.page_store.specs.StoreLaws.{IfSome-told}
 use Rattle.tree_spec.specs.declared.TreeKind.TheVariants.{Table}
 use Rattle.tree_spec.specs.declared.fault.TreeFault.{TreeFault}
 use Rattle.tree_spec.specs.declared.fault.TreeFault.TheVariants.{TreeDamaged, TrunkDamaged, TargetFull, Store, Memory}
-use Rattle.tree_spec.specs.Faults.{IsDamageOrOther, IsOther}
+use Rattle.tree_spec.specs.Faults.{IsDamageOrOther}
 use Rattle.tree_spec.specs.Trees.{IsFull as IsFullTree, TreeCell, TreeOf, kind_at, page_of}
 use Rattle.tree_spec.specs.Standing.{Sizes, Paged, IsHeld, Stands}
-use Rattle.tree_spec.specs.Changes.{Turns, Within}
+use Rattle.tree_spec.specs.Changes.{Within}
 use Rattle.tree_spec.specs.ChangesLaws.{Turns-wide, Turns-within}
 use Rattle.tree_spec.specs.Worlds.{IsFree}
 use Rattle.put_spec.specs.ImagesLaws.{length-of}

@@ -8,11 +8,10 @@ use Rattle.page_spec.specs.Pages.{IsInRange}
 use Rattle.tree_spec.specs.Worlds.{IsFree}
 use Rattle.delete_spec.specs.Steps.{IsReady}
 use Rattle.tree_pages.specs.Takes.{IsShort}
-use Rattle.tree_walk.specs.Pages.{IsReadFault}
 use Rattle.tree_walk.specs.Places.{child_or}
 use Rattle.tree_table.specs.Deletes.{IsFit, Leaves}
 use Rattle.tree_table.specs.Needs.{HasBeside, UsesUnder}
-use Rattle.tree_table.proofs.Needed.{table-read, table-child}
+use Rattle.tree_table.proofs.Needed.{table-child}
 use Rattle.tree_table.proofs.Neighbours.{inner-beside, other-same, below-same, uses-same}
 use Rattle.tree_table.proofs.Used.{root-child, root-passed}
 use Rattle.std.proofs.Common.{◌≡◌, ℕ, ℤ, Option, Some, None, refl, ◌∙◌, subst, to_z, of_z, ap, arith}

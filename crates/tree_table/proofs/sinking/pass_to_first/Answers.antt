@@ -1,5 +1,5 @@
 use Rattle.std.proofs.Common.{ℕ, inl}
-use Rattle.std.proofs.lemmas.Result.{err_from_is_err_and, IfErr-weaker}
+use Rattle.std.proofs.lemmas.Result.{IfErr-weaker}
 use Rattle.tree_spec.specs.Worlds.{IsFree}
 use Rattle.tree_spec.specs.Changes.{Writes}
 use Rattle.tree_table.proofs.Roots.{first-written}

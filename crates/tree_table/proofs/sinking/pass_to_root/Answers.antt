@@ -1,11 +1,9 @@
-use Rattle.std.proofs.Common.{ℕ, arith}
 use Rattle.std.proofs.Math.Path.{subst⁻¹}
-use Rattle.std.proofs.lemmas.Result.{err_from_is_err_and, IfErr-weaker}
+use Rattle.std.proofs.lemmas.Result.{IfErr-weaker}
 use Rattle.tree_spec.specs.Worlds.{IsFree}
 use Rattle.tree_pages.specs.Takes.{IsShort}
-use Rattle.tree_pages.specs.TakesLaws.{short-more}
 use Rattle.tree_pages.specs.UsesLaws.{short-used}
-use Rattle.tree_table.specs.Needs.{HasBeside, HasOnly}
+use Rattle.tree_table.specs.Needs.{HasOnly}
 use Rattle.tree_table.proofs.Roots.{opened-only}
 use Rattle.std.proofs.Common.{◌≡◌, subst}
 use Rattle.std.proofs.lemmas.Result.{on_ok_weaker}

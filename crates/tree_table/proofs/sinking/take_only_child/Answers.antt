@@ -1,9 +1,8 @@
 use Rattle.std.proofs.Common.{inl}
 use Rattle.std.proofs.Math.Path.{subst⁻¹}
-use Rattle.std.proofs.lemmas.Result.{err_from_is_err_and, IfErr-weaker}
+use Rattle.std.proofs.lemmas.Result.{IfErr-weaker}
 use Rattle.tree_spec.specs.Worlds.{IsFree}
 use Rattle.tree_level.specs.ChangesLaws.{spelled-read}
-use Rattle.tree_pages.specs.Takes.{IsShort}
 use Rattle.tree_table.proofs.Roots.{hand-written}
 use Rattle.std.proofs.Common.{◌≡◌, ℕ, Bool, true, ◌∙◌, subst, ap, arith}
 use Rattle.std.proofs.lemmas.Result.{on_ok_weaker}

@@ -13,8 +13,6 @@ mod files;
 mod open_files;
 mod paths;
 mod sink;
-#[cfg(test)]
-mod tests;
 mod transfers;
 
 pub use disk::HostDisk;

@@ -6,6 +6,8 @@
 
 mod program;
 #[cfg(test)]
+mod real_files;
+#[cfg(test)]
 mod tests;
 
 use disk_host::HostSink;

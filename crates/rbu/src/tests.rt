@@ -9,7 +9,7 @@ use std::rt::Env;
 use std::test::Fail;
 
 // Fails by name where something does not hold.
-fn ensure(holds: bool, what: &'static str) -> Result<(), Fail> {
+pub fn ensure(holds: bool, what: &'static str) -> Result<(), Fail> {
     if holds { Ok(()) } else { Err(Fail::new(what)) }
 }
 

@@ -1,5 +1,6 @@
-// The calls on real files, in a folder of the test's own, and the sink.
-use crate::{HostDisk, HostSink};
+// The calls on real files, in a folder of the test's own, and the output.
+use crate::tests::ensure;
+use disk_host::{HostDisk, HostSink};
 use rbu_disk::{Disk, DiskCall, DiskFault, FileName, Sink, SinkFault};
 use std::alloc::AllocError;
 use std::fmt::Display;
@@ -16,11 +17,6 @@ const WAL: &str = "disk_host_files/target-wal";
 const RBU: &str = "disk_host_files/rbu";
 
 const STATES: &str = "disk_host_files/states";
-
-// Fails by name where something does not hold.
-fn ensure(holds: bool, what: &'static str) -> Result<(), Fail> {
-    if holds { Ok(()) } else { Err(Fail::new(what)) }
-}
 
 // Whether the file at a path holds these bytes.
 fn holds(rt: &HostRuntime, path: &str, bytes: &[u8]) -> io::Result<bool> {
@@ -126,6 +122,22 @@ fn try_faults(rt: &HostRuntime, disk: &mut HostDisk<HostRuntime>) -> Result<(), 
     ensure(synced == Err(DiskFault { file, call }), "a missing folder")
 }
 
+// Every call in turn, in an empty folder.
+fn try_calls(rt: &HostRuntime, disk: &mut HostDisk<HostRuntime>) -> Result<(), Fail> {
+    ensure(try_missing(disk)?, "missing files")?;
+    ensure(!fs::exists(rt, OAL)?, "no file is made")?;
+    try_writes(disk)?;
+    ensure(holds(rt, OAL, b"\0\0\0ac\0\0")?, "writes")?;
+    ensure(read_is(disk, 2, 4, b"\0ac\0")?, "a read")?;
+    ensure(read_is(disk, 5, 2, b"\0\0--")?, "a read to the end")?;
+    ensure(read_is(disk, u64::MAX, 0, b"----")?, "a read past it")?;
+    try_names(rt, disk)?;
+    try_removal(rt, disk)?;
+    try_long(rt, disk)?;
+    disk.sync_folder()?;
+    try_faults(rt, disk)
+}
+
 #[test]
 fn each_call_works_on_real_files(rt: HostRuntime) -> Result<(), Fail> {
     let _ = fs::remove_dir_all(&rt, FOLDER);
@@ -137,18 +149,7 @@ fn each_call_works_on_real_files(rt: HostRuntime) -> Result<(), Fail> {
         RBU,
         "disk_host_files/states/state",
     )?;
-    ensure(try_missing(&mut disk)?, "missing files")?;
-    ensure(!fs::exists(&rt, OAL)?, "no file is made")?;
-    try_writes(&mut disk)?;
-    ensure(holds(&rt, OAL, b"\0\0\0ac\0\0")?, "writes")?;
-    ensure(read_is(&mut disk, 2, 4, b"\0ac\0")?, "a read")?;
-    ensure(read_is(&mut disk, 5, 2, b"\0\0--")?, "a read to the end")?;
-    ensure(read_is(&mut disk, u64::MAX, 0, b"----")?, "a read past it")?;
-    try_names(&rt, &mut disk)?;
-    try_removal(&rt, &mut disk)?;
-    try_long(&rt, &mut disk)?;
-    disk.sync_folder()?;
-    try_faults(&rt, &mut disk)?;
+    try_calls(&rt, &mut disk)?;
     disk_at(&rt, "target", "rbu", "state")?.sync_folder()?;
     fs::remove_dir_all(&rt, FOLDER)?;
     Ok(())

@@ -1,0 +1,2 @@
+pub mod Respelling
+pub mod RespellingLaws

@@ -1,0 +1,9 @@
+pub mod CutsLaws
+pub mod Deletes
+pub mod DeletesLaws
+pub mod JoinsLaws
+pub mod PartsLaws
+pub mod Steps
+pub mod StepsLaws
+pub mod UnderLaws
+pub mod WorldsLaws

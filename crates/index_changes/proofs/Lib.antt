@@ -1,0 +1,4 @@
+pub mod Sorting
+pub mod Pairing
+pub mod Changing
+pub mod EntryOrders

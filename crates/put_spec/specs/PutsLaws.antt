@@ -197,7 +197,8 @@ module _ (sizes : Sizes) (kind : TreeKind) where
       ∙ list-join k levels left.children right.children left.last right.last cut.middle
       ∙ ap (λ (l : List Member). list_beside k levels left.children left.last ++ (l ++ list_beside k levels right.children right.last)) (sym (same-between k divider cut.middle cut.rowid cut.payload))
 
-  siblings-list : (levels : ℕ) (siblings : List (TreeOf levels × TreeCell)) (whole left : TreeOf levels) (divider : TreeCell) (right : TreeOf levels) → IsCut levels kind whole left divider right
+  -- a cut changes no list
+  pub siblings-list : (levels : ℕ) (siblings : List (TreeOf levels × TreeCell)) (whole left : TreeOf levels) (divider : TreeCell) (right : TreeOf levels) → IsCut levels kind whole left divider right
       → list_beside kind levels siblings whole ≡ list_beside kind levels (siblings ++ (left, divider) ∷ []) right
   siblings-list levels siblings whole left divider right cut =
       let front = flat_map (λ (child : TreeOf levels × TreeCell). list_of kind levels child.0 ++ between kind child.1) siblings in
@@ -336,7 +337,7 @@ module _ (sizes : Sizes) (kind : TreeKind) where
   moved-full zero fresh tree full = full
   moved-full (suc levels) fresh tree full = full
 
-  moved-list : (levels fresh : ℕ) (tree : TreeOf levels) → list_of kind levels (moved levels fresh tree) ≡ list_of kind levels tree
+  pub moved-list : (levels fresh : ℕ) (tree : TreeOf levels) → list_of kind levels (moved levels fresh tree) ≡ list_of kind levels tree
   moved-list zero fresh tree = refl
   moved-list (suc levels) fresh tree = refl
 

@@ -1,7 +1,7 @@
 -- What is done page by page makes a put: crates above cite these facts in their proofs.
 use Rattle.std.proofs.Common.{◌≡◌, ℕ, zero, suc, ◌-◌, ◌<◌, ◌≤◌, List, [], ◌∷◌, ◌++◌, length, map, set, slice_index_or, inl, inr, refl, sym, ap, ◌∙◌, subst, arith}
 use Rattle.std.proofs.Math.Path.{subst⁻¹}
-use Rattle.std.specs.List.{AllByRecursion, insert}
+use Rattle.std.specs.List.{flat_map, AllByRecursion, insert}
 use Rattle.std.proofs.lemmas.List.{append-nil}
 use Rattle.byte_fields.specs.Bytes.{part_of}
 use Rattle.format_spec.specs.declared.PageKind.{PageKind}
@@ -15,7 +15,7 @@ use Rattle.tree_spec.specs.declared.TreeKind.{TreeKind}
 use Rattle.tree_spec.specs.declared.TreeKind.TheVariants.{Table, Index}
 use Rattle.page_spec.specs.Counts.{times}
 use Rattle.page_spec.specs.CountsLaws.{times-append, hit-itself}
-use Rattle.tree_spec.specs.Trees.{TreeCell, TreeOf, leaf_kind, interior_kind, kind_at, page_of, pages_of, own_cells, own_right, cells_behind}
+use Rattle.tree_spec.specs.Trees.{TreeCell, TreeOf, Member, member, between, leaf_kind, interior_kind, kind_at, page_of, pages_of, own_cells, own_right, cells_behind, list_of, list_in, list_beside}
 use Rattle.tree_spec.specs.Standing.{Sizes, Paged, Keeps, IsNumber, IsHeld, IsBehind, HasOwnPage, HasBelow, Stands, StandsBefore}
 use Rattle.tree_spec.specs.StandingLaws.{divider-held, held-kept, own-kept, keeps-first}
 use Rattle.tree_spec.specs.PagesLaws.{page-same}
@@ -28,7 +28,7 @@ use Rattle.put_spec.specs.ImagesLaws.{IsSplit, HasFirst, split-map, first-map, n
 use Rattle.put_spec.specs.Children.{Belongs, Meets, views_of, child_at, children_with, last_with, interior_with}
 use Rattle.put_spec.specs.ChildrenLaws.{child-stands, child-within, keeps-fewer}
 use Rattle.put_spec.specs.Puts.{Before, After, hand_before, hand_after, child_before, interior_after, leaf_after, IsCut, cut_after, moved, deeper, IsReady, IsOpened, IsPut, IsRootPut}
-use Rattle.put_spec.specs.PutsLaws.{pages-parts, cut-count, put-above, put-cut, put-settled, put-stays, put-deepens, put-rises, hand-parts, moved-page}
+use Rattle.put_spec.specs.PutsLaws.{pages-parts, cut-count, put-above, put-cut, put-settled, put-stays, put-deepens, put-rises, hand-parts, moved-page, moved-list, siblings-list}
 use Rattle.put_spec.specs.LeavesLaws.{belongs-within, leaf-inserted, leaf-met}
 use Rattle.put_spec.specs.Steps.{Spelled, spelled, bytes_in, views_in, HasCells, child_page, with_dividers, IsRaised, AreParts, before_at, Took, IsFronted, IsSpread, IsSettled, IsMovedOut, IsRooted, PutDone, PutBelow, RootDone, PutAt, PutUnder, PutInto, IsDeepened, IsLeafEdit}
 
@@ -205,6 +205,7 @@ module _ (sizes : Sizes) (kind : TreeKind) where
     pub chain : List ℕ
     pub put : IsPut sizes kind levels before (record { base = new; siblings = siblings; home = home; trunks = trunks; first = after.first; bytes = after.bytes; chain = chain })
     pub dividers_are : map spelled (cells_behind siblings) ≡ map spelled (cells_behind after.siblings) ++ dividers
+    pub list : list_beside kind levels siblings home ≡ list_beside kind levels after.siblings after.home
 
   -- the cells between siblings, with one more sibling
   pub siblings-cells : {Child : Type 0} (siblings : List (Child × TreeCell)) (left : Child) (cell : TreeCell) (divider : Spelled) (dividers : List Spelled) → spelled cell ≡ divider
@@ -242,6 +243,7 @@ module _ (sizes : Sizes) (kind : TreeKind) where
     pub back_cells : back ≡ map spelled (own_cells levels next.home)
     pub right_is : own_right levels after.home ≡ own_right levels next.home
     pub dividers_are : (dividers : List Spelled) → map spelled (cells_behind next.siblings) ++ dividers ≡ map spelled (cells_behind after.siblings) ++ divider ∷ dividers
+    pub list : list_beside kind levels next.siblings next.home ≡ list_beside kind levels after.siblings after.home
 
   some-cells : (levels : ℕ) (tree : TreeOf levels) (cells : List Spelled) → cells ≡ map spelled (own_cells levels tree) → 0 < length cells → 0 < length (own_cells levels tree)
   some-cells levels tree cells same some = omega (arith, ap length same, length-of spelled (own_cells levels tree))
@@ -273,6 +275,7 @@ module _ (sizes : Sizes) (kind : TreeKind) where
         back_cells = l.rest_cells;
         right_is = l.rest_right;
         dividers_are = λ dividers. siblings-cells after.siblings l.left l.cell divider dividers l.cell_is;
+        list = sym (siblings-list sizes kind levels after.siblings after.home l.left l.cell l.rest l.cut);
       }
     where
       names-page : (cell : TreeCell) (divider : Spelled) (page : ℕ) → spelled cell ≡ divider → page ≡ divider.view.child → cell.view.child ≡ page
@@ -295,6 +298,7 @@ module _ (sizes : Sizes) (kind : TreeKind) where
     pub left_cells : left ≡ map spelled (own_cells levels next.home)
     pub right_is : own_right levels after.home ≡ own_right levels next.home
     pub dividers_are : map spelled (cells_behind next.siblings) ≡ map spelled (cells_behind after.siblings) ++ dividers
+    pub list : list_beside kind levels next.siblings next.home ≡ list_beside kind levels after.siblings after.home
 
   -- A page that is still to be written is cut at each divider.
   pub spread-opened : (dividers : List Spelled) (levels : ℕ) (before : Before levels) (after : After levels) (cells left : List Spelled) (new : Paged) → IsFree sizes after.base after.trunks
@@ -310,6 +314,7 @@ module _ (sizes : Sizes) (kind : TreeKind) where
     left_cells = spread.0 ∙ same;
     right_is = refl;
     dividers_are = sym (append-nil (map spelled (cells_behind after.siblings)));
+    list = refl;
   }
   spread-opened (divider ∷ dividers) levels before after cells left new free o same spread =
       let c = cut-once levels before after cells divider spread.0 spread.1 free o same spread.2 in
@@ -325,6 +330,7 @@ module _ (sizes : Sizes) (kind : TreeKind) where
         left_cells = rest.left_cells;
         right_is = c.right_is ∙ rest.right_is;
         dividers_are = rest.dividers_are ∙ c.dividers_are dividers;
+        list = rest.list ∙ c.list;
       }
 
   -- some cells that stand in their page were spread, and then it was written
@@ -355,12 +361,20 @@ module _ (sizes : Sizes) (kind : TreeKind) where
         put = subst (λ (first : ℕ). IsPut sizes kind levels before (record { base = new; siblings = n.siblings; home = n.home; trunks = n.trunks; first = first; bytes = after.bytes; chain = n.chain })) s.first
             (subst (λ (bytes : ℕ). IsPut sizes kind levels before (record { base = new; siblings = n.siblings; home = n.home; trunks = n.trunks; first = n.first; bytes = bytes; chain = n.chain })) s.bytes put);
         dividers_are = s.dividers_are;
+        list = s.list;
       }
+
+  -- what is done to a page, or to a root, and the members that it has then
+  abbrev pub ListedPut : (levels : ℕ) → Before levels → Paged → List Spelled → ℕ → ℕ → List Member → Type 0
+  ListedPut levels before new dividers first bytes members = (done : PutDone sizes kind levels before new dividers first bytes) × (list_beside kind levels done.siblings done.home ≡ members)
+
+  abbrev pub ListedRoot : (levels : ℕ) → Before levels → Paged → ℕ → ℕ → List Member → Type 0
+  ListedRoot levels before new first bytes members = (done : RootDone sizes kind levels before new first bytes) × (list_in done.rooted ≡ members)
 
   -- What a root's page is to have is spread, and moved out.
   pub moved-out : (levels : ℕ) (before : Before levels) (after : After levels) (root right : ℕ) (cells : List Spelled) (new : Paged) → IsFree sizes after.base after.trunks
       → IsOpened sizes kind levels before after → after.siblings ≡ [] → page_of levels after.home ≡ root → cells ≡ map spelled (own_cells levels after.home) → right ≡ own_right levels after.home
-      → IsMovedOut sizes levels kind root right cells after.base new → RootDone sizes kind levels before new after.first after.bytes
+      → IsMovedOut sizes levels kind root right cells after.base new → ListedRoot levels before new after.first after.bytes (list_beside kind levels after.siblings after.home)
   moved-out levels before after root right cells new free o none is same right_is out =
       let s = spread-opened out.dividers levels before after cells out.left out.spread_out free o same out.spread in
       let n = s.next in
@@ -376,29 +390,34 @@ module _ (sizes : Sizes) (kind : TreeKind) where
       let rises = put-rises sizes kind levels before n fresh out.between new took.0 s.opened took.1 out.in_range own
       (subst⁻¹ (λ (p : ℕ). Writes p out.between new) page out.writes) top
       (some-cells levels home out.left s.left_cells out.left_some)
-      (λ other. omega (arith, out.some (λ e. other (page ∙ e)), ap length dividers, cells-many n.siblings)) in
-      record {
-        rooted = record { kind = kind; levels = suc levels; tree = deeper levels n fresh };
-        trunks = took.0;
-        chain = n.chain;
-        put = subst (λ (first : ℕ). IsRootPut sizes kind levels before new (record { kind = kind; levels = suc levels; tree = deeper levels n fresh }) first after.bytes n.chain took.0) s.first
-            (subst (λ (bytes : ℕ). IsRootPut sizes kind levels before new (record { kind = kind; levels = suc levels; tree = deeper levels n fresh }) n.first bytes n.chain took.0) s.bytes rises);
-      }
+      (λ other. omega (arith, out.some (λ e. other (page ∙ e)), ap length dividers, cells-many n.siblings)) in (
+        record {
+          rooted = record { kind = kind; levels = suc levels; tree = deeper levels n fresh };
+          trunks = took.0;
+          chain = n.chain;
+          put = subst (λ (first : ℕ). IsRootPut sizes kind levels before new (record { kind = kind; levels = suc levels; tree = deeper levels n fresh }) first after.bytes n.chain took.0) s.first
+              (subst (λ (bytes : ℕ). IsRootPut sizes kind levels before new (record { kind = kind; levels = suc levels; tree = deeper levels n fresh }) n.first bytes n.chain took.0) s.bytes rises);
+        },
+        ap (λ (l : List Member). flat_map (λ (child : TreeOf levels × TreeCell). list_of kind levels child.0 ++ between kind child.1) n.siblings ++ l) (moved-list sizes kind levels fresh home) ∙ s.list,
+      )
 
   -- the same where no sibling stands beside it yet
   settled-done : (dividers : List Spelled) (levels : ℕ) (before : Before levels) (after : After levels) (cells : List Spelled) (right : ℕ) (new : Paged) → IsFree sizes after.base after.trunks
       → IsOpened sizes kind levels before after → after.siblings ≡ [] → cells ≡ map spelled (own_cells levels after.home) → right ≡ own_right levels after.home
-      → IsSettled sizes levels kind (page_of levels after.home) right cells after.base new dividers → PutDone sizes kind levels before new dividers after.first after.bytes
+      → IsSettled sizes levels kind (page_of levels after.home) right cells after.base new dividers
+      → ListedPut levels before new dividers after.first after.bytes (list_beside kind levels after.siblings after.home)
   settled-done dividers levels before after cells right new free o none same right_is done =
-      let grown = settled dividers levels before after cells right new free o same right_is done in
-      record {
-        siblings = grown.siblings;
-        home = grown.home;
-        trunks = grown.trunks;
-        chain = grown.chain;
-        put = grown.put;
-        dividers_are = grown.dividers_are ∙ ap (λ (s : List (TreeOf levels × TreeCell)). map spelled (cells_behind s) ++ dividers) none;
-      }
+      let grown = settled dividers levels before after cells right new free o same right_is done in (
+        record {
+          siblings = grown.siblings;
+          home = grown.home;
+          trunks = grown.trunks;
+          chain = grown.chain;
+          put = grown.put;
+          dividers_are = grown.dividers_are ∙ ap (λ (s : List (TreeOf levels × TreeCell)). map spelled (cells_behind s) ++ dividers) none;
+        },
+        grown.list,
+      )
 
   -- A put that is done but for a page that is to have these cells and this right child, whose tree it is in.
   pub record HasOpened (levels : ℕ) (before : Before levels) (cells : List Spelled) (right first bytes : ℕ) (base : Paged) : Type 0 where
@@ -412,37 +431,46 @@ module _ (sizes : Sizes) (kind : TreeKind) where
     pub cells_are : cells ≡ map spelled (own_cells levels after.home)
     pub right_is : right ≡ own_right levels after.home
 
+  -- Where no sibling came, a root has what its page has.
+  pub root-done : (levels : ℕ) (before : Before levels) (new : Paged) (first bytes : ℕ) (members : List Member) → ListedPut levels before new [] first bytes members → ListedRoot levels before new first bytes members
+  root-done levels before new first bytes members (done, list) =
+      let none : done.siblings ≡ [] =
+      none-map (λ (child : TreeOf levels × TreeCell). spelled child.1) done.siblings (sym (map-map spelled (λ (child : TreeOf levels × TreeCell). child.1) done.siblings) ∙ done.dividers_are) in (
+        record {
+          rooted = record { kind = kind; levels = levels; tree = done.home };
+          trunks = done.trunks;
+          chain = done.chain;
+          put = put-stays sizes kind levels before (record { base = new; siblings = done.siblings; home = done.home; trunks = done.trunks; first = first; bytes = bytes; chain = done.chain }) done.put none;
+        },
+        sym (ap (λ (s : List (TreeOf levels × TreeCell)). list_beside kind levels s done.home) none) ∙ list,
+      )
+
   -- its page is settled
   pub opened-settled : (levels page : ℕ) (before : Before levels) (cells : List Spelled) (right first bytes : ℕ) (base new : Paged) (dividers : List Spelled) → page_of levels before.tree ≡ page
-      → HasOpened levels before cells right first bytes base → IsSettled sizes levels kind page right cells base new dividers → PutDone sizes kind levels before new dividers first bytes
+      → (o : HasOpened levels before cells right first bytes base) → IsSettled sizes levels kind page right cells base new dividers
+      → ListedPut levels before new dividers first bytes (list_beside kind levels o.after.siblings o.after.home)
   opened-settled levels page before cells right first bytes base new dividers is o settle =
-      subst (λ (f : ℕ). PutDone sizes kind levels before new dividers f bytes) o.first_is
-      (subst (λ (b : ℕ). PutDone sizes kind levels before new dividers o.after.first b) o.bytes_is
+      let members = list_beside kind levels o.after.siblings o.after.home in
+      subst (λ (f : ℕ). ListedPut levels before new dividers f bytes members) o.first_is
+      (subst (λ (b : ℕ). ListedPut levels before new dividers o.after.first b members) o.bytes_is
       (settled-done dividers levels before o.after cells right new o.free o.opened o.none o.cells_are o.right_is
       (subst⁻¹ (λ (p : ℕ). IsSettled sizes levels kind p right cells o.after.base new dividers) (o.opened.page ∙ is)
       (subst⁻¹ (λ (b : Paged). IsSettled sizes levels kind page right cells b new dividers) o.base_is settle))))
 
   -- or its page is a root's, which keeps its cells, or from which they are moved out
   pub opened-rooted : (levels root : ℕ) (before : Before levels) (cells : List Spelled) (right first bytes : ℕ) (base new : Paged) → page_of levels before.tree ≡ root
-      → HasOpened levels before cells right first bytes base → IsRooted sizes levels kind root right cells base new → RootDone sizes kind levels before new first bytes
+      → (o : HasOpened levels before cells right first bytes base) → IsRooted sizes levels kind root right cells base new
+      → ListedRoot levels before new first bytes (list_beside kind levels o.after.siblings o.after.home)
   opened-rooted levels root before cells right first bytes base new is o rooted =
-      elim rooted as (λ _. RootDone sizes kind levels before new first bytes) [
-        | inl settle ↦ done-stays (opened-settled levels root before cells right first bytes base new [] is o settle)
+      let members = list_beside kind levels o.after.siblings o.after.home in
+      elim rooted as (λ _. ListedRoot levels before new first bytes members) [
+        | inl settle ↦ root-done levels before new first bytes members (opened-settled levels root before cells right first bytes base new [] is o settle)
         | inr out ↦
-            subst (λ (f : ℕ). RootDone sizes kind levels before new f bytes) o.first_is
-            (subst (λ (b : ℕ). RootDone sizes kind levels before new o.after.first b) o.bytes_is
+            subst (λ (f : ℕ). ListedRoot levels before new f bytes members) o.first_is
+            (subst (λ (b : ℕ). ListedRoot levels before new o.after.first b members) o.bytes_is
             (moved-out levels before o.after root right cells new o.free o.opened o.none (o.opened.page ∙ is) o.cells_are o.right_is
             (subst⁻¹ (λ (b : Paged). IsMovedOut sizes levels kind root right cells b new) o.base_is out)))
       ]
-    where
-      done-stays : PutDone sizes kind levels before new [] first bytes → RootDone sizes kind levels before new first bytes
-      done-stays done = record {
-        rooted = record { kind = kind; levels = levels; tree = done.home };
-        trunks = done.trunks;
-        chain = done.chain;
-        put = put-stays sizes kind levels before (record { base = new; siblings = done.siblings; home = done.home; trunks = done.trunks; first = first; bytes = bytes; chain = done.chain }) done.put
-            (none-map (λ (child : TreeOf levels × TreeCell). spelled child.1) done.siblings (sym (map-map spelled (λ (child : TreeOf levels × TreeCell). child.1) done.siblings) ∙ done.dividers_are));
-      }
 
   -- An interior page.
 
@@ -487,33 +515,60 @@ module _ (sizes : Sizes) (kind : TreeKind) where
         held = ready.held;
       }
 
+  -- the tree at an interior page, by the cells that were read of it: its children, and the child at a place
+  pub record HasChildAt (levels : ℕ) (tree : TreeOf (suc levels)) (base : Paged) (cells : List Spelled) (right at : ℕ) : Type 0 where
+    pub cells_are : cells ≡ map spelled (cells_behind tree.children)
+    pub right_is : right ≡ page_of levels tree.last
+    pub child_is : page_of levels (child_at at tree.children tree.last) ≡ child_page at cells right
+
+  pub child-told : (levels page : ℕ) (tree : TreeOf (suc levels)) (base : Paged) (cells : List Spelled) (right at : ℕ) → page_of (suc levels) tree ≡ page → HasCells sizes base (interior_kind kind) page cells right
+      → Stands sizes base kind (suc levels) tree → HasChildAt levels tree base cells right at
+  child-told levels page tree base cells right at is has stands =
+      let told = page-tells sizes base kind (suc levels) page tree cells right is has stands in
+      record {
+        cells_are = told.0;
+        right_is = told.1;
+        child_is = child-page base levels at tree.children tree.last stands.1.0
+            ∙ sym (ap (λ (cs : List Spelled). child_page at cs right) told.0 ∙ ap (λ (r : ℕ). child_page at (map spelled (cells_behind tree.children)) r) told.1);
+      }
+
   -- A put below the child at the place where the cell belongs leaves the page, which is to have the dividers that came.
+  pub child-opened : (levels : ℕ) (before : Before (suc levels)) (cells : List Spelled) (right at : ℕ) (between : Paged) (grew : List Spelled) (first bytes : ℕ) → HasChildAt levels before.tree before.base cells right at
+      → at ≤ length cells → (kind ≡ Table → Belongs before.cell.view.rowid at (views_in cells)) → IsFree sizes before.base before.trunks → IsReady sizes kind (suc levels) before
+      → (done : PutDone sizes kind levels (child_before levels before at) between grew first bytes)
+      → (o : HasOpened (suc levels) before (with_dividers cells at grew) right first bytes between)
+      × (list_beside kind (suc levels) o.after.siblings o.after.home
+      ≡ list_beside kind levels (children_with at before.tree.children done.siblings done.home) (last_with at before.tree.children before.tree.last done.home))
+  child-opened levels before cells right at between grew first bytes told within here free ready done =
+      let tree = before.tree in
+      let few : at ≤ length tree.children = omega (arith, within, ap length told.cells_are, cells-many tree.children) in
+      let after : After levels = record { base = between; siblings = done.siblings; home = done.home; trunks = done.trunks; first = first; bytes = bytes; chain = done.chain } in
+      let place = λ (table : kind ≡ Table). subst (λ (views : List CellView). Belongs before.cell.view.rowid at views) (ap views_in told.cells_are ∙ views-of (cells_behind tree.children)) (here table) in (
+        record {
+          after = interior_after levels before at after;
+          base_is = refl;
+          first_is = refl;
+          bytes_is = refl;
+          free = done.put.opened.turns.freelist free;
+          opened = put-above sizes kind levels before at after ready.within ready.stands place done.put;
+          none = refl;
+          cells_are = ap (λ (cs : List Spelled). with_dividers cs at grew) told.cells_are
+              ∙ ap (λ (ds : List Spelled). with_dividers (map spelled (cells_behind tree.children)) at ds) (sym done.dividers_are)
+              ∙ dividers-put at tree.children done.siblings done.home few;
+          right_is = told.right_is ∙ right-same levels at tree.children tree.last done.home done.put.opened.page;
+        },
+        refl,
+      )
+
   pub interior-opened : (levels page : ℕ) (cell : Spelled) (old : Paged) (cells : List Spelled) (right at : ℕ) (between : Paged) (grew : List Spelled) (first bytes : ℕ) (tree : TreeOf (suc levels))
       (trunks : List Trunk) (payload chain : List ℕ) → HasCells sizes old (interior_kind kind) page cells right → at ≤ length cells → (kind ≡ Table → Belongs cell.view.rowid at (views_in cells))
       → PutBelow sizes kind levels (child_page at cells right) cell old between grew first bytes → page_of (suc levels) tree ≡ page → IsFree sizes old trunks
       → IsReady sizes kind (suc levels) (before_at old tree trunks cell payload chain) → HasOpened (suc levels) (before_at old tree trunks cell payload chain) (with_dividers cells at grew) right first bytes between
   interior-opened levels page cell old cells right at between grew first bytes tree trunks payload chain has within here put is free ready =
       let before : Before (suc levels) = before_at old tree trunks cell payload chain in
-      let told = page-tells sizes old kind (suc levels) page tree cells right is has ready.stands in
-      let few : at ≤ length tree.children = omega (arith, within, ap length told.0, cells-many tree.children) in
-      let child : page_of levels (child_at at tree.children tree.last) ≡ child_page at cells right =
-      child-page old levels at tree.children tree.last ready.stands.1.0 ∙ sym (ap (λ (cs : List Spelled). child_page at cs right) told.0 ∙ ap (λ (r : ℕ). child_page at (map spelled (cells_behind tree.children)) r) told.1) in
-      let done = put (child_at at tree.children tree.last) trunks payload chain child free (child-ready levels before at ready) in
-      let after : After levels = record { base = between; siblings = done.siblings; home = done.home; trunks = done.trunks; first = first; bytes = bytes; chain = done.chain } in
-      let place = λ (table : kind ≡ Table). subst (λ (views : List CellView). Belongs cell.view.rowid at views) (ap views_in told.0 ∙ views-of (cells_behind tree.children)) (here table) in
-      record {
-        after = interior_after levels before at after;
-        base_is = refl;
-        first_is = refl;
-        bytes_is = refl;
-        free = done.put.opened.turns.freelist free;
-        opened = put-above sizes kind levels before at after ready.within ready.stands place done.put;
-        none = refl;
-        cells_are = ap (λ (cs : List Spelled). with_dividers cs at grew) told.0
-            ∙ ap (λ (ds : List Spelled). with_dividers (map spelled (cells_behind tree.children)) at ds) (sym done.dividers_are)
-            ∙ dividers-put at tree.children done.siblings done.home few;
-        right_is = told.1 ∙ right-same levels at tree.children tree.last done.home done.put.opened.page;
-      }
+      let told = child-told levels page tree old cells right at is has ready.stands in
+      let done = put (child_at at tree.children tree.last) trunks payload chain told.child_is free (child-ready levels before at ready) in
+      (child-opened levels before cells right at between grew first bytes told within here free ready done).0
 
   -- A put below the child at the place where the cell belongs, and the page with the dividers that came, is a put below the page.
   pub interior-step : (levels page : ℕ) (cell : Spelled) (old : Paged) (cells : List Spelled) (right at : ℕ) (between : Paged) (grew : List Spelled) (first bytes : ℕ) (new : Paged) (dividers : List Spelled)
@@ -521,8 +576,8 @@ module _ (sizes : Sizes) (kind : TreeKind) where
       → PutBelow sizes kind levels (child_page at cells right) cell old between grew first bytes
       → IsSettled sizes (suc levels) kind page right (with_dividers cells at grew) between new dividers → PutBelow sizes kind (suc levels) page cell old new dividers first bytes
   interior-step levels page cell old cells right at between grew first bytes new dividers has within here put settle tree trunks payload chain is free ready =
-      opened-settled (suc levels) page (before_at old tree trunks cell payload chain) (with_dividers cells at grew) right first bytes between new dividers is
-      (interior-opened levels page cell old cells right at between grew first bytes tree trunks payload chain has within here put is free ready) settle
+      (opened-settled (suc levels) page (before_at old tree trunks cell payload chain) (with_dividers cells at grew) right first bytes between new dividers is
+      (interior-opened levels page cell old cells right at between grew first bytes tree trunks payload chain has within here put is free ready) settle).0
 
   children-alone : {Child : Type 0} (i : ℕ) (children : List (Child × TreeCell)) (home : Child) → cells_behind (children_with i children [] home) ≡ cells_behind children
   children-alone i [] home = refl
@@ -530,49 +585,57 @@ module _ (sizes : Sizes) (kind : TreeKind) where
   children-alone (suc i) (child ∷ children) home = ap (λ (l : List TreeCell). child.1 ∷ l) (children-alone i children home)
 
   -- Where no sibling came, the page stays as it is.
-  pub interior-untouched : (levels page : ℕ) (cell : Spelled) (old : Paged) (cells : List Spelled) (right at : ℕ) (new : Paged) (first bytes : ℕ) → HasCells sizes old (interior_kind kind) page cells right
-      → (kind ≡ Table → Belongs cell.view.rowid at (views_in cells)) → PutBelow sizes kind levels (child_page at cells right) cell old new [] first bytes
-      → PutBelow sizes kind (suc levels) page cell old new [] first bytes
-  interior-untouched levels page cell old cells right at new first bytes has here put tree trunks payload chain is free ready =
-      let before : Before (suc levels) = before_at old tree trunks cell payload chain in
-      let told = page-tells sizes old kind (suc levels) page tree cells right is has ready.stands in
+  pub child-untouched : (levels : ℕ) (before : Before (suc levels)) (cells : List Spelled) (right at : ℕ) (new : Paged) (first bytes : ℕ) → HasChildAt levels before.tree before.base cells right at
+      → (kind ≡ Table → Belongs before.cell.view.rowid at (views_in cells)) → IsReady sizes kind (suc levels) before → (done : PutDone sizes kind levels (child_before levels before at) new [] first bytes)
+      → ListedPut (suc levels) before new [] first bytes (list_beside kind levels (children_with at before.tree.children done.siblings done.home) (last_with at before.tree.children before.tree.last done.home))
+  child-untouched levels before cells right at new first bytes told here ready done =
+      let tree = before.tree in
+      let old = before.base in
       let child_tree = child_at at tree.children tree.last in
-      let child : page_of levels child_tree ≡ child_page at cells right =
-      child-page old levels at tree.children tree.last ready.stands.1.0 ∙ sym (ap (λ (cs : List Spelled). child_page at cs right) told.0 ∙ ap (λ (r : ℕ). child_page at (map spelled (cells_behind tree.children)) r) told.1) in
-      let done = put child_tree trunks payload chain child free (child-ready levels before at ready) in
       let none : done.siblings ≡ [] = none-behind done.siblings done.dividers_are in
       let after : After levels = record { base = new; siblings = done.siblings; home = done.home; trunks = done.trunks; first = first; bytes = bytes; chain = done.chain } in
-      let place = λ (table : kind ≡ Table). subst (λ (views : List CellView). Belongs cell.view.rowid at views) (ap views_in told.0 ∙ views-of (cells_behind tree.children)) (here table) in
+      let place = λ (table : kind ≡ Table). subst (λ (views : List CellView). Belongs before.cell.view.rowid at views) (ap views_in told.cells_are ∙ views-of (cells_behind tree.children)) (here table) in
       let opened = put-above sizes kind levels before at after ready.within ready.stands place done.put in
-      let keeps : Keeps (tree.page ∷ []) old new = Turns-keeps sizes old new (hand_before (child_before levels before at)) (hand_after after) trunks done.trunks (tree.page ∷ [])
+      let keeps : Keeps (tree.page ∷ []) old new = Turns-keeps sizes old new (hand_before (child_before levels before at)) (hand_after after) before.trunks done.trunks (tree.page ∷ [])
       (λ n.
       omega (
         arith,
         ready.within n,
         child-within n levels at tree.children tree.last,
-        times-append n (pages_of (suc levels) tree) chain,
-        times-append n (pages_of levels child_tree) chain,
+        times-append n (pages_of (suc levels) tree) before.cell.chain,
+        times-append n (pages_of levels child_tree) before.cell.chain,
       )) done.put.opened.turns in
       let own = own-kept sizes old new kind (suc levels) tree (keeps-first old new tree.page [] keeps) ready.stands.0 in
       let cells_same : cells_behind (children_with at tree.children done.siblings done.home) ≡ cells_behind tree.children =
-      ap (λ (s : List (TreeOf levels × TreeCell)). cells_behind (children_with at tree.children s done.home)) none ∙ children-alone at tree.children done.home in
-      record {
-        siblings = [];
-        home = interior_with levels tree at done.siblings done.home;
-        trunks = done.trunks;
-        chain = done.chain;
-        put = record {
-          opened = opened;
-          own = subst⁻¹ (λ (cs : List TreeCell). IsPage (new.pages tree.page) tree.page sizes.usable (interior_kind kind) (map (λ (c : TreeCell). c.bytes) cs) (page_of levels (last_with at tree.children tree.last done.home))) cells_same
-              (subst (λ (r : ℕ). IsPage (new.pages tree.page) tree.page sizes.usable (interior_kind kind) (map (λ (c : TreeCell). c.bytes) (cells_behind tree.children)) r)
-              (right-same levels at tree.children tree.last done.home done.put.opened.page) own);
-        };
-        dividers_are = refl;
-      }
+      ap (λ (s : List (TreeOf levels × TreeCell)). cells_behind (children_with at tree.children s done.home)) none ∙ children-alone at tree.children done.home in (
+        record {
+          siblings = [];
+          home = interior_with levels tree at done.siblings done.home;
+          trunks = done.trunks;
+          chain = done.chain;
+          put = record {
+            opened = opened;
+            own = subst⁻¹ (λ (cs : List TreeCell). IsPage (new.pages tree.page) tree.page sizes.usable (interior_kind kind) (map (λ (c : TreeCell). c.bytes) cs) (page_of levels (last_with at tree.children tree.last done.home))) cells_same
+                (subst (λ (r : ℕ). IsPage (new.pages tree.page) tree.page sizes.usable (interior_kind kind) (map (λ (c : TreeCell). c.bytes) (cells_behind tree.children)) r)
+                (right-same levels at tree.children tree.last done.home done.put.opened.page) own);
+          };
+          dividers_are = refl;
+        },
+        refl,
+      )
     where
       none-behind : {Child : Type 0} (children : List (Child × TreeCell)) → map spelled (cells_behind children) ≡ [] → children ≡ []
       none-behind [] e = refl
       none-behind (child ∷ children) e = absurd (let h : ⊥ = cc in h)
+
+  pub interior-untouched : (levels page : ℕ) (cell : Spelled) (old : Paged) (cells : List Spelled) (right at : ℕ) (new : Paged) (first bytes : ℕ) → HasCells sizes old (interior_kind kind) page cells right
+      → (kind ≡ Table → Belongs cell.view.rowid at (views_in cells)) → PutBelow sizes kind levels (child_page at cells right) cell old new [] first bytes
+      → PutBelow sizes kind (suc levels) page cell old new [] first bytes
+  interior-untouched levels page cell old cells right at new first bytes has here put tree trunks payload chain is free ready =
+      let before : Before (suc levels) = before_at old tree trunks cell payload chain in
+      let told = child-told levels page tree old cells right at is has ready.stands in
+      let done = put (child_at at tree.children tree.last) trunks payload chain told.child_is free (child-ready levels before at ready) in
+      (child-untouched levels before cells right at new first bytes told here ready done).0
 
   -- A root.
 
@@ -581,13 +644,7 @@ module _ (sizes : Sizes) (kind : TreeKind) where
   root-step levels root cell old new first bytes put tree trunks payload chain is free ready =
       let before : Before levels = before_at old tree trunks cell payload chain in
       let done = put tree trunks payload chain is free ready in
-      let after : After levels = record { base = new; siblings = done.siblings; home = done.home; trunks = done.trunks; first = first; bytes = bytes; chain = done.chain } in
-      record {
-        rooted = record { kind = kind; levels = levels; tree = done.home };
-        trunks = done.trunks;
-        chain = done.chain;
-        put = put-stays sizes kind levels before after done.put (none-map (λ (child : TreeOf levels × TreeCell). spelled child.1) done.siblings (sym (map-map spelled (λ (child : TreeOf levels × TreeCell). child.1) done.siblings) ∙ done.dividers_are));
-      }
+      (root-done levels before new first bytes (list_beside kind levels done.siblings done.home) (done, refl)).0
 
   -- Where siblings came, the root gets a level more.
   pub root-deepens : (levels root : ℕ) (cell : Spelled) (old between new : Paged) (dividers : List Spelled) (first bytes : ℕ) → PutBelow sizes kind levels root cell old between dividers first bytes
@@ -670,31 +727,39 @@ index-map f (y ∷ ys) zero d = refl
 index-map f (y ∷ ys) (suc i) d = index-map f ys i d
 
 -- A cell put among the cells of a leaf of an index leaves the leaf, which is to have them.
+pub entry-opens : (sizes : Sizes) (before : Before zero) (page : ℕ) (cells : List Spelled) (right at : ℕ) → HasCells sizes before.base (leaf_kind Index) page cells right → at ≤ length cells → page_of zero before.tree ≡ page
+    → IsFree sizes before.base before.trunks → IsReady sizes Index zero before
+    → (o : HasOpened sizes Index zero before (insert cells at (spelled before.cell)) 0 0 0 before.base) × (list_beside Index zero o.after.siblings o.after.home ≡ map member (insert before.tree.cells at before.cell))
+entry-opens sizes before page cells right at has within is free ready =
+    let tree = before.tree in
+    let told = page-tells sizes before.base Index zero page tree cells right is has ready.stands in
+    let few : at ≤ length tree.cells = omega (arith, within, ap length told.0, length-of spelled tree.cells) in (
+      record {
+        after = leaf_after before (insert tree.cells at before.cell) 0 0 [];
+        base_is = refl;
+        first_is = refl;
+        bytes_is = refl;
+        free = free;
+        opened = leaf-inserted sizes Index before at ready few (λ table. absurd (let h : ⊥ = cc in h));
+        none = refl;
+        cells_are = ap (λ (cs : List Spelled). insert cs at (spelled before.cell)) told.0 ∙ insert-map spelled tree.cells at before.cell few;
+        right_is = refl;
+      },
+      refl,
+    )
+
 entry-opened : (sizes : Sizes) (page : ℕ) (cell : Spelled) (old : Paged) (cells : List Spelled) (right at : ℕ) (tree : TreeOf zero) (trunks : List Trunk) (payload chain : List ℕ)
     → HasCells sizes old (leaf_kind Index) page cells right → at ≤ length cells → page_of zero tree ≡ page → IsFree sizes old trunks
     → IsReady sizes Index zero (before_at old tree trunks cell payload chain) → HasOpened sizes Index zero (before_at old tree trunks cell payload chain) (insert cells at cell) 0 0 0 old
 entry-opened sizes page cell old cells right at tree trunks payload chain has within is free ready =
-    let before : Before zero = before_at old tree trunks cell payload chain in
-    let told = page-tells sizes old Index zero page tree cells right is has ready.stands in
-    let few : at ≤ length tree.cells = omega (arith, within, ap length told.0, length-of spelled tree.cells) in
-    record {
-      after = leaf_after before (insert tree.cells at before.cell) 0 0 [];
-      base_is = refl;
-      first_is = refl;
-      bytes_is = refl;
-      free = free;
-      opened = leaf-inserted sizes Index before at ready few (λ table. absurd (let h : ⊥ = cc in h));
-      none = refl;
-      cells_are = ap (λ (cs : List Spelled). insert cs at cell) told.0 ∙ insert-map spelled tree.cells at before.cell few;
-      right_is = refl;
-    }
+    (entry-opens sizes (before_at old tree trunks cell payload chain) page cells right at has within is free ready).0
 
 -- A cell put among the cells of an index's leaf, which are then settled.
 pub entry-step : (sizes : Sizes) (page : ℕ) (cell : Spelled) (old : Paged) (cells : List Spelled) (right at : ℕ) (new : Paged) (dividers : List Spelled) → HasCells sizes old (leaf_kind Index) page cells right
     → at ≤ length cells → IsSettled sizes zero Index page 0 (insert cells at cell) old new dividers → PutBelow sizes Index zero page cell old new dividers 0 0
 entry-step sizes page cell old cells right at new dividers has within settle tree trunks payload chain is free ready =
-    opened-settled sizes Index zero page (before_at old tree trunks cell payload chain) (insert cells at cell) 0 0 0 old new dividers is
-    (entry-opened sizes page cell old cells right at tree trunks payload chain has within is free ready) settle
+    (opened-settled sizes Index zero page (before_at old tree trunks cell payload chain) (insert cells at cell) 0 0 0 old new dividers is
+    (entry-opened sizes page cell old cells right at tree trunks payload chain has within is free ready) settle).0
 
 -- A cell put among the cells of a leaf of a table, or in place of the one of its rowid, leaves the leaf, which is to have them.
 leaf-opened : (sizes : Sizes) (page : ℕ) (cell : Spelled) (old : Paged) (cells : List Spelled) (right : ℕ) (edited : List Spelled) (first bytes : ℕ) (tree : TreeOf zero) (trunks : List Trunk) (payload chain : List ℕ)
@@ -743,8 +808,8 @@ pub leaf-step : (sizes : Sizes) (page : ℕ) (cell : Spelled) (old : Paged) (cel
     → HasCells sizes old (leaf_kind Table) page cells right → IsLeafEdit cells cell edited first bytes → IsSettled sizes zero Table page 0 edited old new dividers
     → PutBelow sizes Table zero page cell old new dividers first bytes
 leaf-step sizes page cell old cells right edited first bytes new dividers has edit settle tree trunks payload chain is free ready =
-    opened-settled sizes Table zero page (before_at old tree trunks cell payload chain) edited 0 first bytes old new dividers is
-    (leaf-opened sizes page cell old cells right edited first bytes tree trunks payload chain has edit is free ready) settle
+    (opened-settled sizes Table zero page (before_at old tree trunks cell payload chain) edited 0 first bytes old new dividers is
+    (leaf-opened sizes page cell old cells right edited first bytes tree trunks payload chain has edit is free ready) settle).0
 
 -- A root, whatever levels its tree has.
 
@@ -752,8 +817,8 @@ leaf-step sizes page cell old cells right edited first bytes new dividers has ed
 pub leaf-rooted : (sizes : Sizes) (root : ℕ) (cell : Spelled) (old : Paged) (cells : List Spelled) (right : ℕ) (edited : List Spelled) (first bytes : ℕ) (new : Paged)
     → HasCells sizes old (leaf_kind Table) root cells right → IsLeafEdit cells cell edited first bytes → IsRooted sizes zero Table root 0 edited old new → PutInto sizes Table root cell old new first bytes
 leaf-rooted sizes root cell old cells right edited first bytes new has edit rooted zero tree trunks payload chain is free ready =
-    opened-rooted sizes Table zero root (before_at old tree trunks cell payload chain) edited 0 first bytes old new is
-    (leaf-opened sizes root cell old cells right edited first bytes tree trunks payload chain has edit is free ready) rooted
+    (opened-rooted sizes Table zero root (before_at old tree trunks cell payload chain) edited 0 first bytes old new is
+    (leaf-opened sizes root cell old cells right edited first bytes tree trunks payload chain has edit is free ready) rooted).0
 leaf-rooted sizes root cell old cells right edited first bytes new has edit rooted (suc levels) tree trunks payload chain is free ready =
     absurd (none-suc sizes Table levels (leaf-levels sizes old Table (suc levels) root tree (bytes_in cells) right is has.is_page ready.stands.0))
 
@@ -765,8 +830,8 @@ pub interior-rooted : (sizes : Sizes) (kind : TreeKind) (root : ℕ) (cell : Spe
 interior-rooted sizes kind root cell old cells right at between grew first bytes new has within here put rooted zero tree trunks payload chain is free ready =
     absurd (interior-levels sizes old kind zero root tree (bytes_in cells) right is has.is_page ready.stands.0 refl)
 interior-rooted sizes kind root cell old cells right at between grew first bytes new has within here put rooted (suc levels) tree trunks payload chain is free ready =
-    opened-rooted sizes kind (suc levels) root (before_at old tree trunks cell payload chain) (with_dividers cells at grew) right first bytes between new is
-    (interior-opened sizes kind levels root cell old cells right at between grew first bytes tree trunks payload chain has within here (put levels) is free ready) (rooted levels)
+    (opened-rooted sizes kind (suc levels) root (before_at old tree trunks cell payload chain) (with_dividers cells at grew) right first bytes between new is
+    (interior-opened sizes kind levels root cell old cells right at between grew first bytes tree trunks payload chain has within here (put levels) is free ready) (rooted levels)).0
 
 -- or it stays as it is, where no divider came
 pub interior-stays : (sizes : Sizes) (kind : TreeKind) (root : ℕ) (cell : Spelled) (old : Paged) (cells : List Spelled) (right at : ℕ) (new : Paged) (first bytes : ℕ)

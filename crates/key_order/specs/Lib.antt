@@ -1,0 +1,3 @@
+pub mod Orders
+pub mod OrdersLaws
+pub mod Fields

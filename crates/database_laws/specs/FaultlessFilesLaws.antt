@@ -249,36 +249,36 @@ walk-entries subject index rows e before (Disorders page ∷ findings) right = a
 walk-entries subject index rows e before (Bares page ∷ findings) right = absurd right.0
 
 module _ (index : Index) where
-  abbrev order : List (Collation × Bool)
+  abbrev pub order : List (Collation × Bool)
   order = order_of index
 
   -- an entry with a value for each column and a rowid
-  abbrev HasRowid : List Value → Type 0
+  abbrev pub HasRowid : List Value → Type 0
   HasRowid entry = (length order ≤ length entry) × ((rowid : ℤ) × (last_value order entry ≡ Int rowid))
 
   by_entry-same : (a b : List Value) → HasRowid a → HasRowid b → entry_cmp order a b ≡ by_entry index a b
   by_entry-same a b p q = ap (λ (o : Ordering). ordering_then o (value_cmp Binary (last_value order a) (last_value order b))) (padded-same order a b p.0 q.0)
 
-  before-then : (a b c : List Value) → HasRowid a → HasRowid b → HasRowid c → IsBefore index a b → IsBefore index b c → IsBefore index a c
+  pub before-then : (a b c : List Value) → HasRowid a → HasRowid b → HasRowid c → IsBefore index a b → IsBefore index b c → IsBefore index a c
   before-then a b c p q r less more =
       by_entry-same a c p r ∙ (by_entry-total index).trans a b c (sym (by_entry-same a b p q) ∙ less) (sym (by_entry-same b c q r) ∙ more)
 
   columns-long : length order ≡ length index.columns
   columns-long = length-map index.columns (λ (column : ℕ × Collation × Bool). (column.1, column.2))
 
-  member-long : (member : Member) (entry : List Value) → IsEntry index member entry → HasRowid entry
+  pub member-long : (member : Member) (entry : List Value) → IsEntry index member entry → HasRowid entry
   member-long member entry is = (omega (arith, is.many, columns-long), (is.rowid, is.last))
 
-  row-long : (row : TableRow) → HasRowid (entry_of index row)
+  pub row-long : (row : TableRow) → HasRowid (entry_of index row)
   row-long row = (entry-long index row, (row.rowid, last-is index row))
 
-  entries-long : (members : List Member) (entries : List (List Value)) → AllZip (IsEntry index) members entries → AllByRecursion HasRowid entries
+  pub entries-long : (members : List Member) (entries : List (List Value)) → AllZip (IsEntry index) members entries → AllByRecursion HasRowid entries
   entries-long [] [] zip = tt
   entries-long [] (e ∷ entries) zip = absurd zip
   entries-long (m ∷ members) [] zip = absurd zip
   entries-long (m ∷ members) (e ∷ entries) zip = (member-long m e zip.0, entries-long members entries zip.1)
 
-  entries-decode : (members : List Member) (entries : List (List Value)) → AllZip (IsEntry index) members entries → AllZip (λ member entry. IsRecord member.payload entry) members entries
+  pub entries-decode : (members : List Member) (entries : List (List Value)) → AllZip (IsEntry index) members entries → AllZip (λ member entry. IsRecord member.payload entry) members entries
   entries-decode [] [] zip = tt
   entries-decode [] (e ∷ entries) zip = absurd zip
   entries-decode (m ∷ members) [] zip = absurd zip

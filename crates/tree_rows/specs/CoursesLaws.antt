@@ -50,7 +50,7 @@ no_overflow local payload bytes overflow none long is =
     is ∙ ap (λ (b : List ℕ). big_number (length b) b) empty
 
 -- a cell whose payload lies in it whole names no overflow page
-overflow-none : (kind : PageKind) (usable : ℕ) (bytes : List ℕ) (view : CellView) → IsCell kind usable bytes view → view.payload - view.local ≡ 0 → view.overflow ≡ 0
+pub overflow-none : (kind : PageKind) (usable : ℕ) (bytes : List ℕ) (view : CellView) → IsCell kind usable bytes view → view.payload - view.local ≡ 0 → view.overflow ≡ 0
 overflow-none TableLeaf usable bytes view is none = no_overflow view.local view.payload is.overflow_bytes view.overflow none is.overflow_length is.overflow
 overflow-none TableInterior usable bytes view is none = is.overflow
 overflow-none IndexLeaf usable bytes view is none = no_overflow view.local view.payload is.overflow_bytes view.overflow none is.overflow_length is.overflow
@@ -62,19 +62,19 @@ right-one TableInterior page header right other one two = one ∙ sym two
 right-one IndexLeaf page header right other one two = one ∙ sym two
 right-one IndexInterior page header right other one two = one ∙ sym two
 
-tree_kind-leaf : (kind : TreeKind) → tree_kind (leaf_kind kind) ≡ kind
+pub tree_kind-leaf : (kind : TreeKind) → tree_kind (leaf_kind kind) ≡ kind
 tree_kind-leaf Table = refl
 tree_kind-leaf Index = refl
 
-tree_kind-interior : (kind : TreeKind) → tree_kind (interior_kind kind) ≡ kind
+pub tree_kind-interior : (kind : TreeKind) → tree_kind (interior_kind kind) ≡ kind
 tree_kind-interior Table = refl
 tree_kind-interior Index = refl
 
-is_leaf-leaf : (kind : TreeKind) → is_leaf (leaf_kind kind) ≡ true
+pub is_leaf-leaf : (kind : TreeKind) → is_leaf (leaf_kind kind) ≡ true
 is_leaf-leaf Table = refl
 is_leaf-leaf Index = refl
 
-is_leaf-interior : (kind : TreeKind) → is_leaf (interior_kind kind) ≡ false
+pub is_leaf-interior : (kind : TreeKind) → is_leaf (interior_kind kind) ≡ false
 is_leaf-interior Table = refl
 is_leaf-interior Index = refl
 
@@ -84,7 +84,7 @@ cells_before spots later = record { spots = spots ++ later.spots; damage = later
 
 module _ (sizes : Sizes) (base : Paged) where
   -- a chain that is broken has some bytes
-  torn-some : (kind : PageKind) (bytes : List ℕ) (view : CellView) → IsCell kind sizes.usable bytes view → {at : ℕ}
+  pub torn-some : (kind : PageKind) (bytes : List ℕ) (view : CellView) → IsCell kind sizes.usable bytes view → {at : ℕ}
       → IsBroken base.pages sizes.size sizes.usable base.count view.overflow (view.payload - view.local) at → 0 < view.payload - view.local
   torn-some kind bytes view is {at} is_broken =
       elim (cases_lt 0 (view.payload - view.local)) [
@@ -140,23 +140,23 @@ module _ (sizes : Sizes) (base : Paged) where
     bare-follows false number cells findings later course is = is
 
     -- The cell at an index of a page.
-    record IsSeenAt (page : PageView) (at : ℕ) (cell : Seen) : Type 0 where
-      is_cell : IsCell page.kind sizes.usable cell.0 cell.1
-      get : slice_get page.views at ≡ Some cell.1
-      view_is : (d : CellView) → slice_index_or page.views at d ≡ cell.1
-      stands : part_of page.bytes (cell_place page.bytes page.number page.kind at) (length cell.0) ≡ cell.0
+    pub record IsSeenAt (page : PageView) (at : ℕ) (cell : Seen) : Type 0 where
+      pub is_cell : IsCell page.kind sizes.usable cell.0 cell.1
+      pub get : slice_get page.views at ≡ Some cell.1
+      pub view_is : (d : CellView) → slice_index_or page.views at d ≡ cell.1
+      pub stands : part_of page.bytes (cell_place page.bytes page.number page.kind at) (length cell.0) ≡ cell.0
 
     -- the cells from an index on
-    abbrev AreSeenFrom : PageView → ℕ → List Seen → Type 0
+    abbrev pub AreSeenFrom : PageView → ℕ → List Seen → Type 0
     AreSeenFrom page at [] = length page.views ≤ at
     AreSeenFrom page at (cell ∷ cells) = IsSeenAt page at cell × AreSeenFrom page (suc at) cells
 
     module _ (page : PageView) (kind_is : tree_kind page.kind ≡ kind) (at : ℕ) (cell : Seen) (seen : IsSeenAt page at cell) where
-      same_view : (bytes : List ℕ) (view : CellView) → IsCell page.kind sizes.usable bytes view → bytes ≡ cell.0 → (d : CellView) → slice_index_or page.views at d ≡ view
+      pub same_view : (bytes : List ℕ) (view : CellView) → IsCell page.kind sizes.usable bytes view → bytes ≡ cell.0 → (d : CellView) → slice_index_or page.views at d ≡ view
       same_view bytes view is same d = seen.view_is d ∙ sym (cell-same page.kind sizes.usable bytes cell.0 [] [] view cell.1 is seen.is_cell (ap (λ (s : List ℕ). s ++ []) same)).1
 
       -- a cell that is whole is a member
-      cell-member : (whole : TreeCell) → IsCell page.kind sizes.usable whole.bytes whole.view → whole.bytes ≡ cell.0 → (rest : List ℕ)
+      pub cell-member : (whole : TreeCell) → IsCell page.kind sizes.usable whole.bytes whole.view → whole.bytes ≡ cell.0 → (rest : List ℕ)
           → (inside : IsPayload base.pages sizes.size sizes.usable base.count page at whole.view (part_at page at whole.view ++ rest)) → whole.payload ≡ part_of whole.bytes whole.view.local_at whole.view.local ++ rest
           → IsMember sizes base kind (record { page = page; at = at }) (member whole)
       cell-member whole is same rest inside payload =
@@ -374,7 +374,7 @@ module _ (sizes : Sizes) (base : Paged) where
         seen-from cells (suc at) gets.1 are.1 (λ k low. subst (λ (n : ℕ). StandsAt n (slice_index_or (bytes_seen cells) k [])) (let e : at + suc k ≡ suc at + k = omega arith in e) (stand (suc k) (omega (arith, low)))),
       )
 
-      seen-all : (right : ℕ) → IsAccepted sizes base number page_kind all right → AreSeenFrom its_page 0 all
+      pub seen-all : (right : ℕ) → IsAccepted sizes base number page_kind all right → AreSeenFrom its_page 0 all
       seen-all right is =
           seen-from all 0 (gets-all all) is.views (λ k low.
           subst⁻¹ (λ (n : ℕ). StandsAt n (slice_index_or (bytes_seen all) k [])) (let e : 0 + k ≡ k = omega arith in e)
@@ -414,11 +414,11 @@ module _ (sizes : Sizes) (base : Paged) where
 
     module _ (number : ℕ) (page_kind : PageKind) (cells : List Seen) (right : ℕ) (accepted : IsAccepted sizes base number page_kind cells right) where
       -- what is read of an accepted page
-      record IsReadOf (read : TreePage) : Type 0 where
-        kind_is : read.kind ≡ page_kind
-        views_are : read.views ≡ map (λ (c : Seen). c.1) cells
+      pub record IsReadOf (read : TreePage) : Type 0 where
+        pub kind_is : read.kind ≡ page_kind
+        pub views_are : read.views ≡ map (λ (c : Seen). c.1) cells
 
-      read-of : (read : TreePage) → IsDecoded (base.pages number) number sizes.usable read → IsReadOf read
+      pub read-of : (read : TreePage) → IsDecoded (base.pages number) number sizes.usable read → IsReadOf read
       read-of read decoded =
           let has = decoded.has_views in
           let same = accepted-one sizes base number has.kind page_kind (paired has.cells read.views) cells has.right right (views-accepted number read.views has) accepted in
@@ -427,7 +427,7 @@ module _ (sizes : Sizes) (base : Paged) where
             views_are = sym (paired-views has.cells read.views has.many) ∙ ap (map (λ (c : Seen). c.1)) same.1;
           }
 
-      right-of : (read : TreePage) → IsDecoded (base.pages number) number sizes.usable read → read.right ≡ right
+      pub right-of : (read : TreePage) → IsDecoded (base.pages number) number sizes.usable read → read.right ≡ right
       right-of read decoded =
           right-one page_kind (base.pages number) (header_place number) read.right right
           (subst (λ (k : PageKind). RightChild k (base.pages number) (header_place number) read.right) (read-of read decoded).kind_is decoded.right_is) accepted.is_page.right_child
@@ -490,26 +490,26 @@ module _ (sizes : Sizes) (base : Paged) where
     seen-rowids [] = refl
     seen-rowids (c ∷ cells) = ap (λ (zs : List ℤ). c.1.rowid ∷ zs) (seen-rowids cells)
 
-    to-rising : (k : TreeKind) (bound : Option ℤ) (low high : ℤ) (cells : List Seen) → low_bound bound ≡ low → Rises k bound high (map (λ (c : Seen). c.1) cells) → IsRising k low high cells
+    pub to-rising : (k : TreeKind) (bound : Option ℤ) (low high : ℤ) (cells : List Seen) → low_bound bound ≡ low → Rises k bound high (map (λ (c : Seen). c.1) cells) → IsRising k low high cells
     to-rising Table bound low high cells is rises = subst (λ (l : ℤ). RisesIn l high (map (λ (c : Seen). c.1.rowid) cells)) is (subst (RisesIn (low_bound bound) high) (seen-rowids cells) rises)
     to-rising Index bound low high cells is rises = tt
 
-    of-rising : (k : TreeKind) (bound : Option ℤ) (low high : ℤ) (cells : List Seen) → low_bound bound ≡ low → IsRising k low high cells → Rises k bound high (map (λ (c : Seen). c.1) cells)
+    pub of-rising : (k : TreeKind) (bound : Option ℤ) (low high : ℤ) (cells : List Seen) → low_bound bound ≡ low → IsRising k low high cells → Rises k bound high (map (λ (c : Seen). c.1) cells)
     of-rising Table bound low high cells is rises = subst⁻¹ (RisesIn (low_bound bound) high) (seen-rowids cells) (subst⁻¹ (λ (l : ℤ). RisesIn l high (map (λ (c : Seen). c.1.rowid) cells)) is rises)
     of-rising Index bound low high cells is rises = tt
 
-    empty-none : (root : Bool) (cells : List Seen) → is_empty root cells ≡ true → (root ≡ false) × (map (λ (c : Seen). c.1) cells ≡ [])
+    pub empty-none : (root : Bool) (cells : List Seen) → is_empty root cells ≡ true → (root ≡ false) × (map (λ (c : Seen). c.1) cells ≡ [])
     empty-none false [] is = (refl, refl)
     empty-none false (c ∷ cells) is = absurd (let e : ◌≡◌ {A = Bool} false true = is in let none : ⊥ = cc in none)
     empty-none true cells is = absurd (let e : ◌≡◌ {A = Bool} false true = is in let none : ⊥ = cc in none)
 
-    empty-some : (root : Bool) (cells : List Seen) → is_empty root cells ≡ false → root ≡ false → map (λ (c : Seen). c.1) cells ≢ []
+    pub empty-some : (root : Bool) (cells : List Seen) → is_empty root cells ≡ false → root ≡ false → map (λ (c : Seen). c.1) cells ≢ []
     empty-some false [] is root_is none = let e : ◌≡◌ {A = Bool} true false = is in cc
     empty-some false (c ∷ cells) is root_is none = cc
     empty-some true cells is root_is none = let e : ◌≡◌ {A = Bool} true false = root_is in cc
 
     -- the kinds of a walk's pages
-    kinds-of : (page_kind : PageKind) → tree_kind page_kind ≡ kind → (page_kind ≢ leaf_kind kind) → (page_kind ≢ interior_kind kind) → ⊥
+    pub kinds-of : (page_kind : PageKind) → tree_kind page_kind ≡ kind → (page_kind ≢ leaf_kind kind) → (page_kind ≢ interior_kind kind) → ⊥
     kinds-of page_kind is leaf interior =
         by page_kind (subst⁻¹ (λ (k : TreeKind). page_kind ≢ leaf_kind k) is leaf) (subst⁻¹ (λ (k : TreeKind). page_kind ≢ interior_kind k) is interior)
       where

@@ -20,11 +20,12 @@ mod place;
 mod reading;
 mod seeking;
 
+pub use bounds::is_in_order;
 pub use cursor::Row;
 pub use laws::{no_cell_is_left_past_the_last, standing_trees_have_courses, stores_have_courses};
 pub use page::TreePage;
 pub use path::Cursor;
 pub use payload::read_payload;
-pub use reading::read_page;
+pub use reading::{is_leaf, read_page, tree_kind};
 pub use seeking::index_of;
 pub use tree_spec::{TreeFault, TreeKind};

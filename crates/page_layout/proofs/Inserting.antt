@@ -38,22 +38,15 @@ record IsKept (old new : List ℕ) (number : ℕ) (kind : PageKind) (cells other
   cell : slice_index_or others k [] ≡ slice_index_or cells i []
 
 module _ (old new : List ℕ) (number usable : ℕ) (kind : PageKind) (cells : List (List ℕ)) (right at : ℕ) (cell : List ℕ) (view : CellView)
-    (within : usable ≤ length old) (long : length old ≤ 65536) (was : IsPage old number usable kind cells right) (no_hole : HasNoHole old number usable kind cells) (inside : at ≤ length cells)
-    (is_cell : IsCell kind usable cell view) (room : array_end number kind (length cells + 1) + (rooms cells + cell_room cell) ≤ usable)
-    (puts : PutsCell old new (header_place number) (array_place number kind) (length cells) at (usable - (rooms cells + cell_room cell)) cell) where
-  place : ℕ
-  place = usable - (rooms cells + cell_room cell)
-
+    (within : usable ≤ length old) (long : length old ≤ 65536) (was : IsPage old number usable kind cells right) (inside : at ≤ length cells) (is_cell : IsCell kind usable cell view) (place : ℕ)
+    (room : array_end number kind (length cells + 1) ≤ place) (fits : place + cell_room cell ≤ usable) (below : (k : ℕ) → k < length cells → place + cell_room cell ≤ cell_place old number kind k)
+    (puts : PutsCell old new (header_place number) (array_place number kind) (length cells) at place cell) where
   others : List (List ℕ)
   others = insert cells at cell
 
   length-others : length others ≡ length cells + 1
   unfolding others
   length-others = length-insert cells at cell inside
-
-  rooms-others : rooms others ≡ rooms cells + cell_room cell
-  unfolding others
-  rooms-others = sum_by-insert cell_room cells at cell
 
   IsKept-below : (k : ℕ) → k < at → IsKept old new number kind cells others k k
   unfolding others
@@ -72,7 +65,6 @@ module _ (old new : List ℕ) (number usable : ℕ) (kind : PageKind) (cells : L
   }
 
   place-here : cell_place new number kind at ≡ place
-  unfolding place
   place-here = puts.here
 
   cell-here : slice_index_or others at [] ≡ cell
@@ -83,7 +75,7 @@ module _ (old new : List ℕ) (number usable : ℕ) (kind : PageKind) (cells : L
   IsCellAt-kept : (k i : ℕ) → IsKept old new number kind cells others k i → IsCellAt new number usable kind (length cells + 1) k (slice_index_or others k [])
   IsCellAt-kept k i kept =
       let was_at = was.each i kept.low in
-      let low_end = no_hole i kept.low in
+      let low_end = below i kept.low in
       let its_place = cell_place old number kind i in
       let its_cell = slice_index_or cells i [] in
       let P : List ℕ → Type 0 = λ c. IsCellAt new number usable kind (length cells + 1) k c in
@@ -101,7 +93,6 @@ module _ (old new : List ℕ) (number usable : ℕ) (kind : PageKind) (cells : L
 
   -- the cell that was put in
   IsCellAt-here : IsCellAt new number usable kind (length cells + 1) at (slice_index_or others at [])
-  unfolding place
   IsCellAt-here =
       let P : List ℕ → Type 0 = λ c. IsCellAt new number usable kind (length cells + 1) at c in
       subst⁻¹ P cell-here (record {
@@ -115,7 +106,7 @@ module _ (old new : List ℕ) (number usable : ℕ) (kind : PageKind) (cells : L
   IsCellAt-each : (k : ℕ) → k < length cells + 1 → IsCellAt new number usable kind (length cells + 1) k (slice_index_or others k [])
   IsCellAt-each k low =
       elim (cases_lt k at) [
-        | inl below ↦ IsCellAt-kept k k (IsKept-below k below)
+        | inl lower ↦ IsCellAt-kept k k (IsKept-below k lower)
         | inr not_below ↦ elim (cases_lt at k) [
           | inl above ↦
               let i = k - 1 in
@@ -132,10 +123,9 @@ module _ (old new : List ℕ) (number usable : ℕ) (kind : PageKind) (cells : L
   -- apart from a cell that stood there
   AreApart-here : (k : ℕ) (i : ℕ) → IsKept old new number kind cells others k i
       → AreApart (cell_place new number kind at) (cell_room (slice_index_or others at [])) (cell_place new number kind k) (cell_room (slice_index_or others k []))
-  unfolding place
   AreApart-here k i kept =
       let P : List ℕ → Type 0 = λ c. AreApart (cell_place new number kind at) (cell_room c) (cell_place new number kind k) (cell_room (slice_index_or others k [])) in
-      let low_end = no_hole i kept.low in
+      let low_end = below i kept.low in
       subst⁻¹ P cell-here (inl (omega (arith, place-here, kept.place)))
 
   AreApart-turned : (p m q n : ℕ) → AreApart p m q n → AreApart q n p m
@@ -156,7 +146,7 @@ module _ (old new : List ℕ) (number usable : ℕ) (kind : PageKind) (cells : L
   IsKept-source : (k : ℕ) → k < length cells + 1 → (k ≡ at) ⊎ ((i : ℕ) × (IsKept old new number kind cells others k i × (((k < at) × (i ≡ k)) ⊎ ((at < k) × (i + 1 ≡ k)))))
   IsKept-source k low =
       elim (cases_lt k at) [
-        | inl below ↦ inr (k, (IsKept-below k below, inl (below, refl)))
+        | inl lower ↦ inr (k, (IsKept-below k lower, inl (lower, refl)))
         | inr not_below ↦ elim (cases_lt at k) [
           | inl above ↦
               let i = k - 1 in
@@ -188,7 +178,8 @@ module _ (old new : List ℕ) (number usable : ℕ) (kind : PageKind) (cells : L
       ordered a b (inr p) (inl q) h = omega arith
       ordered a b (inr p) (inr q) h = omega arith
 
-  IsPage-inserted : IsPage new number usable kind others right
+  pub IsPage-inserted : IsPage new number usable kind (insert cells at cell) right
+  unfolding others
   IsPage-inserted =
       let P : ℕ → Type 0 = λ n. (k : ℕ) → k < n → IsCellAt new number usable kind n k (slice_index_or others k []) in
       let Q : ℕ → Type 0 = λ n. (j k : ℕ) → j < k → k < n
@@ -202,23 +193,33 @@ module _ (old new : List ℕ) (number usable : ℕ) (kind : PageKind) (cells : L
       }
 
   -- no cell stands below the new one
-  place-lowest : (k : ℕ) → k < length others → place ≤ cell_place new number kind k
-  unfolding place
+  pub place-lowest : (k : ℕ) → k < length (insert cells at cell) → place ≤ cell_place new number kind k
+  unfolding others
   place-lowest k low =
       elim (IsKept-source k (omega (arith, length-others))) [
-        | inl here ↦ let P : ℕ → Type 0 = λ n. usable - (rooms cells + cell_room cell) ≤ cell_place new number kind n in subst⁻¹ P here (omega (arith, place-here))
-        | inr kept ↦ let low_end = no_hole kept.0 kept.1.0.low in omega (arith, kept.1.0.place)
+        | inl here ↦ let P : ℕ → Type 0 = λ n. place ≤ cell_place new number kind n in subst⁻¹ P here (omega (arith, place-here))
+        | inr kept ↦ let low_end = below kept.0 kept.1.0.low in omega (arith, kept.1.0.place)
       ]
 
-  rooms-begin : usable - rooms (insert cells at cell) ≡ place
-  unfolding others place
-  rooms-begin = omega (arith, rooms-others)
+module _ (old new : List ℕ) (number usable : ℕ) (kind : PageKind) (cells : List (List ℕ)) (right at : ℕ) (cell : List ℕ) (view : CellView)
+    (within : usable ≤ length old) (long : length old ≤ 65536) (was : IsPage old number usable kind cells right) (no_hole : HasNoHole old number usable kind cells) (inside : at ≤ length cells)
+    (is_cell : IsCell kind usable cell view) (room : array_end number kind (length cells + 1) + (rooms cells + cell_room cell) ≤ usable)
+    (puts : PutsCell old new (header_place number) (array_place number kind) (length cells) at (usable - (rooms cells + cell_room cell)) cell) where
+  abbrev bottom : ℕ
+  bottom = usable - (rooms cells + cell_room cell)
+
+  under : (k : ℕ) → k < length cells → bottom + cell_room cell ≤ cell_place old number kind k
+  under k low = let low_end = no_hole k low in omega arith
+
+  rooms-begin : usable - rooms (insert cells at cell) ≡ bottom
+  rooms-begin = omega (arith, sum_by-insert cell_room cells at cell)
 
   pub IsWritten-inserted : IsWritten new number usable kind (insert cells at cell) right
-  unfolding others
   IsWritten-inserted = record {
-    is_page = IsPage-inserted;
-    no_hole = λ k low. let from = place-lowest k low in omega (arith, rooms-begin);
+    is_page = IsPage-inserted old new number usable kind cells right at cell view within long was inside is_cell bottom (omega arith) (omega arith) under puts;
+    no_hole = λ k low.
+        let from = place-lowest old new number usable kind cells right at cell view within long was inside is_cell bottom (omega arith) (omega arith) under puts k low in
+        omega (arith, rooms-begin);
     no_freeblock = puts.no_freeblock;
     content = puts.content ∙ ap (λ (n : ℕ). (usable - n) % 65536) (sym (sum_by-insert cell_room cells at cell));
     no_fragment = puts.no_fragment;
@@ -251,6 +252,17 @@ PutCell-is_laid old new layout cells right at cell header length_of place whole 
       count = omega (arith, laid.count, length-insert cells at cell (omega (arith, laid.count)));
       bottom = omega (arith, laid.bottom, sum_by-insert cell_room cells at cell);
     }
+
+-- a cell put between the array and the cells of a page
+pub PutCell-is_page : (old new : List ℕ) (number usable : ℕ) (kind : PageKind) (cells : List (List ℕ)) (right at : ℕ) (cell : List ℕ) (header length_of count place : ℕ)
+    → usable ≤ length old → length old ≤ 65536 → at ≤ length cells → count ≡ length cells → IsOneCell kind usable cell → array_end number kind (count + 1) ≤ place → place + cell_room cell ≤ usable
+    → ((k : ℕ) → k < length cells → place + cell_room cell ≤ cell_place old number kind k) → IsPage old number usable kind cells right → header ≡ header_place number → length_of ≡ header_length kind
+    → PutsCell old new header (header + length_of) count at place cell → IsPage new number usable kind (insert cells at cell) right
+PutCell-is_page old new number usable kind cells right at cell header length_of count place whole long inside many one room fits below is h l puts =
+    let at_header = subst (λ (x : ℕ). PutsCell old new x (x + length_of) count at place cell) h puts in
+    let at_array = subst (λ (x : ℕ). PutsCell old new (header_place number) (header_place number + x) count at place cell) l at_header in
+    let at_count = subst (λ (x : ℕ). PutsCell old new (header_place number) (array_place number kind) x at place cell) many at_array in
+    IsPage-inserted old new number usable kind cells right at cell one.0 whole long is inside one.1 place (omega (arith, room, many)) fits below at_count
 
 pub PutCell-keeps_rest : (old new : List ℕ) (number usable header array count at place : ℕ) (cell : List ℕ) → header ≡ header_place number → place + length cell ≤ usable
     → PutsCell old new header array count at place cell → KeepsRest number usable old new

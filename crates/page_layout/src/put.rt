@@ -72,8 +72,8 @@ fn put_place(page: &mut [u8], array: usize, count: usize, at: usize, place: u16)
     put_u16(page, pointer, place);
 }
 
-// Puts a cell at a place in front of the others, and its place into the array at an index.
-fn put_at(
+/// Puts a cell at a place in front of the others, and its place into the array at an index.
+pub fn put_at(
     page: &mut [u8],
     header: usize,
     array: usize,

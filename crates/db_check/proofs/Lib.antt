@@ -3,3 +3,11 @@ pub mod Parts
 pub mod Trunks
 pub mod Needs
 pub mod Chains
+pub mod Steps
+pub mod ShortKeys
+pub mod Taken
+pub mod TreeCells
+pub mod TreePages
+pub mod Sees
+pub mod Compared
+pub mod Passed

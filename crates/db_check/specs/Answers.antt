@@ -1,5 +1,8 @@
 -- What stops a check.
-use Rattle.std.specs.Prelude.{Option, Some, None}
+use Rattle.std.specs.Prelude.{ℕ, Option, Some, None}
+use Rattle.refusal.specs.declared.Rule.TheVariants.{Trunk, Count}
+use Rattle.tree_spec.specs.declared.fault.TreeFault.{TreeFault}
+use Rattle.tree_spec.specs.declared.fault.TreeFault.TheVariants as tree
 use Rattle.database_spec.specs.declared.fault.FileFault.{FileFault}
 use Rattle.database_spec.specs.declared.fault.FileFault.TheVariants as file
 use Rattle.db_check.specs.declared.fault.CheckFault.{CheckFault}
@@ -34,3 +37,11 @@ IsOther (IndexDisagrees index rowid) = ⊥
 IsOther (Damaged page rule) = ⊥
 IsOther (Store fault) = Unit {0}
 IsOther (Memory error) = Unit {0}
+
+-- what a walk meets at a page, as a check tells it
+abbrev pub told : {F : Type 0} → ℕ → TreeFault F → CheckFault F
+told number (tree.TreeDamaged page rule) = Damaged number rule
+told number (tree.TrunkDamaged page) = Damaged number Trunk
+told number (tree.TargetFull pages limit) = Damaged number Count
+told number (tree.Store fault) = Store fault
+told number (tree.Memory error) = Memory error

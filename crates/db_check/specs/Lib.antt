@@ -1,2 +1,5 @@
 pub mod Answers
 pub mod Passes
+pub mod Steps
+pub mod TreeSteps
+pub mod Compares

@@ -1,10 +1,13 @@
 // What stops a check.
 ghost use Rattle.std.specs.Prelude.{◌≡◌};
+ghost use Rattle.tree_spec.specs.Faults.{fault_in as tree_fault_in};
 ghost use Rattle.db_check.specs.declared.fault.CheckFault.TheVariants.{Memory};
+ghost use Rattle.db_check.specs.Answers.{fault_in, told};
 
 use rbu_value::Bytes;
 use refusal::Rule;
 use std::alloc::AllocError;
+use tree_walk::TreeFault;
 
 /// Why a file is not sound, or why there is no answer. `F` is what the store answers where it fails.
 #[derive(Drop)]
@@ -30,5 +33,25 @@ impl<F> From<AllocError> for CheckFault<F> {
 
     fn from(error: AllocError) -> CheckFault<F> {
         CheckFault::Memory(error)
+    }
+}
+
+// What stops the walk at a page. A walk takes no page, and so it meets no freelist and no limit.
+pub fn told<F>(number: u32, fault: TreeFault<F>) -> CheckFault<F>
+    ensures is { result ≡ told number fault }
+    ensures cause { fault_in result ≡ tree_fault_in fault }
+{
+    match fault {
+        TreeFault::TreeDamaged { page: _, rule } => CheckFault::Damaged { page: number, rule },
+        TreeFault::TrunkDamaged { page: _ } => CheckFault::Damaged {
+            page: number,
+            rule: Rule::Trunk,
+        },
+        TreeFault::TargetFull { pages: _, limit: _ } => CheckFault::Damaged {
+            page: number,
+            rule: Rule::Count,
+        },
+        TreeFault::Store(fault) => CheckFault::Store(fault),
+        TreeFault::Memory(error) => CheckFault::Memory(error),
     }
 }

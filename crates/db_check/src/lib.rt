@@ -1,16 +1,26 @@
 //! Whether a file is sound (PRAGMA integrity_check, as far as this project has its rules), and its first fault where it is not.
 //!
-//! A check goes through all that is found in a file, in the order of `FileFindings` of `database_spec`: the trees, the freelist, the pages that have to stand somewhere, and the plain indexes. So far the freelist stands, the overflow chain of a cell, and the pages that have to stand somewhere, with the flags of the pages that were found. `Passes` in `specs/` says what a part of a check leaves and answers.
+//! A check goes through all that is found in a file, in the order of `FileFindings` of `database_spec`: the trees, the freelist, the pages that have to stand somewhere, and the plain indexes. Each of these stands, over whatever was found before it: `pass_tree`, `check_freelist`, `check_pages` and `first_that_disagrees`. Contracts cite, from `specs/`:
+//!
+//! - `Passes`: what a part of a check leaves, and what it answers; `TreeSteps`: `PassesTree`, the same of a tree;
+//! - `Steps`: what is known of a tree by what was found of it, and what one step of a walk over it leaves;
+//! - `Compares`: what a comparison of an index with its table answers.
 #![tactic(auto)]
 
+mod cells;
 mod chain;
+mod compare;
 mod fault;
 mod freelist;
+mod members;
 mod pages;
-#[cfg(test)]
-mod tests;
+mod trees;
+mod walk;
 
 pub use chain::pass_chain;
+pub use compare::first_that_disagrees;
 pub use fault::CheckFault;
 pub use freelist::check_freelist;
 pub use pages::{check_pages, mark, page_flags};
+pub use trees::pass_tree;
+pub use walk::{CheckedTree, Members};

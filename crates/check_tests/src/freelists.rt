@@ -1,13 +1,9 @@
 // Freelists, flags and chains of small databases, sound and damaged.
-ghost use Rattle.std.specs.Prelude.{◌≤◌, IsTrue};
-ghost use Rattle.page_store.specs.Store.{HasSizes};
 
-use crate::chain::pass_chain;
-use crate::fault::CheckFault;
-use crate::freelist::check_freelist;
-use crate::pages::{check_pages, page_flags};
+use crate::stores::{flagged, is_whole, put_page, set, store_of as pages_of};
 use byte_fields::put_u32;
-use page_store::{PageRead, PageWrite, PlainStore};
+use db_check::{CheckFault, check_freelist, check_pages, page_flags, pass_chain};
+use page_store::{PageRead, PlainStore};
 use refusal::Rule;
 use std::alloc::{AllocError, Global};
 use std::test::Fail;
@@ -117,28 +113,9 @@ const ROWS: &[Row] = &[
     },
 ];
 
-// Whether there is a page, and the sizes are those of a database.
-fn is_whole(store: &PlainStore) -> bool
-    ensures sizes { IsTrue result → HasSizes ⟦<PlainStore as PageRead>⟧ store.now }
-    ensures some { IsTrue result → 1 ≤ ⟦<PlainStore as PageRead>⟧.count store.now }
-{
-    let size = store.page_size();
-    let usable = store.usable();
-    480 <= usable && usable <= size && size <= 65536 && 1 <= store.count()
-}
-
-fn put_page(store: &mut PlainStore, number: u32, bytes: &[u8; 512]) -> Result<(), Fail> {
-    if number < 1 || number > store.count() || store.page_size() != 512 {
-        return Err(Fail::new("no such page"));
-    }
-    store.set_page(number, bytes)?;
-    Ok(())
-}
-
 // The store of a row.
 fn store_of(alloc: Global, row: &Row) -> Result<PlainStore, Fail> {
-    let mut store = PlainStore::new(alloc, 512, 512);
-    store.set_count(5)?;
+    let mut store = pages_of(alloc, 5)?;
     let mut first = [0; 512];
     put_u32(&mut first, 32, row.trunk);
     put_u32(&mut first, 36, row.counted);
@@ -184,16 +161,6 @@ fn is_answered(row: &Row, answer: Result<(), CheckFault<AllocError>>, flagged: u
     }
 }
 
-fn flagged(flags: &[bool]) -> u32 {
-    let mut count = 0u32;
-    for flag in flags {
-        if *flag {
-            count = count.saturating_add(1);
-        }
-    }
-    count
-}
-
 fn answers(alloc: Global, row: &Row) -> Result<bool, Fail> {
     let mut store = store_of(alloc, row)?;
     let mut flags = page_flags(alloc, 5)?;
@@ -210,15 +177,6 @@ fn freelists_are_checked(rt: HostRuntime) -> Result<(), Fail> {
         }
     }
     Ok(())
-}
-
-// Sets the flags of pages.
-fn set(flags: &mut [bool], pages: &[usize]) {
-    for page in pages {
-        if let Some(flag) = flags.get_mut(*page) {
-            *flag = true;
-        }
-    }
 }
 
 // The first of five pages that has no flag, or 0.
@@ -249,8 +207,7 @@ fn lost_pages_are_told(rt: HostRuntime) -> Result<(), Fail> {
 
 // A store whose pages 3 and 5 are a chain of 600 bytes, behind which this number stands.
 fn chain_of(alloc: Global, behind: u32) -> Result<PlainStore, Fail> {
-    let mut store = PlainStore::new(alloc, 512, 512);
-    store.set_count(5)?;
+    let mut store = pages_of(alloc, 5)?;
     let mut page = [0; 512];
     put_u32(&mut page, 0, 5);
     put_page(&mut store, 3, &page)?;

@@ -1,0 +1,13 @@
+//! Tests of the check of a file: the trees of small databases, sound and damaged, freelists, chains, and indexes beside their tables.
+//!
+//! They stand in a crate of their own, since a crate with tests is proved twice.
+#![tactic(auto)]
+
+#[cfg(test)]
+mod freelists;
+#[cfg(test)]
+mod indexes;
+#[cfg(test)]
+mod stores;
+#[cfg(test)]
+mod trees;

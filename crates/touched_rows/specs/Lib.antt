@@ -1,0 +1,4 @@
+pub mod TouchedRows
+pub mod LittleTouched
+pub mod KeptRowsLaws
+pub mod TouchedRowsLaws

@@ -1,8 +1,9 @@
--- Items of lists that are filtered, joined, or stand beside others: crates above cite these facts in their proofs.
-use Rattle.std.proofs.Common.{◌≡◌, ◌⊎◌, List, [], ◌∷◌, Option, Some, None, refl, sym, ap, ◌∙◌, subst, inl, inr}
+-- Items of lists that are filtered, joined, or stand beside others, and each two items of a list: crates above cite these facts in their proofs.
+use Rattle.std.proofs.Common.{◌≡◌, ℕ, zero, suc, ◌<◌, ◌⊎◌, List, [], ◌∷◌, length, get_or, Option, Some, None, refl, sym, ap, ◌∙◌, subst, inl, inr, arith}
 use Rattle.std.specs.Prelude.{filter_map, flat_map}
-use Rattle.std.specs.List.{AllZip, cons_option}
+use Rattle.std.specs.List.{AllByRecursion, AllZip, cons_option}
 use Rattle.std.specs.Option.{option_map}
+use Rattle.database_spec.specs.ListsLaws.{PairsByRecursion}
 use Rattle.prepared_spec.specs.MembersLaws.{Has, has-left, has-right, has-either}
 
 cons-cases : {B : Type 0} (o : Option B) (rest : List B) (y : B) → Has y (cons_option o rest) → (o ≡ Some y) ⊎ Has y rest
@@ -59,3 +60,13 @@ zip-first R (x ∷ xs) (z ∷ ys) y (inr h) zip = let rest = zip-first R xs ys y
 pub option-mapped : {A B : Type 0} (g : A → B) (o : Option A) (r : B) → option_map g o ≡ Some r → (x : A) × (o ≡ Some x) × (g x ≡ r)
 option-mapped g None r e = absurd (let h : ⊥ = cc in h)
 option-mapped g (Some x) r e = let same : g x ≡ r = cc in (x, refl, same)
+
+-- what holds of each item, and of each two in their order
+all-at : {A : Type 0} (P : A → Type 0) (xs : List A) → ((k : ℕ) (d : A) → k < length xs → P (get_or xs k d)) → AllByRecursion P xs
+all-at P [] each = tt
+all-at P (x ∷ xs) each = (each zero x (omega arith), all-at P xs (λ k d less. each (suc k) d (omega (arith, less))))
+
+pub pairs-at : {A : Type 0} (R : A → A → Type 0) (xs : List A) → ((i j : ℕ) (d : A) → i < j → j < length xs → R (get_or xs i d) (get_or xs j d)) → PairsByRecursion R xs
+pairs-at R [] each = tt
+pairs-at R (x ∷ xs) each =
+    (all-at (R x) xs (λ k d less. each zero (suc k) d (omega arith) (omega (arith, less))), pairs-at R xs (λ i j d less long. each (suc i) (suc j) d (omega (arith, less)) (omega (arith, long))))

@@ -1,4 +1,4 @@
 pub mod TouchedRows
 pub mod LittleTouched
-pub mod KeptRowsLaws
 pub mod TouchedRowsLaws
+pub mod PartedRowsLaws

@@ -40,13 +40,17 @@ pub record IsSide (rows : List TableRow) (rowid : ℤ) (side : Option (ℤ × Li
   pub only : (row : ℤ × List Value) → side ≡ Some row → (other : TableRow) × Contains rows other × (other.rowid ≡ rowid) × ((other.rowid, other.values) ≡ row)
   pub all : (other : TableRow) → Contains rows other → other.rowid ≡ rowid → side ≡ Some (other.rowid, other.values)
 
--- The old and the new row of each rowid that a group touches, in order of rowid.
-pub record AreTouchedPairs (format : ℕ) (table : Table) (old : List TableRow) (batches : List (List Prepared)) (after : List TableRow) (pairs : List OldNew) : Type 0 where
+-- The old and the new row of each rowid that batches touch, in order of rowid, so many rows being new before them.
+pub record AreTouchedPairsFrom (format : ℕ) (table : Table) (g : ℤ) (taken : ℕ) (old : List TableRow) (batches : List (List Prepared)) (after : List TableRow) (pairs : List OldNew) : Type 0 where
   pub rowids : List ℤ
   pub rise : AllPairs (λ (a b : ℤ). a <ℤ b) rowids
-  pub touched : (rowid : ℤ) → Contains rowids rowid → IsTouched format table old batches rowid
-  pub all : (rowid : ℤ) → IsTouched format table old batches rowid → Contains rowids rowid
+  pub touched : (rowid : ℤ) → Contains rowids rowid → IsTouchedFrom format table g taken old batches rowid
+  pub all : (rowid : ℤ) → IsTouchedFrom format table g taken old batches rowid → Contains rowids rowid
   pub sides : AllZip (λ (pair : OldNew) (rowid : ℤ). IsSide old rowid pair.old × IsSide after rowid pair.new) pairs rowids
+
+-- the old and the new row of each rowid that a group touches
+abbrev pub AreTouchedPairs : ℕ → Table → List TableRow → List (List Prepared) → List TableRow → List OldNew → Type 0
+AreTouchedPairs format table old batches after pairs = AreTouchedPairsFrom format table (greatest_of old) 0 old batches after pairs
 
 -- no prepared row of a batch has a fault
 abbrev pub NoFaults : List Prepared → List (Option Violation) → Type 0
@@ -78,6 +82,12 @@ pub record Touches (format : ℕ) (table : Table) (old : List TableRow) (batches
   pub after_is : IsAfter format table old (batches_before_fault batches faults) after
   pub pairs_are : AreTouchedPairs format table old (batches_before_fault batches faults) after pairs
 
--- each row that a prepared row of a batch meets is kept
-abbrev pub KeepsMet : Table → (TableRow → Bool) → List TableRow → List Prepared → Type 0
-KeepsMet table keeps before rows = (row : TableRow) (prepared : Prepared) → Contains before row → Contains rows prepared → IsTrue (meets table row prepared) → IsTrue (keeps row)
+-- Rows of a table, parted into some and the rest.
+pub record AreParted (rows part rest : List TableRow) : Type 0 where
+  pub each : (row : TableRow) → Contains rows row → Contains part row ⊎ Contains rest row
+  pub part_of : (row : TableRow) → Contains part row → Contains rows row
+  pub rest_of : (row : TableRow) → Contains rest row → Contains rows row
+
+-- no prepared row of these batches meets one of the rows
+abbrev pub AreUnmet : Table → List TableRow → List (List Prepared) → Type 0
+AreUnmet table rest batches = (row : TableRow) (rows : List Prepared) (prepared : Prepared) → Contains rest row → Contains batches rows → Contains rows prepared → ¬ IsTrue (meets table row prepared)

@@ -28,7 +28,7 @@ use Rattle.prepared_spec.specs.Tables.{same_values, written_row, with_values, ma
 use Rattle.prepared_spec.specs.StepFaults.{AreChanges}
 use Rattle.prepared_spec.specs.Plans.{IndexPlan, TablePlan, IsIndexPlan, IsTablePlan}
 use Rattle.prepared_spec.specs.PlansLaws.{changes-one, after_batches-one}
-use Rattle.prepared_spec.specs.MembersLaws.{Has, has-from, has-to, has-left, has-either, any-has, has-any, decide, true-false}
+use Rattle.prepared_spec.specs.MembersLaws.{Has, has-from, has-to, has-left, has-either, any-has, has-any, decide, true-false, has-right}
 use Rattle.prepared_spec.specs.ChangesLaws.{all-has}
 use Rattle.prepared_laws.specs.SortsLaws.{on-if}
 use Rattle.prepared_laws.specs.TablesMadeLaws.{Apart}
@@ -92,7 +92,7 @@ module _ (format : ℕ) (table : Table) where
       by (Some prepared) f g = let found = found-has (meets table row) rows prepared f in (met-follows row prepared.control prepared.values r placed g, inl (prepared, found.0, found.1))
 
   -- a row that none meets stays
-  unmet-stays : (rows : List Prepared) (row : TableRow) → ((prepared : Prepared) → Has prepared rows → meets table row prepared ≡ true → ⊥) → row_after format table rows row ≡ Some row
+  pub unmet-stays : (rows : List Prepared) (row : TableRow) → ((prepared : Prepared) → Has prepared rows → meets table row prepared ≡ true → ⊥) → row_after format table rows row ≡ Some row
   unmet-stays rows row none = by (find (meets table row) rows) refl
     where
       by : (o : Option Prepared) → find (meets table row) rows ≡ o
@@ -112,23 +112,29 @@ module _ (format : ℕ) (table : Table) where
       by false more same k = same k
 
   module _ (g : ℤ) where
-    abbrev Kept : List TableRow → List Prepared → List TableRow
+    abbrev pub Kept : List TableRow → List Prepared → List TableRow
     Kept before rows = filter_map (row_after format table rows) before
 
-    abbrev Made : ℕ → List TableRow → List Prepared → List TableRow
+    abbrev pub Made : ℕ → List TableRow → List Prepared → List TableRow
     Made taken before rows = made_rows format table g taken before rows
 
     -- a row behind a batch comes of a row before it, or is made
-    behind-has : (taken : ℕ) (before : List TableRow) (rows : List Prepared) (after : List TableRow) → IsAfterBatch format table g taken before rows after → (r : TableRow) → Has r after
+    pub behind-has : (taken : ℕ) (before : List TableRow) (rows : List Prepared) (after : List TableRow) → IsAfterBatch format table g taken before rows after → (r : TableRow) → Has r after
         → Has r (Kept before rows) ⊎ Has r (Made taken before rows)
     behind-has taken before rows after is r h =
         let all = Kept before rows ++ Made taken before rows in
         has-either (Kept before rows) (Made taken before rows) r (has-from all r (Contains-permutation after all r (IsPermutation-sym all after is.all) (has-to after r h)))
 
-    has-behind : (taken : ℕ) (before : List TableRow) (rows : List Prepared) (after : List TableRow) → IsAfterBatch format table g taken before rows after → (r : TableRow) → Has r (Kept before rows) → Has r after
-    has-behind taken before rows after is r h =
+    -- and these stand behind it
+    pub kept-behind : (taken : ℕ) (before : List TableRow) (rows : List Prepared) (after : List TableRow) → IsAfterBatch format table g taken before rows after → (r : TableRow) → Has r (Kept before rows) → Has r after
+    kept-behind taken before rows after is r h =
         let all = Kept before rows ++ Made taken before rows in
         has-from after r (Contains-permutation all after r is.all (has-to all r (has-left (Kept before rows) (Made taken before rows) r h)))
+
+    pub made-behind : (taken : ℕ) (before : List TableRow) (rows : List Prepared) (after : List TableRow) → IsAfterBatch format table g taken before rows after → (r : TableRow) → Has r (Made taken before rows) → Has r after
+    made-behind taken before rows after is r h =
+        let all = Kept before rows ++ Made taken before rows in
+        has-from after r (Contains-permutation all after r is.all (has-to all r (has-right (Kept before rows) (Made taken before rows) r h)))
 
     all-placed : (rows : List TableRow) → ((r : TableRow) → Has r rows → IsPlaced table r) → ArePlaced table rows
     all-placed [] each = tt
@@ -154,7 +160,7 @@ module _ (format : ℕ) (table : Table) where
     untouched-stays taken before [] after is row none h = subst⁻¹ (Has row) is h
     untouched-stays taken before (rows ∷ batches) after (between, is, are) row none h =
         untouched-stays (taken + count_new table before rows) between batches after are row (λ later. none (inr (between, is, later)))
-        (has-behind taken before rows between is row (has-filtered (row_after format table rows) before row row h
+        (kept-behind taken before rows between is row (has-filtered (row_after format table rows) before row row h
         (unmet-stays rows row (λ prepared k met. none (inl (inl (row, has-to before row h, refl, (prepared, has-to rows prepared k, met))))))))
 
     -- and one behind that is not touched stood before

@@ -1,5 +1,6 @@
 // What pairs of touched rows say of a whole table.
-ghost use Rattle.std.specs.Prelude.{◌≡◌, Bool, List, filter, ℕ, ℤ, Option, Result};
+ghost use Rattle.std.specs.Prelude.{◌≡◌, Bool, List, ℕ, ℤ, Option, Result};
+ghost use Rattle.std.specs.List.{AllZip};
 ghost use Rattle.rbu_rows.specs.declared.prepared.Prepared.{Prepared};
 ghost use Rattle.rbu_rows.specs.declared.prepared.Batch.{Batch};
 ghost use Rattle.schema_spec.specs.declared.schema.SqlFault.{SqlFault};
@@ -8,17 +9,15 @@ ghost use Rattle.schema_spec.specs.declared.schema.Index.{Index};
 ghost use Rattle.tree_spec.specs.Trees.{Member};
 ghost use Rattle.database_spec.specs.declared.catalog.NamedEntry.{NamedEntry};
 ghost use Rattle.database_spec.specs.Rows.{TableRow};
+ghost use Rattle.prepared_spec.specs.declared.violation.Violation.{Violation};
 ghost use Rattle.prepared_spec.specs.declared.violation.Change.{Change};
-ghost use Rattle.prepared_spec.specs.Tables.{IsAfter};
+ghost use Rattle.prepared_spec.specs.Tables.{IsAfter, IsAfterBatches};
 ghost use Rattle.prepared_spec.specs.StepFaults.{AreChanges};
-ghost use Rattle.prepared_spec.specs.Plans.{IndexPlan, TablePlan, IsIndexPlan, IsTablePlan};
+ghost use Rattle.prepared_spec.specs.Plans.{AreFaults, IndexPlan, TablePlan, IsIndexPlan, IsTablePlan};
+ghost use Rattle.prepared_laws.specs.TablesMadeLaws.{Apart};
 ghost use Rattle.index_changes.specs.declared.pairs.OldNew.{OldNew};
 ghost use Rattle.index_changes.specs.Pairs.{ArePairs, old_rows, new_rows};
-ghost use Rattle.prepared_spec.specs.Tables.{new_rows as made_rows, count_new};
-ghost use Rattle.prepared_spec.specs.Plans.{batch_faults};
-ghost use Rattle.touched_rows.specs.TouchedRows.{ArePlaced, AreTouchedPairs, KeepsMet, NoFaults, Touches};
-ghost use Rattle.prepared_spec.specs.declared.violation.Violation.{Violation};
-ghost use Rattle.std.specs.List.{AllZip};
+ghost use Rattle.touched_rows.specs.TouchedRows.{AreMade, AreParted, ArePlaced, AreTouchedPairs, AreTouchedPairsFrom, AreUnmet, NoFaults, Touches};
 
 /// Pairs of touched rows are of one rowid each, and no two of the same.
 pub fn touched_pairs_are_of_one_rowid()
@@ -48,12 +47,18 @@ pub fn groups_without_a_fault_touch_all_their_rows()
         → AreTouchedPairs format table old batches after pairs }
 {}
 
-/// Where each row that a prepared row of a batch meets is kept, the others play no part in which of these make rows, how many, and in their faults.
+/// Where a table is parted into rows that a group may meet and rows that it does not meet, what the group touches of the former is what it touches of the table, as which of its prepared rows make a row, and their faults.
 pub fn rows_that_are_not_met_play_no_part()
-    ensures made { (table : Table) (keeps : TableRow → Bool) (before : List TableRow) (format : ℕ) (g : ℤ) (taken : ℕ) (rows : List Prepared) → KeepsMet table keeps before rows
-        → made_rows format table g taken (filter keeps before) rows ≡ made_rows format table g taken before rows }
-    ensures count { (table : Table) (keeps : TableRow → Bool) (before : List TableRow) (rows : List Prepared) → KeepsMet table keeps before rows
-        → count_new table (filter keeps before) rows ≡ count_new table before rows }
-    ensures faults { (table : Table) (keeps : TableRow → Bool) (before : List TableRow) (name : List ℕ) (g : ℤ) (taken : ℕ) (rows : List Prepared) → KeepsMet table keeps before rows
-        → batch_faults name table g taken (filter keeps before) rows ≡ batch_faults name table g taken before rows }
+    ensures pairs { (format : ℕ) (table : Table) (g : ℤ) (old part rest : List TableRow) (batches : List (List Prepared)) (after part_after : List TableRow) (pairs : List OldNew)
+        → AreParted old part rest → AreUnmet table rest batches → Apart old
+        → IsAfterBatches format table g 0 old batches after → IsAfterBatches format table g 0 part batches part_after
+        → AreTouchedPairsFrom format table g 0 part batches part_after pairs → AreTouchedPairsFrom format table g 0 old batches after pairs }
+    ensures made { (format : ℕ) (table : Table) (g : ℤ) (old part rest : List TableRow) (batches fronts : List (List Prepared)) (after part_after : List TableRow) (made : List Bool)
+        → AreParted old part rest → AreUnmet table rest fronts
+        → IsAfterBatches format table g 0 old fronts after → IsAfterBatches format table g 0 part fronts part_after
+        → AreMade format table g 0 part batches fronts made → AreMade format table g 0 old batches fronts made }
+    ensures faults { (format : ℕ) (table : Table) (g : ℤ) (name : List ℕ) (old part rest : List TableRow) (batches : List (List Prepared)) (after part_after : List TableRow) (faults : List (List (Option Violation)))
+        → AreParted old part rest → AreUnmet table rest batches
+        → IsAfterBatches format table g 0 old batches after → IsAfterBatches format table g 0 part batches part_after
+        → AreFaults format name table g 0 part batches faults → AreFaults format name table g 0 old batches faults }
 {}

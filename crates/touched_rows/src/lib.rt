@@ -1,6 +1,6 @@
 //! The rows of a table that a group of batches touches.
 //!
-//! A crate of definitions and laws. In `specs/`, `TouchedRows` says which rowids prepared rows meet or make and what pairs of rows hold for these, and `TouchedRowsLaws` that the changes of an index between the rows of such pairs are all its changes. `KeptRowsLaws` has that rows which are not met play no part in what the others are. `LittleTouched` was worked out by hand.
+//! A crate of definitions and laws. In `specs/`, `TouchedRows` says which rowids prepared rows meet or make and what pairs of rows hold for these, and `TouchedRowsLaws` that the changes of an index between the rows of such pairs are all its changes. `PartedRowsLaws` has that rows which no prepared row meets play no part. `LittleTouched` was worked out by hand.
 #![tactic(auto)]
 
 mod laws;

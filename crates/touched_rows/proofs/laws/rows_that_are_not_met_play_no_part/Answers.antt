@@ -1,11 +1,11 @@
-use Rattle.touched_rows.specs.KeptRowsLaws.{made-kept, count-kept, faults-kept}
+use Rattle.touched_rows.specs.PartedRowsLaws.{parted-pairs, parted-made, parted-row_faults}
 use Rattle.touched_rows.proofs.laws.rows_that_are_not_met_play_no_part.Goals as goal
 
-pub returns-clause-made : goal.returns-clause-made
-returns-clause-made c = λ table keeps before format g taken rows all. made-kept table keeps before format g taken rows all
+pub returns-clause-pairs : goal.returns-clause-pairs
+returns-clause-pairs c = λ format table g old part rest batches after part_after pairs parted unmet apart is part_is are. parted-pairs format table g 0 old part rest batches after part_after pairs parted unmet apart is part_is are
 
-pub returns-clause-count : goal.returns-clause-count
-returns-clause-count c = λ table keeps before rows all. count-kept table keeps before rows all
+pub returns-clause-made : goal.returns-clause-made
+returns-clause-made c = λ format table g old part rest batches fronts after part_after made parted unmet is part_is are. parted-made format table g 0 old part rest batches fronts after part_after made parted unmet is part_is are
 
 pub returns-clause-faults : goal.returns-clause-faults
-returns-clause-faults c = λ table keeps before name g taken rows all. faults-kept table keeps before name g taken rows all
+returns-clause-faults c = λ format table g name old part rest batches after part_after faults parted unmet is part_is are. parted-row_faults format table g name 0 old part rest batches after part_after faults parted unmet is part_is are

@@ -38,8 +38,9 @@ use Rattle.index_changes.specs.declared.due.Due.TheVariants.{Goes, Comes}
 use Rattle.index_changes.specs.declared.pairs.OldNew.{OldNew}
 use Rattle.index_changes.specs.Pairs.{row_in, old_rows, new_rows, IsOfRowid, ArePairs}
 use Rattle.index_changes.specs.Dues.{entry_in, change_of, is_kept, removed, added, pair_changes, all_changes}
-use Rattle.index_changes.proofs.Sorting.{pairs-at, sorted-rise}
-use Rattle.index_changes.proofs.Pairing.{joined-has, zip-has, of-rowid, pair-cases, each-is, gone-or, came-or}
+use Rattle.index_changes.specs.ListsLaws.{joined-has, pairs-at, zip-second}
+use Rattle.index_changes.proofs.Sorting.{sorted-rise}
+use Rattle.index_changes.proofs.Pairing.{of-rowid, pair-cases, each-is, gone-or, came-or}
 
 all-by : {A : Type 0} (P : A → Type 0) (xs : List A) → ((x : A) → Has x xs → P x) → AllByRecursion P xs
 all-by P [] each = tt
@@ -134,7 +135,7 @@ module _ (table : Table) (index : Index) where
   later-rowid : (pairs : List OldNew) (rowids : List ℤ) → AllZip IsOfRowid pairs rowids → (change : Change) → Has change (all_changes table index pairs) → (z : ℤ) × Has z rowids × OfRowid z change
   later-rowid pairs rowids each change h =
       let found = joined-has (pair_changes table index) pairs change h in
-      let rowid = zip-has IsOfRowid pairs rowids found.0 found.1 each in
+      let rowid = zip-second IsOfRowid pairs rowids found.0 found.1 each in
       (rowid.0, rowid.1, pair-rowid found.0 rowid.0 rowid.2 change found.2)
 
   all-differ : (pairs : List OldNew) (rowids : List ℤ) → AllZip IsOfRowid pairs rowids → PairsByRecursion (λ (a b : ℤ). a ≢ b) rowids → PairsByRecursion Differ (all_changes table index pairs)

@@ -1,7 +1,7 @@
 -- Pairs of rows, one for each rowid, and the changes that are due for them, item by item.
 use Rattle.std.proofs.Common.{◌≡◌, ◌≢◌, ℤ, ◌⊎◌, Bool, true, false, List, [], ◌∷◌, ◌++◌, Option, Some, None, if◌then◌else◌, refl, sym, ap, ap₂, ◌∙◌, subst, inl, inr}
-use Rattle.std.specs.Prelude.{Contains, IfSome, filter_map, flat_map}
-use Rattle.std.specs.List.{AllZip, cons_option}
+use Rattle.std.specs.Prelude.{Contains, IfSome, filter_map}
+use Rattle.std.specs.List.{AllZip}
 use Rattle.std.specs.Option.{option_map}
 use Rattle.rbu_value.specs.declared.value.Value.{Value}
 use Rattle.schema_spec.specs.declared.schema.Table.{Table}
@@ -19,57 +19,7 @@ use Rattle.index_changes.specs.declared.pairs.OldNew.{OldNew}
 use Rattle.index_changes.specs.Pairs.{row_in, old_rows, new_rows, IsOfRowid}
 use Rattle.index_changes.specs.Dues.{entry_in, is_kept, removed, added, pair_changes, all_changes}
 use Rattle.index_changes.specs.TouchedLaws.{entry-rowid}
-
--- Lists.
-
-cons-cases : {B : Type 0} (o : Option B) (rest : List B) (y : B) → Has y (cons_option o rest) → (o ≡ Some y) ⊎ Has y rest
-cons-cases None rest y h = inr h
-cons-cases (Some z) rest y (inl e) = inl (ap Some e)
-cons-cases (Some z) rest y (inr h) = inr h
-
-cons-first : {B : Type 0} (o : Option B) (rest : List B) (y : B) → o ≡ Some y → Has y (cons_option o rest)
-cons-first None rest y e = absurd (let h : ⊥ = cc in h)
-cons-first (Some z) rest y e = let same : z ≡ y = cc in inl same
-
-cons-later : {B : Type 0} (o : Option B) (rest : List B) (y : B) → Has y rest → Has y (cons_option o rest)
-cons-later None rest y h = h
-cons-later (Some z) rest y h = inr h
-
-filtered-has : {A B : Type 0} (f : A → Option B) (xs : List A) (y : B) → Has y (filter_map f xs) → (x : A) × Has x xs × (f x ≡ Some y)
-filtered-has f [] y h = absurd h
-filtered-has f (x ∷ xs) y h =
-    elim (cons-cases (f x) (filter_map f xs) y h) [
-      | inl e ↦ (x, inl refl, e)
-      | inr later ↦ let rest = filtered-has f xs y later in (rest.0, inr rest.1, rest.2)
-    ]
-
-has-filtered : {A B : Type 0} (f : A → Option B) (xs : List A) (x : A) (y : B) → Has x xs → f x ≡ Some y → Has y (filter_map f xs)
-has-filtered f [] x y h e = absurd h
-has-filtered f (z ∷ xs) x y (inl same) e = cons-first (f z) (filter_map f xs) y (ap f same ∙ e)
-has-filtered f (z ∷ xs) x y (inr h) e = cons-later (f z) (filter_map f xs) y (has-filtered f xs x y h e)
-
-pub joined-has : {A B : Type 0} (f : A → List B) (xs : List A) (y : B) → Has y (flat_map f xs) → (x : A) × Has x xs × Has y (f x)
-joined-has f [] y h = absurd h
-joined-has f (x ∷ xs) y h =
-    elim (has-either (f x) (flat_map f xs) y h) [
-      | inl here ↦ (x, inl refl, here)
-      | inr later ↦ let rest = joined-has f xs y later in (rest.0, inr rest.1, rest.2)
-    ]
-
-has-joined : {A B : Type 0} (f : A → List B) (xs : List A) (x : A) (y : B) → Has x xs → Has y (f x) → Has y (flat_map f xs)
-has-joined f [] x y h k = absurd h
-has-joined f (z ∷ xs) x y (inl same) k = has-left (f z) (flat_map f xs) y (subst (λ v. Has y (f v)) (sym same) k)
-has-joined f (z ∷ xs) x y (inr h) k = has-right (f z) (flat_map f xs) y (has-joined f xs x y h k)
-
-pub zip-has : {A B : Type 0} (R : A → B → Type 0) (xs : List A) (ys : List B) (x : A) → Has x xs → AllZip R xs ys → (y : B) × Has y ys × R x y
-zip-has R [] ys x h zip = absurd h
-zip-has R (z ∷ xs) [] x h zip = absurd zip
-zip-has R (z ∷ xs) (y ∷ ys) x (inl same) zip = (y, inl refl, subst (λ v. R v y) same zip.0)
-zip-has R (z ∷ xs) (y ∷ ys) x (inr h) zip = let rest = zip-has R xs ys x h zip.1 in (rest.0, inr rest.1, rest.2)
-
-option-mapped : {A B : Type 0} (g : A → B) (o : Option A) (r : B) → option_map g o ≡ Some r → (x : A) × (o ≡ Some x) × (g x ≡ r)
-option-mapped g None r e = absurd (let h : ⊥ = cc in h)
-option-mapped g (Some x) r e = let same : g x ≡ r = cc in (x, refl, same)
+use Rattle.index_changes.specs.ListsLaws.{filtered-has, has-filtered, joined-has, has-joined, zip-second, option-mapped}
 
 -- Rowids.
 
@@ -91,12 +41,12 @@ one-pair [] rowids each differ p q a b h k x y e = absurd h
 one-pair (r ∷ pairs) [] each differ p q a b h k x y e = absurd each
 one-pair (r ∷ pairs) (z ∷ rowids) each differ p q a b (inl s) (inl t) x y e = sym s ∙ t
 one-pair (r ∷ pairs) (z ∷ rowids) each differ p q a b (inl s) (inr k) x y e =
-    let other = zip-has IsOfRowid pairs rowids q k each.1 in
+    let other = zip-second IsOfRowid pairs rowids q k each.1 in
     let mine : a.0 ≡ z = of-rowid p a z (subst (λ (v : OldNew). IsOfRowid v z) s each.0) x in
     let theirs : b.0 ≡ other.0 = of-rowid q b other.0 other.2 y in
     absurd (all-has (λ (w : ℤ). z ≢ w) rowids other.0 differ.0 other.1 (sym mine ∙ e ∙ theirs))
 one-pair (r ∷ pairs) (z ∷ rowids) each differ p q a b (inr h) (inl t) x y e =
-    let other = zip-has IsOfRowid pairs rowids p h each.1 in
+    let other = zip-second IsOfRowid pairs rowids p h each.1 in
     let mine : a.0 ≡ other.0 = of-rowid p a other.0 other.2 x in
     let theirs : b.0 ≡ z = of-rowid q b z (subst (λ (v : OldNew). IsOfRowid v z) t each.0) y in
     absurd (all-has (λ (w : ℤ). z ≢ w) rowids other.0 differ.0 other.1 (sym theirs ∙ sym e ∙ mine))

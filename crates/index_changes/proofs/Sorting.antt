@@ -1,5 +1,5 @@
 -- What a sort leaves of items of which no two are equal in its order.
-use Rattle.std.proofs.Common.{◌≡◌, ◌≢◌, ℕ, zero, suc, ◌<◌, Bool, true, false, List, [], ◌∷◌, length, get_or, refl, sym, ap, ◌∙◌, arith}
+use Rattle.std.proofs.Common.{◌≡◌, ◌≢◌, Bool, true, false, List, [], ◌∷◌, refl, sym, ap, ◌∙◌, arith}
 use Rattle.std.proofs.lemmas.List.Sorted.{sorted_far}
 use Rattle.std.proofs.lemmas.List.MinMax.{ranks_by}
 use Rattle.std.proofs.lemmas.Map.Keys.{IsDistinct-IsPermutation}
@@ -10,16 +10,7 @@ use Rattle.std.specs.declared.cmp.Ordering.{Ordering}
 use Rattle.std.specs.declared.cmp.Ordering.TheVariants.{Less, Equal, Greater}
 use Rattle.std.specs.Cmp.{IsTotalOrder}
 use Rattle.database_spec.specs.ListsLaws.{PairsByRecursion}
-
--- what holds of each item, and of each two in their order
-all-at : {A : Type 0} (P : A → Type 0) (xs : List A) → ((k : ℕ) (d : A) → k < length xs → P (get_or xs k d)) → AllByRecursion P xs
-all-at P [] each = tt
-all-at P (x ∷ xs) each = (each zero x (omega arith), all-at P xs (λ k d less. each (suc k) d (omega (arith, less))))
-
-pub pairs-at : {A : Type 0} (R : A → A → Type 0) (xs : List A) → ((i j : ℕ) (d : A) → i < j → j < length xs → R (get_or xs i d) (get_or xs j d)) → PairsByRecursion R xs
-pairs-at R [] each = tt
-pairs-at R (x ∷ xs) each =
-    (all-at (R x) xs (λ k d less. each zero (suc k) d (omega arith) (omega (arith, less))), pairs-at R xs (λ i j d less long. each (suc i) (suc j) d (omega (arith, less)) (omega (arith, long))))
+use Rattle.index_changes.specs.ListsLaws.{pairs-at}
 
 not-equal : (o : Ordering) → o ≢ Equal → is_eq o ≡ false
 not-equal Less unequal = refl

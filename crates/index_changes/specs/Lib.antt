@@ -1,3 +1,4 @@
 pub mod Pairs
 pub mod Dues
+pub mod ListsLaws
 pub mod TouchedLaws

@@ -1,0 +1,4 @@
+pub mod TouchedRows
+pub mod LittleTouched
+pub mod TouchedRowsLaws
+pub mod PartedRowsLaws

@@ -1,0 +1,4 @@
+pub mod Cells
+pub mod Narrowing
+pub mod Rows
+pub mod Writing

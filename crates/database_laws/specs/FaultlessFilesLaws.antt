@@ -1,12 +1,11 @@
--- It cannot be that a file without a first fault is not sound: crates above cite these facts in their proofs.
-use Rattle.std.proofs.Common.{◌≡◌, ◌≢◌, ℕ, ℤ, zero, suc, ◌<◌, ◌≤◌, ◌<ℤ◌, ◌⊎◌, Bool, true, false, List, [], ◌∷◌, ◌++◌, length, map, slice_index_or, is_ok, refl, sym, ap, ◌∙◌, subst, inl, inr, arith, append_assoc}
+-- What a check needs to tell right from wrong: entries of indexes in their order, what compares nothing, and rows whose rowids differ; crates above cite these facts in their proofs.
+use Rattle.std.proofs.Common.{◌≡◌, ◌≢◌, ℕ, ℤ, zero, suc, ◌<◌, ◌≤◌, ◌<ℤ◌, ◌⊎◌, Bool, true, false, List, [], ◌∷◌, ◌++◌, length, map, slice_index_or, is_ok, refl, sym, ap, ◌∙◌, subst, inl, inr, arith}
 use Rattle.std.proofs.Math.Path.{subst⁻¹}
-use Rattle.std.specs.Prelude.{AllPairs, Any, filter_map}
-use Rattle.std.specs.List.{flat_map, list_any, AllZip, AllByRecursion, range_with_len}
+use Rattle.std.specs.Prelude.{AllPairs, Any}
+use Rattle.std.specs.List.{flat_map, AllZip, AllByRecursion, range_with_len}
 use Rattle.std.specs.Ordering.{ordering_then}
 use Rattle.std.specs.declared.cmp.Ordering.{Ordering}
 use Rattle.std.specs.declared.cmp.Ordering.TheVariants.{Less, Equal, Greater}
-use Rattle.std.proofs.lemmas.Bool.{cases_eq}
 use Rattle.std.proofs.lemmas.Int.{ints}
 use Rattle.std.proofs.lemmas.List.{get_or_default, length-map}
 use Rattle.std.proofs.lemmas.List.Sorted.{Contains-permutation, IsPermutation-sym}
@@ -19,7 +18,6 @@ use Rattle.format_spec.specs.Record.{IsRecord}
 use Rattle.format_spec.specs.Header.{freelist_trunk, freelist_pages}
 use Rattle.page_spec.specs.Pages.{next_page}
 use Rattle.page_spec.specs.Freelists.{leaf_count, leaf_at}
-use Rattle.refusal.specs.declared.Rule.TheVariants as broken
 use Rattle.schema_spec.specs.declared.schema.Table.{Table}
 use Rattle.schema_spec.specs.declared.schema.Index.{Index}
 use Rattle.tree_spec.specs.declared.TreeKind.{TreeKind}
@@ -27,13 +25,10 @@ use Rattle.tree_spec.specs.declared.TreeKind.TheVariants as tree
 use Rattle.tree_spec.specs.Trees.{TreeOf, Member, list_of, list_in}
 use Rattle.tree_spec.specs.Bounds.{IsOrdered, below_rowids, greatest_rowid}
 use Rattle.tree_spec.specs.BoundsLaws.{InOrder-rises, rises-pairs}
-use Rattle.tree_spec.specs.Standing.{Sizes, Paged, IsRootNumber}
-use Rattle.tree_spec.specs.Worlds.{greatest_count}
+use Rattle.tree_spec.specs.Standing.{Sizes, Paged}
 use Rattle.tree_spec.specs.WorldsLaws.{all-front, all-back, all-join}
 use Rattle.database_spec.specs.declared.catalog.NamedEntry.{NamedEntry}
 use Rattle.database_spec.specs.declared.catalog.Catalog.{Catalog}
-use Rattle.database_spec.specs.declared.fault.FileFault.{FileFault}
-use Rattle.database_spec.specs.declared.fault.FileFault.TheVariants.{PageTwice, PageLost, KeyOrder, IndexDisagrees, Damaged}
 use Rattle.database_spec.specs.RightRows.{HasCatalog}
 use Rattle.database_spec.specs.CatalogsLaws.{list-one}
 use Rattle.database_spec.specs.Walks.{Finding, Finds, Ends, Holds, Breaks, Disorders, Bares, IsWalk, members_found, IsList}
@@ -43,50 +38,33 @@ use Rattle.database_spec.specs.ItemsLaws.{Has, has-from, has-to, has-left, has-r
 use Rattle.database_spec.specs.Rows.{TableRow, IsRow, IsPlain}
 use Rattle.database_spec.specs.Keys.{order_of, last_value, entry_cmp, IsBefore, entry_of, IsProjection, IsIndexOf}
 use Rattle.database_spec.specs.KeysLaws.{before-apart}
-use Rattle.database_spec.specs.Databases.{Database, IsSound}
-use Rattle.database_spec.specs.FileFindings.{Content, Rows, Entries, Anything, Subject, Walked, Found, InTree, Frees, Tears, Counts, Needs, Compares, table_kind, table_content, IsIndexContent, IsWalked, is_number, leaf_found, leaves_found, trunks_found, freelist_found, pages_needed, tree_found, content_compared, compared, AreFound}
-use Rattle.database_spec.specs.FileFaults.{is_found, free_page, ends_elsewhere, IsEntry, NotBefore, IsWrongMember, Disagrees, FirstDisagrees, IsWrong, FirstWrong, FileHasFault}
+use Rattle.database_spec.specs.FileFindings.{Content, Entries, Anything, Subject, Walked, Found, InTree, Frees, Tears, Counts, Needs, Compares, table_kind, table_content, IsIndexContent, IsWalked, is_number, leaf_found, leaves_found, trunks_found, freelist_found, tree_found, AreFound}
+use Rattle.database_spec.specs.FileFaults.{IsEntry, Disagrees}
 use Rattle.prepared_spec.specs.MembersLaws.{member-or}
 use Rattle.prepared_laws.specs.PaddedKeysLaws.{padded-same}
 use Rattle.prepared_laws.specs.SortsLaws.{on-if}
 use Rattle.prepared_laws.specs.TablesMadeLaws.{Apart}
 use Rattle.prepared_laws.specs.ChangesMadeLaws.{last-is, entry-long, by_entry, by_entry-total, projection-some}
-use Rattle.database_laws.specs.RightFindings.{IsAfter, IsRightMember, IsRight, AreRight}
+use Rattle.database_laws.specs.RightFindings.{IsAfter, IsRightMember, AreRight}
 use Rattle.database_laws.specs.FoundTreesLaws.{walk-tree}
-use Rattle.database_laws.specs.FindingsMadeLaws.{found-some}
-use Rattle.database_laws.specs.RightFindingsLaws.{right-front, right-join, wrong-front, wrong-back}
 use Rattle.database_laws.specs.FoundFreelistsLaws.{on-trunk}
 use Rattle.database_laws.specs.SubjectsLaws.{zip-has, has-zip, origin-of, table-stands, own_tree, own-tree, tree-own, read-number}
-use Rattle.database_laws.specs.RightFilesLaws.{all-of, in_tree, right-flawless, right-walk, right-sound}
+use Rattle.database_laws.specs.RightFilesLaws.{all-of, in_tree, right-flawless, right-walk}
 use Rattle.database_laws.specs.SoundFilesLaws.{pairs-to}
 
--- What cannot be otherwise.
-
-abbrev pub Surely : Type 0 → Type 0
-Surely A = (A → ⊥) → ⊥
-
-pub surely : {A : Type 0} → A → Surely A
-surely a none = none a
-
-pub surely-then : {A B : Type 0} → Surely A → (A → Surely B) → Surely B
-surely-then one step none = one (λ a. step a none)
-
-pub surely-or : (A : Type 0) → Surely (A ⊎ (A → ⊥))
-surely-or A none = none (inr (λ a. none (inl a)))
-
--- Of items some of which have P there is one, before which none of these stands.
+-- Of items some of which have P one is the first, before which none of these stands.
 module _ {A : Type 0} (Before : A → A → Type 0) (P Fits : A → Type 0) (onward : (a b c : A) → Fits a → Fits b → Fits c → Before a b → Before b c → Before a c) (apart : (a b : A) → Before a b → Before b a → ⊥) where
-  abbrev Least : List A → Type 0
+  abbrev pub Least : List A → Type 0
   Least xs = (x : A) × Has x xs × P x × ((y : A) → Has y xs → P y → ¬ Before y x)
 
-  abbrev Lacks : List A → Type 0
+  abbrev pub Lacks : List A → Type 0
   Lacks xs = (y : A) → Has y xs → ¬ P y
 
-  first-least : (z : A) (xs : List A) → P z ⊎ (P z → ⊥) → Lacks xs → Least (z ∷ xs) ⊎ Lacks (z ∷ xs)
+  pub first-least : (z : A) (xs : List A) → P z ⊎ (P z → ⊥) → Lacks xs → Least (z ∷ xs) ⊎ Lacks (z ∷ xs)
   first-least z xs (inl p) none = inl (z, inl refl, p, λ y h q before. elim h [ inl e ↦ apart z z (subst⁻¹ (λ v. Before v z) e before) (subst⁻¹ (λ v. Before v z) e before) | inr later ↦ none y later q ])
   first-least z xs (inr np) none = inr (λ y h q. elim h [ inl e ↦ np (subst⁻¹ P e q) | inr later ↦ none y later q ])
 
-  both-least : (z : A) (xs : List A) → Fits z → AllByRecursion Fits xs → P z → (least : Least xs) → Before z least.0 ⊎ (Before z least.0 → ⊥) → Least (z ∷ xs)
+  pub both-least : (z : A) (xs : List A) → Fits z → AllByRecursion Fits xs → P z → (least : Least xs) → Before z least.0 ⊎ (Before z least.0 → ⊥) → Least (z ∷ xs)
   both-least z xs own fit p least (inl b) = (
     z,
     inl refl,
@@ -103,20 +81,9 @@ module _ {A : Type 0} (Before : A → A → Type 0) (P Fits : A → Type 0) (onw
     λ y h q before. elim h [ inl e ↦ nb (subst⁻¹ (λ v. Before v least.0) e before) | inr later ↦ least.3 y later q before ],
   )
 
-  some-least : (z : A) (xs : List A) → Fits z → AllByRecursion Fits xs → P z ⊎ (P z → ⊥) → Least xs → Surely (Least (z ∷ xs) ⊎ Lacks (z ∷ xs))
-  some-least z xs own fit (inl p) least = surely-then (surely-or (Before z least.0)) (λ less. surely (inl (both-least z xs own fit p least less)))
-  some-least z xs own fit (inr np) least =
-      surely (inl (least.0, inr least.1, least.2, λ y h q before. elim h [ inl e ↦ np (subst⁻¹ P e q) | inr later ↦ least.3 y later q before ]))
-
-  surely-least : (xs : List A) → AllByRecursion Fits xs → Surely (Least xs ⊎ Lacks xs)
-  surely-least [] fit = surely (inr (λ y h p. h))
-  surely-least (z ∷ xs) fit =
-      surely-then (surely-least xs fit.1)
-      (λ rest. surely-then (surely-or (P z)) (λ own. elim rest [ inl least ↦ some-least z xs fit.0 fit.1 own least | inr none ↦ surely (first-least z xs own none) ]))
-
 -- What is found one by one, but for comparisons.
 
-abbrev IsNoCompare : Found → Type 0
+abbrev pub IsNoCompare : Found → Type 0
 IsNoCompare (InTree subject finding) = Unit {0}
 IsNoCompare (Frees page) = Unit {0}
 IsNoCompare (Tears page) = Unit {0}
@@ -124,94 +91,34 @@ IsNoCompare (Counts pages) = Unit {0}
 IsNoCompare (Needs page) = Unit {0}
 IsNoCompare (Compares index rows members) = ⊥
 
-less-or : (o : Ordering) → (o ≡ Less) ⊎ (o ≢ Less)
+pub less-or : (o : Ordering) → (o ≡ Less) ⊎ (o ≢ Less)
 less-or Less = inl refl
 less-or Equal = inr (λ e. let h : ⊥ = cc in h)
 less-or Greater = inr (λ e. let h : ⊥ = cc in h)
 
-one-after : (root : ℕ) (index : Index) (entry : List Value) (one : Found) → ¬ NotBefore root index entry one → IsAfter root index entry one
-one-after root index entry (InTree subject (Finds page)) right = tt
-one-after root index entry (InTree subject (Ends page depth)) right = tt
-one-after root index entry (InTree subject (Holds page member)) right =
-    λ same other is. elim (less-or (entry_cmp (order_of index) other entry)) [ inl before ↦ before | inr behind ↦ absurd (right (same, (other, is, behind))) ]
-one-after root index entry (InTree subject (Breaks page rule)) right = tt
-one-after root index entry (InTree subject (Disorders page)) right = tt
-one-after root index entry (InTree subject (Bares page)) right = tt
-one-after root index entry (Frees page) right = tt
-one-after root index entry (Tears page) right = tt
-one-after root index entry (Counts pages) right = tt
-one-after root index entry (Needs page) right = tt
-one-after root index entry (Compares other rows members) right = tt
-
-any-more : {A : Type 0} (P : A → Type 0) (y : A) (xs : List A) → Any P xs → Any P (y ∷ xs)
+pub any-more : {A : Type 0} (P : A → Type 0) (y : A) (xs : List A) → Any P xs → Any P (y ∷ xs)
 any-more P y xs (k, x, low, e, p) = (suc k, x, omega (arith, low), e, p)
-
-all-after : (root : ℕ) (index : Index) (entry : List Value) (before : List Found) → ¬ Any (NotBefore root index entry) before → AllByRecursion (IsAfter root index entry) before
-all-after root index entry [] none = tt
-all-after root index entry (one ∷ before) none = (
-  one-after root index entry one (λ wrong. none (zero, one, omega arith, refl, wrong)),
-  all-after root index entry before (λ some. none (any-more (NotBefore root index entry) one before some)),
-)
-
-false-else : (t : Bool) → (t ≡ true → ⊥) → t ≡ false
-false-else true none = absurd (none refl)
-false-else false none = refl
-
-true-else : (t : Bool) → (t ≡ false → ⊥) → t ≡ true
-true-else true none = refl
-true-else false none = absurd (none refl)
-
-member-right : (before : List Found) (subject : Subject) (content : Content) (page : ℕ) (member : Member) → ((fault : FileFault) → ¬ IsWrongMember before subject content page member fault) → Surely (IsRightMember before subject content member)
-member-right before subject Rows page member none = λ lacks. none (Damaged page broken.Record) (lacks, refl)
-member-right before subject (Entries index rows) page member none =
-    let some : Surely ((entry : List Value) × IsEntry index member entry) = λ lacks. none (Damaged page broken.Record) (inl (λ entry is. lacks (entry, is), refl)) in
-    surely-then some
-    (λ found. surely (found.0, found.1, all-after subject.root index found.0 before (λ wrong. none (KeyOrder page) (inr (found.0, found.1, wrong, refl)))))
-member-right before subject Anything page member none = surely tt
-
-one-right : (before : List Found) (one : Found) → IsNoCompare one → ((fault : FileFault) → ¬ IsWrong before one fault) → Surely (IsRight before one)
-one-right before (InTree subject (Finds page)) plain none = surely (false-else (is_found page before) (λ twice. none (PageTwice page) (twice, refl)))
-one-right before (InTree subject (Ends page depth)) plain none =
-    surely (false-else (list_any (ends_elsewhere subject.root depth) before) (λ other. none (Damaged page broken.Depth) (other, refl)))
-one-right before (InTree subject (Holds page member)) plain none = member-right before subject subject.content page member none
-one-right before (InTree subject (Breaks page rule)) plain none = absurd (none (Damaged page rule) refl)
-one-right before (InTree subject (Disorders page)) plain none = absurd (none (KeyOrder page) refl)
-one-right before (InTree subject (Bares page)) plain none = absurd (none (Damaged page broken.Empty) refl)
-one-right before (Frees page) plain none = surely (false-else (is_found page before) (λ twice. none (PageTwice page) (twice, refl)))
-one-right before (Tears page) plain none = absurd (none (Damaged page broken.Trunk) refl)
-one-right before (Counts pages) plain none =
-    surely (elim (cases_eq (length (filter_map free_page before)) pages) [ inl same ↦ same | inr unlike ↦ absurd (none (Damaged 1 broken.Count) (unlike, refl)) ])
-one-right before (Needs page) plain none = surely (true-else (is_found page before) (λ lost. none (PageLost page) (lost, refl)))
-one-right before (Compares index rows members) plain none = absurd plain
-
--- where nothing is the first that is wrong, it cannot be that something is not right
-parts-right : (before found : List Found) → AllByRecursion IsNoCompare found → ((fault : FileFault) → ¬ FirstWrong before found fault) → Surely (AreRight before found)
-parts-right before [] all none = surely tt
-parts-right before (one ∷ found) all none =
-    let here = λ (fault : FileFault) (wrong : IsWrong before one fault). none fault (inl wrong) in
-    surely-then (one-right before one all.0 here)
-    (λ right. surely-then (parts-right (before ++ one ∷ []) found all.1 (λ fault wrong. none fault (inr (here, wrong)))) (λ rest. surely (right, rest)))
 
 tree-no_compare : (subject : Subject) (findings : List Finding) → AllByRecursion IsNoCompare (in_tree subject findings)
 tree-no_compare subject [] = tt
 tree-no_compare subject (finding ∷ findings) = (tt, tree-no_compare subject findings)
 
-trees-no_compare : (walks : List Walked) → AllByRecursion IsNoCompare (flat_map tree_found walks)
+pub trees-no_compare : (walks : List Walked) → AllByRecursion IsNoCompare (flat_map tree_found walks)
 trees-no_compare [] = tt
 trees-no_compare (walked ∷ walks) = all-join IsNoCompare (tree_found walked) (flat_map tree_found walks) (tree-no_compare walked.subject walked.findings) (trees-no_compare walks)
 
-needs-no_compare : (numbers : List ℕ) → AllByRecursion IsNoCompare (map Needs numbers)
+pub needs-no_compare : (numbers : List ℕ) → AllByRecursion IsNoCompare (map Needs numbers)
 needs-no_compare [] = tt
 needs-no_compare (n ∷ numbers) = (tt, needs-no_compare numbers)
 
 -- Entries of an index.
 
 -- the entries of a walk, each behind those before it
-record WalkEntries (root : ℕ) (index : Index) (before : List Found) (members : List Member) : Type 0 where
-  entries : List (List Value)
-  zip : AllZip (IsEntry index) members entries
-  pairs : PairsByRecursion (IsBefore index) entries
-  after : AllByRecursion (λ entry. AllByRecursion (IsAfter root index entry) before) entries
+pub record WalkEntries (root : ℕ) (index : Index) (before : List Found) (members : List Member) : Type 0 where
+  pub entries : List (List Value)
+  pub zip : AllZip (IsEntry index) members entries
+  pub pairs : PairsByRecursion (IsBefore index) entries
+  pub after : AllByRecursion (λ entry. AllByRecursion (IsAfter root index entry) before) entries
 
 fewer-after : (root : ℕ) (index : Index) (before : List Found) (one : Found) (entries : List (List Value)) → AllByRecursion (λ entry. AllByRecursion (IsAfter root index entry) (before ++ one ∷ [])) entries
     → AllByRecursion (λ entry. AllByRecursion (IsAfter root index entry) before) entries
@@ -221,7 +128,7 @@ fewer-after root index before one (entry ∷ entries) all = (all-front (IsAfter 
 walk-past : (root : ℕ) (index : Index) (before : List Found) (one : Found) (members : List Member) → WalkEntries root index (before ++ one ∷ []) members → WalkEntries root index before members
 walk-past root index before one members walk = record { entries = walk.entries; zip = walk.zip; pairs = walk.pairs; after = fewer-after root index before one walk.entries walk.after }
 
-walk-entries : (subject : Subject) (index : Index) (rows : List TableRow) → subject.content ≡ Entries index rows → (before : List Found) (findings : List Finding) → AreRight before (in_tree subject findings)
+pub walk-entries : (subject : Subject) (index : Index) (rows : List TableRow) → subject.content ≡ Entries index rows → (before : List Found) (findings : List Finding) → AreRight before (in_tree subject findings)
     → WalkEntries subject.root index before (members_found findings)
 walk-entries subject index rows e before [] right = record { entries = []; zip = tt; pairs = tt; after = tt }
 walk-entries subject index rows e before (Finds page ∷ findings) right =
@@ -284,12 +191,12 @@ module _ (index : Index) where
   entries-decode (m ∷ members) [] zip = absurd zip
   entries-decode (m ∷ members) (e ∷ entries) zip = (zip.0.is_record, entries-decode members entries zip.1)
 
-  rows-long : (rows : List TableRow) → AllByRecursion HasRowid (map (entry_of index) rows)
+  pub rows-long : (rows : List TableRow) → AllByRecursion HasRowid (map (entry_of index) rows)
   rows-long [] = tt
   rows-long (row ∷ rows) = (row-long row, rows-long rows)
 
   -- entries in order, of which none disagrees with rows of rowids that differ, are the projection of these
-  agrees-index : (rows : List TableRow) (members : List Member) (entries : List (List Value)) → AllZip (IsEntry index) members entries → PairsByRecursion (IsBefore index) entries → Apart rows
+  pub agrees-index : (rows : List TableRow) (members : List Member) (entries : List (List Value)) → AllZip (IsEntry index) members entries → PairsByRecursion (IsBefore index) entries → Apart rows
       → ((entry : List Value) → ¬ Disagrees index rows entries entry) → IsIndexOf index rows members
   agrees-index rows members entries zip pairs apart agree =
       let own = map (entry_of index) rows in
@@ -312,30 +219,10 @@ module _ (index : Index) where
             agree b (inr (inr (unique, (j, long, get_or_default entries j b d long), (a, (i, low, get_or_default entries i a d low), sorted i j d less long, clash))));
       }
 
-  disagrees-in : (rows : List TableRow) (entries : List (List Value)) (entry : List Value) → Disagrees index rows entries entry → Has entry (entries ++ map (entry_of index) rows)
+  pub disagrees-in : (rows : List TableRow) (entries : List (List Value)) (entry : List Value) → Disagrees index rows entries entry → Has entry (entries ++ map (entry_of index) rows)
   disagrees-in rows entries entry (inl wrong) = has-left entries (map (entry_of index) rows) entry (has-from entries entry wrong.0)
   disagrees-in rows entries entry (inr (inl wrong)) = has-right entries (map (entry_of index) rows) entry (has-from (map (entry_of index) rows) entry wrong.1)
   disagrees-in rows entries entry (inr (inr wrong)) = has-left entries (map (entry_of index) rows) entry (has-from entries entry wrong.1)
-
-  index-agrees : (rows : List TableRow) (members : List Member) (entries : List (List Value)) → AllZip (IsEntry index) members entries → PairsByRecursion (IsBefore index) entries → Apart rows
-      → ((rowid : ℤ) → ¬ FirstDisagrees index rows members rowid) → Surely (IsIndexOf index rows members)
-  index-agrees rows members entries zip pairs apart none =
-      let all = entries ++ map (entry_of index) rows in
-      let long = all-join HasRowid entries (map (entry_of index) rows) (entries-long members entries zip) (rows-long rows) in
-      surely-then (surely-least (IsBefore index) (Disagrees index rows entries) HasRowid before-then (before-apart index) all long)
-      (λ found. elim found [
-        | inl least ↦
-            let last = all-of HasRowid all least.0 long least.1 in
-            absurd (none last.1.0 (record {
-              entries = entries;
-              decoded = entries-decode members entries zip;
-              entry = least.0;
-              disagrees = least.2;
-              rowid_is = last.1.1;
-              first = λ other wrong. least.3 other (disagrees-in rows entries other wrong) wrong;
-            }))
-        | inr agree ↦ surely (agrees-index rows members entries zip pairs apart (λ entry wrong. agree entry (disagrees-in rows entries entry wrong) wrong))
-      ])
 
 -- Rows of a plain table.
 
@@ -377,14 +264,11 @@ module _ (sizes : Sizes) (base : Paged) where
       ))
 
 module _ (sizes : Sizes) (base : Paged) (catalog : Catalog) (found : List Found) (has : HasCatalog sizes base catalog) (are : AreFound sizes base catalog found) where
-  abbrev of_trees : List Found
+  abbrev pub of_trees : List Found
   of_trees = flat_map tree_found are.walks
 
   abbrev of_freelist : List Found
   of_freelist = freelist_found sizes base
-
-  abbrev of_needs : List Found
-  of_needs = map Needs (pages_needed sizes base)
 
   -- the rows of a plain table have rowids that differ
   plain-apart : AreRight [] of_trees → (named : NamedEntry) (table : Table) (rows : List TableRow) → Has named catalog.tables → IsPlain sizes base named.entry table rows → Apart rows
@@ -408,7 +292,7 @@ module _ (sizes : Sizes) (base : Paged) (catalog : Catalog) (found : List Found)
       (subst (λ (m : List Member). AllZip (IsRow table) m rows) members plain.rows_are)
 
   -- what an index's tree is compared with
-  entries-apart : AreRight [] of_trees → (walked : Walked) → Has walked are.walks → (index : Index) (rows : List TableRow) → walked.subject.content ≡ Entries index rows → Apart rows
+  pub entries-apart : AreRight [] of_trees → (walked : Walked) → Has walked are.walks → (index : Index) (rows : List TableRow) → walked.subject.content ≡ Entries index rows → Apart rows
   entries-apart right walked h index rows e =
       let from = zip-has (IsWalked sizes base) are.subjects are.walks walked are.are_walks h in
       let content : from.0.content ≡ Entries index rows = sym (ap (λ (s : Subject). s.content) from.2.subject_is) ∙ e in
@@ -428,52 +312,5 @@ module _ (sizes : Sizes) (base : Paged) (catalog : Catalog) (found : List Found)
       no_table true clash = let no : ⊥ = cc in no
       no_table false clash = let no : ⊥ = cc in no
 
-  content-right : AreRight [] of_trees → (walked : Walked) → Has walked are.walks → (content : Content) → walked.subject.content ≡ content → (before : List Found)
-      → ((fault : FileFault) → ¬ FirstWrong before (content_compared content (members_found walked.findings)) fault) → Surely (AreRight before (content_compared content (members_found walked.findings)))
-  content-right right walked h Rows e before none = surely tt
-  content-right right walked h (Entries index rows) e before none =
-      let earlier = right-walk [] are.walks walked right h in
-      let walk = walk-entries walked.subject index rows e earlier.0 walked.findings earlier.1 in
-      let members = members_found walked.findings in
-      surely-then (index-agrees index rows members walk.entries walk.zip walk.pairs (entries-apart right walked h index rows e) (λ rowid wrong. none (IndexDisagrees index.name rowid) (inl (rowid, wrong, refl))))
-      (λ is. surely (is, tt))
-  content-right right walked h Anything e before none = surely tt
-
-  indexes-right : AreRight [] of_trees → (walks : List Walked) → ((walked : Walked) → Has walked walks → Has walked are.walks) → (before : List Found)
-      → ((fault : FileFault) → ¬ FirstWrong before (flat_map compared walks) fault) → Surely (AreRight before (flat_map compared walks))
-  indexes-right right [] in_walks before none = surely tt
-  indexes-right right (walked ∷ walks) in_walks before none =
-      let here = compared walked in
-      let later = flat_map compared walks in
-      surely-then (content-right right walked (in_walks walked (inl refl)) walked.subject.content refl before (λ fault wrong. none fault (wrong-front before here later fault wrong)))
-      (λ own. surely-then (indexes-right right walks (λ w h. in_walks w (inr h)) (before ++ here) (λ fault wrong. none fault (wrong-back before here later fault own wrong)))
-      (λ rest. surely (right-join before here later own rest)))
-
-  freelist-no_compare : AllByRecursion IsNoCompare of_freelist
+  pub freelist-no_compare : AllByRecursion IsNoCompare of_freelist
   freelist-no_compare = all-join IsNoCompare (trunks_found sizes base (suc base.count) 1 (freelist_trunk (base.pages 1))) (Counts (freelist_pages (base.pages 1)) ∷ []) (trunks-no_compare sizes base (suc base.count) 1 (freelist_trunk (base.pages 1))) (tt, tt)
-
-  -- where no first thing is wrong, it cannot be that not all is right
-  pub faultless-right : ((fault : FileFault) → ¬ FirstWrong [] found fault) → Surely (AreRight [] found)
-  faultless-right none =
-      let of_indexes = flat_map compared are.walks in
-      let front = of_trees ++ (of_freelist ++ of_needs) in
-      let parts = all-join IsNoCompare of_trees (of_freelist ++ of_needs) (trees-no_compare are.walks) (all-join IsNoCompare of_freelist of_needs freelist-no_compare (needs-no_compare (pages_needed sizes base))) in
-      let whole : found ≡ front ++ of_indexes = are.found_are ∙ ap (λ (rest : List Found). of_trees ++ rest) (sym (append_assoc of_freelist of_needs of_indexes)) ∙ sym (append_assoc of_trees (of_freelist ++ of_needs) of_indexes) in
-      let wrong = λ (fault : FileFault) (w : FirstWrong [] (front ++ of_indexes) fault). none fault (subst⁻¹ (λ (list : List Found). FirstWrong [] list fault) whole w) in
-      surely-then (parts-right [] front parts (λ fault w. wrong fault (wrong-front [] front of_indexes fault w)))
-      (λ first. surely-then
-      (indexes-right (right-front [] of_trees (of_freelist ++ of_needs) first) are.walks (λ w h. h) front (λ fault w. wrong fault (wrong-back [] front of_indexes fault first w)))
-      (λ rest. surely (subst⁻¹ (AreRight []) whole (right-join [] front of_indexes first rest))))
-
--- so it cannot be that a file with a catalog, whose findings have no first fault, is not sound
-pub faultless-sound : (sizes : Sizes) (base : Paged) (catalog : Catalog) (found : List Found) → IsRootNumber sizes base 1 → base.count ≤ greatest_count → HasCatalog sizes base catalog
-    → AreFound sizes base catalog found → ((fault : FileFault) → ¬ FirstWrong [] found fault) → Surely ((db : Database) × IsSound sizes base catalog db)
-faultless-sound sizes base catalog found first few has are none =
-    surely-then (faultless-right sizes base catalog found has are none) (λ right. surely (right-sound sizes base catalog found first few has are right))
-
--- Nor that it is not sound and has no fault.
-pub sound-or_fault : (sizes : Sizes) (base : Paged) (catalog : Catalog) → IsRootNumber sizes base 1 → base.count ≤ greatest_count → HasCatalog sizes base catalog
-    → ((db : Database) → ¬ IsSound sizes base catalog db) → ((fault : FileFault) → ¬ FileHasFault sizes base fault) → ⊥
-sound-or_fault sizes base catalog first few has unsound none =
-    let found = found-some sizes base catalog has in
-    faultless-sound sizes base catalog found.0 first few has found.1 (λ fault wrong. none fault (inr (catalog, has, (found.0, found.1, wrong)))) (λ sound. unsound sound.0 sound.1)

@@ -7,3 +7,5 @@ pub mod RightFilesLaws
 pub mod SoundFilesLaws
 pub mod FindingsMadeLaws
 pub mod FaultlessFilesLaws
+pub mod ReadableLaws
+pub mod DecidedFilesLaws

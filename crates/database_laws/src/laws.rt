@@ -1,5 +1,5 @@
 // Laws about the definitions of databases.
-ghost use Rattle.std.specs.Prelude.{◌≤◌, [], ℕ, List};
+ghost use Rattle.std.specs.Prelude.{◌≤◌, ◌⊎◌, [], ℕ, List};
 ghost use Rattle.std.specs.List.{AllByRecursion};
 ghost use Rattle.common_spec.specs.ReadingLaws.{IsOne};
 ghost use Rattle.common_spec.specs.Reading.{OrFault};
@@ -31,11 +31,11 @@ pub fn sound_files_are_right()
     ensures found { (sizes : Sizes) (base : Paged) (catalog : Catalog) → HasCatalog sizes base catalog → (found : List Found) × AreFound sizes base catalog found }
 {}
 
-/// What is right is not wrong, so a sound file has no fault: a file with a catalog is one sound database, or has one first fault, and it cannot be that it is neither.
+/// What is right is not wrong, so a sound file has no fault: a file with a catalog is one sound database or has one first fault, and which of the two is decided. Page 1 is a page of the file, and it has at most 2^24 pages.
 pub fn sound_files_have_no_fault()
     ensures right { (found : List Found) (fault : FileFault) → AreRight [] found → ¬ FirstWrong [] found fault }
     ensures sound { (sizes : Sizes) (base : Paged) (catalog : Catalog) (db : Database) (fault : FileFault) → IsSound sizes base catalog db → ¬ FileHasFault sizes base fault }
     ensures either { (sizes : Sizes) (base : Paged) (catalog : Catalog) → IsRootNumber sizes base 1 → base.count ≤ greatest_count → HasCatalog sizes base catalog
-        → ((db : Database) → ¬ IsSound sizes base catalog db) → ((fault : FileFault) → ¬ FileHasFault sizes base fault) → ⊥ }
+        → ((db : Database) × IsSound sizes base catalog db) ⊎ ((fault : FileFault) × FileHasFault sizes base fault) }
     ensures one { (sizes : Sizes) (base : Paged) (catalog : Catalog) → IsOne (OrFault (IsSound sizes base catalog) (FileHasFault sizes base)) }
 {}

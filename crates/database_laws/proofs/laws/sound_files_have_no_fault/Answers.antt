@@ -6,7 +6,7 @@ use Rattle.database_spec.specs.FileFaults.{FileHasFault}
 use Rattle.database_spec.specs.FileFaultsLaws.{file_fault-one}
 use Rattle.database_laws.specs.RightFindingsLaws.{are_right-not_wrong}
 use Rattle.database_laws.specs.SoundFilesLaws.{sound-no_fault}
-use Rattle.database_laws.specs.FaultlessFilesLaws.{sound-or_fault}
+use Rattle.database_laws.specs.DecidedFilesLaws.{sound-or_fault}
 use Rattle.database_laws.proofs.laws.sound_files_have_no_fault.Goals as goal
 
 pub returns-clause-right : goal.returns-clause-right

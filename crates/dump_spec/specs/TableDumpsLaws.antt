@@ -16,7 +16,7 @@ use Rattle.database_spec.specs.CatalogsLaws.{has_catalog-one, catalog_fault-one,
 use Rattle.database_spec.specs.RightRows.{HasCatalog}
 use Rattle.database_spec.specs.Rows.{TableRow, IsRow, IsPlain}
 use Rattle.database_spec.specs.RowsLaws.{row-one}
-use Rattle.database_spec.specs.Walks.{Finding, Finds, Ends, Holds, Breaks, Disorders, Bares, IsWalk, members_found, stops}
+use Rattle.database_spec.specs.Walks.{Finding, Finds, Ends, Holds, Breaks, Disorders, Bares, members_found, stops}
 use Rattle.database_spec.specs.WalksLaws.{walk-one}
 use Rattle.prepared_spec.specs.InputFaultsLaws.{cause-one, row-no_cause}
 use Rattle.prepared_spec.specs.Plans.{table_named}

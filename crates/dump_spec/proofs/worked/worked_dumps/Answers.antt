@@ -1,4 +1,4 @@
-use Rattle.std.proofs.Common.{◌≡◌, ℕ, List, [], ◌∷◌, ◌++◌, Ok, codes, refl, subst, inl, inr, arith}
+use Rattle.std.proofs.Common.{◌≡◌, ℕ, List, [], ◌∷◌, Ok, codes, refl, subst, inr, arith}
 use Rattle.std.specs.Fmt.{digits}
 use Rattle.rbu_value.specs.declared.value.Value.TheVariants.{Null, Text}
 use Rattle.format_spec.specs.Record.{IsRecord}

@@ -1,8 +1,7 @@
-use Rattle.std.proofs.Common.{◌≡◌, ◌∙◌, List, Option, Result, Some, None, Ok, Err, ap, ap₂, refl, sym, subst}
+use Rattle.std.proofs.Common.{◌≡◌, ◌∙◌, Option, Some, None, Err, ap, ap₂, refl, sym}
 use Rattle.std.proofs.Math.Path.{subst⁻¹}
 use Rattle.std.proofs.lemmas.Option.{IfSome_then}
 use Rattle.page_store.specs.StoreLaws.{some-all}
-use Rattle.refusal.specs.declared.Refusal.{Refusal}
 use Rattle.refusal.specs.declared.Refusal.TheVariants.{NoTarget}
 use Rattle.tree_walk.specs.Stores.{sizes_of, paged}
 use Rattle.database_spec.specs.declared.catalog.NamedEntry.{NamedEntry}

@@ -1,9 +1,8 @@
-use Rattle.std.proofs.Common.{◌∙◌, ◌≡◌, List, ℕ, Result, Ok, Err, refl, subst}
+use Rattle.std.proofs.Common.{List, ℕ, subst}
 use Rattle.std.proofs.lemmas.Option.{IfSome_then}
-use Rattle.page_store.specs.StoreLaws.{some-all}
 use Rattle.tree_walk.specs.Stores.{sizes_of, paged}
 use Rattle.table_dump.specs.Rows.{PrintsTree}
-use Rattle.table_dump.proofs.Catalogs.{root-within, text-meant, tree-meant}
+use Rattle.table_dump.proofs.Catalogs.{root-within, tree-meant}
 use Rattle.table_dump.proofs.named.print_entry.Goals as goal
 
 pub returns-in-Ok-clause-pages : goal.returns-in-Ok-clause-pages

@@ -1,6 +1,5 @@
-use Rattle.std.proofs.Common.{◌∙◌, arith, refl}
+use Rattle.std.proofs.Common.{arith, refl}
 use Rattle.page_store.specs.StoreLaws.{some-all}
-use Rattle.std.proofs.lemmas.Option.{IfSome_then}
 use Rattle.table_dump.proofs.named.print_root.Goals as goal
 
 pub returns-then-root-lt1-clause-pages : goal.returns-then-root-lt1-clause-pages

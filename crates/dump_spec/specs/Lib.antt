@@ -3,3 +3,6 @@ pub mod SchemaRows
 pub mod SchemaRowsLaws
 pub mod SchemaDumps
 pub mod SchemaDumpsLaws
+pub mod Refusals
+pub mod TableDumps
+pub mod TableDumpsLaws

@@ -1,0 +1,3 @@
+mod Faults
+mod Walking
+mod Catalogs

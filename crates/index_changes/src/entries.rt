@@ -6,10 +6,11 @@ ghost use Rattle.prepared_spec.specs.Tables.{same_values};
 ghost use Rattle.index_changes.specs.Pairs.{row_in, value_in, entry_over, order_over};
 
 use owned_list::OwnedList;
-use rbu_value::{Bytes, Collation, Value, compare};
+use rbu_value::{Collation, Value, compare};
 use schema_spec::Table;
 use std::alloc::{AllocError, Global};
 use std::cmp::Ordering;
+use value_copies::copy_value;
 
 // The value of a row at a place: the rowid for the INTEGER PRIMARY KEY, and NULL where the row has none.
 fn value_at<'a>(
@@ -91,17 +92,6 @@ pub(crate) fn has_same_entry(
         left = rest;
     }
     a.0.cmp(&b.0).is_eq()
-}
-
-fn copy_value(alloc: Global, value: &Value) -> Result<Value, AllocError>
-    ensures { IfOk result (λ copy. copy ≡ value.now) }
-{
-    match value {
-        Value::Null => Ok(Value::Null),
-        Value::Int(z) => Ok(Value::Int(*z)),
-        Value::Text(text) => Ok(Value::Text(Bytes::of(alloc, text.as_slice())?)),
-        Value::Blob(blob) => Ok(Value::Blob(Bytes::of(alloc, blob.as_slice())?)),
-    }
 }
 
 // A copy of the value of a row at a place.

@@ -1,0 +1,2 @@
+pub mod NullsWritten
+pub mod ValuesMet

@@ -1,0 +1,6 @@
+mod Closings
+mod Endings
+mod Openings
+mod Readings
+mod Rootings
+mod Counts

@@ -1,0 +1,78 @@
+use Rattle.std.proofs.Common.{◌≡◌, ℕ, ◌+◌, ◌-◌, ◌<◌, ◌≤◌, Bool, true, false, List, [], ◌∷◌, inl, inr, length, refl, sym, ap, ◌∙◌, subst, arith}
+use Rattle.std.proofs.Math.Path.{subst⁻¹}
+use Rattle.std.proofs.lemmas.Result.{IfOk-weaker, on_ok_weaker}
+use Rattle.std.specs.List.{All}
+use Rattle.format_spec.specs.declared.PageKind.{PageKind}
+use Rattle.format_spec.specs.declared.PageKind.TheVariants.{IndexInterior, IndexLeaf}
+use Rattle.format_spec.specs.Sizes.{IsUsable}
+use Rattle.page_spec.specs.Rooms.{IsOneCell}
+use Rattle.tree_spec.specs.Standing.{Sizes, Paged}
+use Rattle.put_spec.specs.Steps.{Releases}
+use Rattle.tree_pages.specs.Takes.{RisesBy}
+use Rattle.tree_pages.specs.TakesLaws.{rises-read, rises-then}
+use Rattle.tree_pages.specs.Writers.{paged, sizes_of}
+use Rattle.tree_pages.specs.WritersLaws.{sizes-same}
+use Rattle.tree_walk.specs.declared.page.TreePage.{TreePage}
+use Rattle.tree_level.specs.declared.cells.Change.{Change}
+use Rattle.tree_level.specs.Changes.{Changes, ChangesAt}
+use Rattle.tree_level.specs.ChangesLaws.{spelled-read}
+use Rattle.tree_level.specs.Levels.{above_kind}
+use Rattle.index_cells.specs.declared.cells.Taken.{Taken}
+use Rattle.index_cells.specs.Respelling.{IsCellAt, IsWhole, cell_of}
+use Rattle.index_delete.specs.declared.levels.Left.{Left}
+use Rattle.index_delete.specs.Deletes.{Closes, IsEmptied, IsFit, Leaves}
+use Rattle.index_delete.proofs.Closings.{emptied-closes, leaf-emptied, leaf-right, leaf-written, room-of, settled-closes, still-left}
+use Rattle.index_delete.proofs.Openings.{grown-opens, last-joins, next-joins-any, next-replaced, replaced-opens}
+use Rattle.index_delete.proofs.Readings.{above-index, cell-whole, cells-fit, none-long, once-there, readable, spelled-there, whole-long}
+use Rattle.index_delete.proofs.Counts.{below-within, if-ok_each, passed-within, replaced-within, root-within, some-come}
+use Rattle.index_delete.specs.Deletes.{HasCell, IsStill, below_most, closed_most, opened_most, passed_most, root_most}
+use Rattle.index_delete.specs.declared.levels.Left.TheVariants.{Cells, NoCell}
+use Rattle.index_delete.specs.declared.levels.Opened.{Opened}
+use Rattle.index_delete.specs.Deletes.{Brings}
+use Rattle.index_delete.proofs.opening.open_page.Goals as goal
+
+pub join_page-requires-clause-fit : goal.join_page-requires-clause-fit
+join_page-requires-clause-fit g c = (subst (IsFit (g.S.PageRead.usable c.args.store.now)) c.in-NoCell.is c.requires.fit).0
+
+pub join_page-requires-clause-leaf : goal.join_page-requires-clause-leaf
+join_page-requires-clause-leaf g c = (subst (IsFit (g.S.PageRead.usable c.args.store.now)) c.in-NoCell.is c.requires.fit).1
+
+pub returns-in-Cells-clause-opened : goal.returns-in-Cells-clause-opened
+returns-in-Cells-clause-opened g c = λ old told.
+    let S = g.S.PageRead in
+    let a = c.args.store.now in
+    let z = sizes_of S a in
+    let x = paged S a old in (
+      old,
+      told,
+      λ ends row base there last_goes leaves.
+          grown-opens z c.args.page.now c.requires.kind c.args.step.at c.args.step.child c.requires.child base there ends row c.requires.at last_goes c.in-Cells.comes.items x
+          (subst (λ (l : Left). Leaves z ends row c.args.step.child l base x) c.in-Cells.is leaves),
+    )
+
+pub returns-in-NoCell-clause-opened : goal.returns-in-NoCell-clause-opened
+returns-in-NoCell-clause-opened g c =
+    let z = sizes_of g.S.PageRead c.args.store.now in
+    IfOk-weaker c.join_page.result _ _ (λ opened opens. λ old told.
+    let n = opens old told in (
+      n.0,
+      n.1,
+      λ ends row base there last_goes leaves.
+          n.2 ends row base there last_goes (subst (λ (l : Left). Leaves z ends row c.args.step.child l base (paged g.S.PageRead c.args.store.now old)) c.in-NoCell.is leaves),
+    )) c.join_page.ensures.opened
+
+pub returns-in-Cells-clause-came : goal.returns-in-Cells-clause-came
+returns-in-Cells-clause-came g c = subst⁻¹ (λ (l : Left). Brings l (record { change = record { at = c.args.step.at; goes = false; right = c.args.page.now.right }; comes = c.in-Cells.comes })) c.in-Cells.is refl
+
+pub returns-in-NoCell-clause-came : goal.returns-in-NoCell-clause-came
+returns-in-NoCell-clause-came g c = if-ok_each c.join_page.result (λ opened. subst⁻¹ (λ (l : Left). Brings l opened) c.in-NoCell.is tt)
+
+pub returns-in-Cells-clause-rises : goal.returns-in-Cells-clause-rises
+returns-in-Cells-clause-rises g c = omega arith
+
+pub returns-in-NoCell-clause-rises : goal.returns-in-NoCell-clause-rises
+returns-in-NoCell-clause-rises g c =
+    let S = g.S.PageRead in
+    let a = c.args.store.now in
+    let b = c.join_page.new.store in
+    IfOk-weaker c.join_page.result _ _ (λ opened rises. subst⁻¹ (λ (l : Left). RisesBy S (opened_most l opened) a b) c.in-NoCell.is rises) c.join_page.ensures.rises

@@ -1,0 +1,94 @@
+use Rattle.std.proofs.Common.{◌≡◌, ℕ, ◌+◌, ◌-◌, ◌<◌, ◌≤◌, Bool, true, false, List, [], ◌∷◌, inl, inr, length, refl, sym, ap, ◌∙◌, subst, arith}
+use Rattle.std.proofs.Math.Path.{subst⁻¹}
+use Rattle.std.proofs.lemmas.Result.{IfOk-weaker, on_ok_weaker}
+use Rattle.std.specs.List.{All}
+use Rattle.format_spec.specs.declared.PageKind.{PageKind}
+use Rattle.format_spec.specs.declared.PageKind.TheVariants.{IndexInterior, IndexLeaf}
+use Rattle.format_spec.specs.Sizes.{IsUsable}
+use Rattle.page_spec.specs.Rooms.{IsOneCell}
+use Rattle.tree_spec.specs.Standing.{Sizes, Paged}
+use Rattle.put_spec.specs.Steps.{Releases}
+use Rattle.tree_pages.specs.Takes.{RisesBy}
+use Rattle.tree_pages.specs.TakesLaws.{rises-read, rises-then}
+use Rattle.tree_pages.specs.Writers.{paged, sizes_of}
+use Rattle.tree_pages.specs.WritersLaws.{sizes-same}
+use Rattle.tree_walk.specs.declared.page.TreePage.{TreePage}
+use Rattle.tree_level.specs.declared.cells.Change.{Change}
+use Rattle.tree_level.specs.Changes.{Changes, ChangesAt}
+use Rattle.tree_level.specs.ChangesLaws.{spelled-read}
+use Rattle.tree_level.specs.Levels.{above_kind}
+use Rattle.index_cells.specs.declared.cells.Taken.{Taken}
+use Rattle.index_cells.specs.Respelling.{IsCellAt, IsWhole, cell_of}
+use Rattle.index_delete.specs.declared.levels.Left.{Left}
+use Rattle.index_delete.specs.Deletes.{Closes, IsEmptied, IsFit, Leaves}
+use Rattle.index_delete.proofs.Closings.{emptied-closes, leaf-emptied, leaf-right, leaf-written, room-of, settled-closes, still-left}
+use Rattle.index_delete.proofs.Openings.{grown-opens, last-joins, next-joins-any, next-replaced, replaced-opens}
+use Rattle.index_delete.proofs.Readings.{above-index, cell-whole, cells-fit, none-long, once-there, readable, spelled-there, whole-long}
+use Rattle.index_delete.proofs.Counts.{below-within, if-ok_each, passed-within, replaced-within, root-within, some-come}
+use Rattle.index_delete.specs.Deletes.{HasCell, IsStill, below_most, closed_most, opened_most, passed_most, root_most}
+use Rattle.index_delete.specs.declared.levels.Left.TheVariants.{Cells, NoCell}
+use Rattle.index_delete.specs.declared.levels.Opened.{Opened}
+use Rattle.std.specs.Prelude.{◌++◌}
+use Rattle.index_cells.specs.Respelling.{respelled}
+use Rattle.index_delete.specs.Deletes.{Opens}
+use Rattle.index_delete.proofs.Readings.{all-behind}
+use Rattle.index_delete.proofs.opening.replace_cell.Goals as goal
+
+pub with_cell-requires : goal.with_cell-requires
+with_cell-requires g c = whole-long (g.S.PageRead.usable c.args.store.now) c.args.up.now c.requires.of c.requires.up
+
+pub join_next-requires-clause-fit : goal.join_next-requires-clause-fit
+join_next-requires-clause-fit g c = (subst (IsFit (g.S.PageRead.usable c.args.store.now)) c.in-NoCell.is c.requires.fit).0
+
+pub join_next-requires-clause-leaf : goal.join_next-requires-clause-leaf
+join_next-requires-clause-leaf g c = (subst (IsFit (g.S.PageRead.usable c.args.store.now)) c.in-NoCell.is c.requires.fit).1
+
+pub returns-in-NoCell-clause-opened : goal.returns-in-NoCell-clause-opened
+returns-in-NoCell-clause-opened g c =
+    let z = sizes_of g.S.PageRead c.args.store.now in
+    IfOk-weaker c.join_next.result _ _ (λ opened opens. λ old told.
+    let n = opens old told in (
+      n.0,
+      n.1,
+      λ gone base there is_gone leaves.
+          n.2 gone base there is_gone (subst (λ (l : Left). Leaves z true c.args.up.now c.args.step.child l base (paged g.S.PageRead c.args.store.now old)) c.in-NoCell.is leaves),
+    )) c.join_next.ensures.replaced
+
+pub returns-in-NoCell-clause-came : goal.returns-in-NoCell-clause-came
+returns-in-NoCell-clause-came g c = if-ok_each c.join_next.result (λ opened has. absurd (subst HasCell c.in-NoCell.is has))
+
+pub returns-in-NoCell-clause-rises : goal.returns-in-NoCell-clause-rises
+returns-in-NoCell-clause-rises g c =
+    let S = g.S.PageRead in
+    let a = c.args.store.now in
+    let b = c.join_next.new.store in
+    IfOk-weaker c.join_next.result _ _ (λ opened rises. subst⁻¹ (λ (l : Left). RisesBy S (opened_most l opened) a b) c.in-NoCell.is rises) c.join_next.ensures.rises
+
+pub returns-in-NoCell-clause-joined : goal.returns-in-NoCell-clause-joined
+returns-in-NoCell-clause-joined g c = IfOk-weaker c.join_next.result _ _ (λ opened few. inr few) c.join_next.ensures.few
+
+pub returns-in_ok-comes-in-Cells-clause-comes : goal.returns-in_ok-comes-in-Cells-clause-comes
+returns-in_ok-comes-in-Cells-clause-comes g c =
+    let u = g.S.PageRead.usable c.args.store.now in
+    let fit : IsFit u (Cells c.in-Cells.came) = subst (IsFit u) c.in-Cells.is c.requires.fit in
+    let up = c.args.up.now in
+    subst⁻¹ (All (IsOneCell IndexInterior u)) c.in_ok-comes-in-Cells.ensures.cells
+    (all-behind (IsOneCell IndexInterior u) c.in-Cells.came.items (respelled up.kind IndexInterior c.args.step.child up.bytes) fit.0 (spelled-there u up IndexInterior c.args.step.child c.requires.of (inr refl) c.requires.up))
+
+pub returns-in_ok-comes-in-Cells-clause-opened : goal.returns-in_ok-comes-in-Cells-clause-opened
+returns-in_ok-comes-in-Cells-clause-opened g c = λ old told.
+    let S = g.S.PageRead in
+    let a = c.args.store.now in
+    let z = sizes_of S a in
+    let page = c.args.page.now in
+    let up = c.args.up.now in
+    let step = c.args.step in
+    let x = paged S a old in
+    let change : Change = record { at = step.at; goes = true; right = page.right } in (
+      old,
+      told,
+      λ gone base there is_gone leaves.
+          subst⁻¹ (λ (l : List (List ℕ)). Opens z false gone page change l base x) c.in_ok-comes-in-Cells.ensures.cells
+          (replaced-opens z page c.requires.kind step.at step.child c.requires.child base there gone up c.requires.at is_gone c.requires.of c.requires.up c.in_ok-comes-in-Cells.ensures.small c.in-Cells.came.items x
+          (subst (λ (l : Left). Leaves z true up step.child l base x) c.in-Cells.is leaves)),
+    )

@@ -1,11 +1,11 @@
-// Fills a table in memory.
+// Fills a table in memory, and empties it.
 ghost use Rattle.std.specs.Prelude.{◌≤◌, IsTrue, length};
 ghost use Rattle.page_store.specs.Store.{HasSizes};
 
 use byte_fields::put_u32;
 use page_store::{PageRead, PageWrite, PlainStore};
 use std::alloc::{AllocError, Global};
-use tree_table::{TreeFault, put};
+use tree_table::{TreeFault, delete, put};
 
 /// The order in which rows are put.
 #[derive(Clone, Copy)]
@@ -68,12 +68,45 @@ fn put_row(
     put(alloc, store, 2, rowid, payload, 16777216)
 }
 
-/// Puts so many rows into an empty table, and answers how many pages there are then.
-pub fn filled(alloc: Global, order: Order, rows: u32) -> Result<u32, TreeFault<AllocError>> {
+// A table with so many rows.
+fn fill(alloc: Global, order: Order, rows: u32) -> Result<PlainStore, TreeFault<AllocError>> {
     let mut store = empty_table(alloc)?;
     let payload = [7; 100];
     for at in 0..rows {
         put_row(alloc, &mut store, rowid_at(order, at), &payload)?;
     }
+    Ok(store)
+}
+
+// Deletes one row, and answers whether it was there.
+fn delete_row(
+    alloc: Global,
+    store: &mut PlainStore,
+    rowid: i64,
+) -> Result<bool, TreeFault<AllocError>> {
+    if !is_whole(store) {
+        return Err(TreeFault::TrunkDamaged { page: 0 });
+    }
+    match delete(alloc, store, 2, rowid, 16777216)? {
+        Some(_) => Ok(true),
+        None => Ok(false),
+    }
+}
+
+/// Puts so many rows into an empty table, and answers how many pages there are then.
+pub fn filled(alloc: Global, order: Order, rows: u32) -> Result<u32, TreeFault<AllocError>> {
+    let store = fill(alloc, order, rows)?;
     Ok(store.count())
+}
+
+/// Puts so many rows into an empty table whose rowids have no order, deletes them again, and answers how many were there.
+pub fn emptied(alloc: Global, rows: u32) -> Result<u32, TreeFault<AllocError>> {
+    let mut store = fill(alloc, Order::Scattered, rows)?;
+    let mut gone = 0u32;
+    for at in 0..rows {
+        if delete_row(alloc, &mut store, rowid_at(Order::Scattered, at))? {
+            gone = gone.saturating_add(1);
+        }
+    }
+    Ok(gone)
 }

@@ -1,44 +1,63 @@
-//! The program `table_speed ORDER ROWS`, which shows how long rows take to be put into a table.
+//! The program `table_speed WORK ROWS`, which shows how long rows take to be put into a table, and to be deleted.
 //!
-//! It makes a table in memory, puts so many rows of 100 bytes into it by `put` of `tree_table`, with rowids that rise or in no order, and prints how many pages there are then. `.ci/table_speed` sets its time beside that of SQLite.
+//! It makes a table in memory and puts so many rows of 100 bytes into it by `put` of `tree_table`, with rowids that rise (`rising`) or in no order (`scattered`), and prints how many pages there are then; or it puts them in no order and deletes them by `delete` (`emptied`), and prints how many were there. `.ci/table_speed` sets its time beside that of SQLite.
 #![tactic(auto)]
 
 mod filling;
 
-use filling::{Order, filled};
+use filling::{Order, emptied, filled};
 use std::env;
 use std::process::ExitCode;
 use std::rt::Env;
 
-// The order and the number of rows that the words of the program tell.
-fn asked<R: Env + AllocGlobal>(rt: &R) -> Option<(Order, u32)> {
+// What is to be done.
+#[derive(Clone, Copy)]
+enum Work {
+    // Rows are put in an order.
+    Fill(Order),
+    // Rows are put and deleted.
+    Empty,
+}
+
+// The work and the number of rows that the words of the program tell.
+fn asked<R: Env + AllocGlobal>(rt: &R) -> Option<(Work, u32)> {
     let Ok(args) = env::args(rt) else {
         return None;
     };
     let Ok(words) = args.collect::<Vec<String>>(rt.alloc()) else {
         return None;
     };
-    let [_, order, rows] = words.as_slice() else {
+    let [_, work, rows] = words.as_slice() else {
         return None;
     };
     let Ok(rows) = rows.parse::<u32>() else {
         return None;
     };
-    match order.as_str() {
-        "rising" => Some((Order::Rising, rows)),
-        "scattered" => Some((Order::Scattered, rows)),
+    match work.as_str() {
+        "rising" => Some((Work::Fill(Order::Rising), rows)),
+        "scattered" => Some((Work::Fill(Order::Scattered), rows)),
+        "emptied" => Some((Work::Empty, rows)),
         _ => None,
     }
 }
 
 fn main(rt: HostRuntime) -> ExitCode {
-    let Some((order, rows)) = asked(&rt) else {
+    let Some((work, rows)) = asked(&rt) else {
         return ExitCode::from(2);
     };
-    let Ok(pages) = filled(rt.alloc(), order, rows) else {
+    let alloc = rt.alloc();
+    let done = match work {
+        Work::Fill(order) => filled(alloc, order, rows),
+        Work::Empty => emptied(alloc, rows),
+    };
+    let Ok(number) = done else {
         return ExitCode::from(1);
     };
-    match println!(rt; "{pages} pages") {
+    let unit = match work {
+        Work::Fill(_) => "pages",
+        Work::Empty => "rows",
+    };
+    match println!(rt; "{number} {unit}") {
         Ok(()) => ExitCode::SUCCESS,
         Err(_) => ExitCode::from(1),
     }

@@ -1,3 +1,4 @@
+pub mod LeafDeletes
 pub mod Closings
 pub mod DeletedWorlds
 pub mod Edits

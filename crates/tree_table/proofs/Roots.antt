@@ -15,6 +15,8 @@ use Rattle.tree_spec.specs.declared.TreeKind.{TreeKind}
 use Rattle.tree_spec.specs.declared.TreeKind.TheVariants.{Table}
 use Rattle.tree_spec.specs.declared.fault.TreeFault.{TreeFault}
 use Rattle.tree_spec.specs.Faults.{IsFull, IsOther}
+use Rattle.tree_spec.specs.Bounds.{InOrder, IsOrdered, below_rowids, greatest_rowid}
+use Rattle.tree_spec.specs.OneTreeLaws.{levels-one}
 use Rattle.tree_spec.specs.Trees.{Member, Rooted, TreeOf, page_of, pages_in, pages_of, root_of}
 use Rattle.tree_spec.specs.Standing.{Sizes, Paged, IsNumber, Stands}
 use Rattle.tree_spec.specs.Worlds.{IsFree, IsWorld, with_tree}
@@ -23,15 +25,15 @@ use Rattle.tree_spec.specs.Changes.{Within, Writes}
 use Rattle.tree_spec.specs.ChangesLaws.{Turns-within, Turns-write, freelist-kept}
 use Rattle.put_spec.specs.Puts.{After, hand_after}
 use Rattle.put_spec.specs.PutsLaws.{hand-parts}
-use Rattle.delete_spec.specs.Steps.{DeleteInto, IsReady}
+use Rattle.delete_spec.specs.Steps.{DeleteAt, DeleteInto, IsReady}
 use Rattle.tree_pages.specs.TakesLaws.{short-more}
 use Rattle.tree_walk.specs.declared.page.TreePage.{TreePage}
 use Rattle.tree_walk.specs.Pages.{IsDecoded}
 use Rattle.tree_level.specs.declared.cells.Change.{Change}
 use Rattle.tree_level.specs.ChangesLaws.{spelled-read}
 use Rattle.tree_table.specs.declared.taking.Taken.{Taken}
-use Rattle.tree_table.specs.Deletes.{Opens}
-use Rattle.tree_table.specs.Needs.{HasOnly, IsShortRoot}
+use Rattle.tree_table.specs.Deletes.{DeletesTable, LeavesRoot, Opens, gone_of}
+use Rattle.tree_table.specs.Needs.{HasOnly, IsShortTable}
 use Rattle.tree_table.proofs.Needed.{short-full, table-kind}
 use Rattle.tree_table.proofs.Neighbours.{hit-some}
 use Rattle.tree_table.proofs.Unders.{spelled-all}
@@ -89,11 +91,21 @@ module _ (sizes : Sizes) (front : List Rooted) (old : Rooted) (back : List Roote
     stands = subst (λ (k : TreeKind). Stands sizes a k old.levels old.tree) kind (world-root sizes a front old back p world).stands;
   }
 
+  ordered : InOrder old.levels below_rowids greatest_rowid old.tree
+  ordered = subst (λ (k : TreeKind). IsOrdered k old.levels old.tree) kind (world-root sizes a front old back p world).ordered
+
+  -- a row that is out of each table in order at the root is out of this one, which is the only one there
+  pub world-deletes : (rowid : ℤ) (row : Taken) (b : Paged) → DeletesTable sizes root rowid row a b → LeavesRoot sizes rowid row root a b
+  world-deletes rowid row b deletes levels tree trunks there free ready =
+      let same = (levels-one sizes a Table Table old.levels levels old.tree tree (is ∙ sym there) table-ready.stands ready.stands).1 in
+      subst (λ (n : ℕ). DeleteAt sizes (gone_of rowid row) n root a b row.old.first row.old.bytes) same
+      (deletes old.levels old.tree below_rowids greatest_rowid is table-ready.stands ordered (world-root sizes a front old back p world).full) tree trunks there free ready
+
   -- what is refused in a root's tree is so at the start of the delete
-  pub world-refused : {F : Type 0} (limit count : ℕ) (fault : TreeFault F) → IsShortRoot sizes 24 2 limit root a count fault → IsOther fault ⊎ (IsFull count limit fault × (length (free_pages p) + (limit - a.count) < 54))
+  pub world-refused : {F : Type 0} (limit count : ℕ) (fault : TreeFault F) → IsShortTable sizes 24 2 limit root a count fault → IsOther fault ⊎ (IsFull count limit fault × (length (free_pages p) + (limit - a.count) < 54))
   world-refused limit count fault short =
       let deep = world-deep sizes a front old back p world in
-      let refused = short old.levels old.tree p (omega (arith, deep)) is (world-root sizes a front old back p world).full world.freelist table-ready in
+      let refused = short old.levels old.tree p below_rowids greatest_rowid ordered (omega (arith, deep)) is (world-root sizes a front old back p world).full world.freelist table-ready in
       short-full sizes limit count fault a p 0 (short-more sizes limit count fault a p (2 * old.levels + 2) 51 (omega (arith, deep)) refused)
 
   -- the chain that is to be given back stands beside the free pages

@@ -10,11 +10,11 @@ use Rattle.page_spec.specs.Freelists.{Trunk}
 use Rattle.tree_spec.specs.declared.TreeKind.{TreeKind}
 use Rattle.tree_spec.specs.declared.TreeKind.TheVariants.{Table}
 use Rattle.tree_spec.specs.Trees.{Rooted, TreeCell, leaf_kind, list_in, member, pages_in, root_of}
-use Rattle.tree_spec.specs.Bounds.{below_rowids, greatest_rowid}
+use Rattle.tree_spec.specs.Bounds.{InOrder, IsOrdered, below_rowids, greatest_rowid}
 use Rattle.tree_spec.specs.declared.fault.TreeFault.{TreeFault}
 use Rattle.tree_spec.specs.Standing.{Sizes, Paged, IsHeld, Stands}
 use Rattle.tree_spec.specs.Worlds.{IsFree, IsWorld, greatest_count, with_tree}
-use Rattle.tree_spec.specs.WorldsLaws.{world-deep}
+use Rattle.tree_spec.specs.WorldsLaws.{world-deep, world-root}
 use Rattle.tree_spec.specs.Changes.{SameHeader, Within}
 use Rattle.tree_spec.specs.ChangesLaws.{Turns-within, free-within, slack-kept}
 use Rattle.put_spec.specs.Children.{PutIn}
@@ -24,7 +24,7 @@ use Rattle.put_spec.specs.WorldsLaws.{put-in-world, world-ready}
 use Rattle.tree_pages.specs.Takes.{IsShort}
 use Rattle.tree_pages.specs.TakesLaws.{short-more, short-then}
 use Rattle.tree_table.specs.Needs.{IsShortUnder, overflow_pages}
-use Rattle.tree_table.specs.Puts.{HasRow, HasPut, PutsInto}
+use Rattle.tree_table.specs.Puts.{HasRow, HasPut, PutsTable}
 
 pub on-ok_both : {T E : Type 0} (P Q : Type 0) (result : Result T E) → OnOk result P → OnOk result Q → OnOk result (P × Q)
 on-ok_both P Q (Ok x) one two = (one, two)
@@ -44,7 +44,7 @@ rowid-bounds rowid fits = (omega (arith, ints), omega (arith, ints))
 
 module _ (sizes : Sizes) (front : List Rooted) (old : Rooted) (back : List Rooted) (a b c : Paged) (p : List Trunk) (rowid : ℤ) (payload bytes : List ℕ) (first count : ℕ)
     (world : IsWorld sizes a (with_tree front old back p)) (kind : old.kind ≡ Table) (row : HasRow sizes rowid payload bytes a p b) (low : below_rowids <ℤ rowid) (high : rowid ≤ℤ greatest_rowid)
-    (into : PutsInto sizes (root_of old) rowid bytes first count b c) where
+    (into : PutsTable sizes (root_of old) rowid bytes first count b c) where
   abbrev cell : TreeCell
   cell = record { bytes = bytes; view = row.view; payload = payload; chain = row.chain }
 
@@ -54,8 +54,14 @@ module _ (sizes : Sizes) (front : List Rooted) (old : Rooted) (back : List Roote
   has-rowid : HasRowid old.kind cell
   has-rowid = subst⁻¹ (λ (k : TreeKind). HasRowid k cell) kind (subst⁻¹ (λ (r : ℤ). below_rowids <ℤ r) row.rowid_is low, subst⁻¹ (λ (r : ℤ). r ≤ℤ greatest_rowid) row.rowid_is high)
 
+  ordered : InOrder old.levels below_rowids greatest_rowid old.tree
+  ordered = subst (λ (k : TreeKind). IsOrdered k old.levels old.tree) kind (world-root sizes a front old back p world).ordered
+
   is-put : PutAt sizes old.kind old.levels (root_of old) (spelled cell) b c first count
-  is-put = subst⁻¹ (λ (k : TreeKind). PutAt sizes k old.levels (root_of old) (spelled cell) b c first count) kind (into row.view row.held.is_cell row.rowid_is old.levels)
+  is-put =
+      let stands = subst (λ (k : TreeKind). Stands sizes b k old.levels old.tree) kind (world-ready sizes front old back cell a b p row.rest world row.turns is-held).stands in
+      subst⁻¹ (λ (k : TreeKind). PutAt sizes k old.levels (root_of old) (spelled cell) b c first count) kind
+      (into old.levels old.tree below_rowids greatest_rowid row.view refl stands ordered row.held.is_cell row.rowid_is)
 
   is-done : RootDone sizes old.kind old.levels (before_of old b row.rest cell) c first count
   is-done = is-put old.tree row.rest payload row.chain refl (row.turns.freelist world.freelist) (world-ready sizes front old back cell a b p row.rest world row.turns is-held)

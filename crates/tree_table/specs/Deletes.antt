@@ -8,13 +8,14 @@ use Rattle.format_spec.specs.Cell.{IsCell}
 use Rattle.page_spec.specs.Freelists.{Trunk}
 use Rattle.page_spec.specs.Rooms.{IsOneCell, right_kept}
 use Rattle.tree_spec.specs.declared.TreeKind.TheVariants.{Table}
-use Rattle.tree_spec.specs.Trees.{Rooted, Member, list_in, root_of}
-use Rattle.tree_spec.specs.Standing.{Sizes, Paged}
+use Rattle.tree_spec.specs.Bounds.{InOrder}
+use Rattle.tree_spec.specs.Trees.{IsFullRoot, Rooted, Member, TreeOf, list_in, page_of, root_of}
+use Rattle.tree_spec.specs.Standing.{Sizes, Paged, Stands}
 use Rattle.tree_spec.specs.Worlds.{IsWorld, greatest_count, with_tree}
 use Rattle.tree_spec.specs.Changes.{SameHeader}
 use Rattle.put_spec.specs.Steps.{Spelled, child_page}
 use Rattle.delete_spec.specs.Deletes.{TakenOut}
-use Rattle.delete_spec.specs.Steps.{DeleteInto, EmptiesPage, GrowsUnder, MissingUnder, OpensUnder}
+use Rattle.delete_spec.specs.Steps.{DeleteAt, DeleteInto, EmptiesPage, GrowsUnder, MissingUnder, OpensUnder}
 use Rattle.tree_walk.specs.declared.page.TreePage.{TreePage}
 use Rattle.tree_level.specs.declared.cells.Change.{Change}
 use Rattle.tree_level.specs.Changes.{HasSpelled, behind, changed}
@@ -130,6 +131,17 @@ module _ (sizes : Sizes) where
   abbrev pub DeletesInto : ℕ → ℤ → Option Taken → Paged → Paged → Type 0
   DeletesInto root rowid None old new = (new ≡ old) × MissingUnder sizes root rowid old
   DeletesInto root rowid (Some row) old new = LeavesRoot rowid row root old new
+
+-- The row is out of whatever table stands at a root with its rowids in order and a cell in each page that needs one.
+abbrev pub DeletesTable : Sizes → ℕ → ℤ → Taken → Paged → Paged → Type 0
+DeletesTable sizes root rowid row old new =
+    (levels : ℕ) (tree : TreeOf levels) (low high : ℤ) → page_of levels tree ≡ root → Stands sizes old Table levels tree → InOrder levels low high tree → IsFullRoot levels tree
+    → DeleteAt sizes (gone_of rowid row) levels root old new row.old.first row.old.bytes
+
+-- It is, or there is none, and nothing changed.
+abbrev pub DeletesFrom : Sizes → ℕ → ℤ → Option Taken → Paged → Paged → Type 0
+DeletesFrom sizes root rowid None old new = (new ≡ old) × MissingUnder sizes root rowid old
+DeletesFrom sizes root rowid (Some row) old new = DeletesTable sizes root rowid row old new
 
 -- A table has lost a row; all other trees are as they were, no page is lost, and of page 1's first 100 bytes only the size in pages and the freelist's fields may have changed.
 pub record HasDeleted (sizes : Sizes) (front : List Rooted) (table : Rooted) (back : List Rooted) (gone : Member) (old new : Paged) : Type 0 where

@@ -11,6 +11,7 @@ use Rattle.tree_spec.specs.declared.TreeKind.TheVariants.{Table}
 use Rattle.tree_spec.specs.declared.fault.TreeFault.{TreeFault}
 use Rattle.tree_spec.specs.Faults.{IsFull, IsOther}
 use Rattle.tree_spec.specs.Trees.{IsFull as IsFullTree, IsFullRoot, Rooted, TreeOf, kind_at, page_of, pages_of, root_of}
+use Rattle.tree_spec.specs.Bounds.{InOrder}
 use Rattle.tree_spec.specs.Standing.{IsNumber, Sizes, Paged, Stands}
 use Rattle.tree_spec.specs.Worlds.{IsFree, IsWorld, with_tree}
 use Rattle.tree_spec.specs.Changes.{Within}
@@ -63,6 +64,17 @@ abbrev pub IsShortRoot : {F : Type 0} → Sizes → ℕ → ℕ → ℕ → ℕ 
 IsShortRoot sizes most more limit page old count fault =
     (levels : ℕ) (tree : TreeOf levels) (trunks : List Trunk) → levels ≤ most → page_of levels tree ≡ page → IsFullRoot levels tree → IsFree sizes old trunks → IsReady sizes levels old tree trunks
     → IsShort sizes (2 * levels + more) limit old trunks count fault
+
+-- So where its rowids are in order.
+abbrev pub IsShortTable : {F : Type 0} → Sizes → ℕ → ℕ → ℕ → ℕ → Paged → ℕ → TreeFault F → Type 0
+IsShortTable sizes most more limit page old count fault =
+    (levels : ℕ) (tree : TreeOf levels) (trunks : List Trunk) (low high : ℤ) → InOrder levels low high tree → levels ≤ most → page_of levels tree ≡ page → IsFullRoot levels tree → IsFree sizes old trunks
+    → IsReady sizes levels old tree trunks → IsShort sizes (2 * levels + more) limit old trunks count fault
+
+-- whatever table stands at a root with its rowids in order, the store failed or memory is wanting
+abbrev pub IsOtherTable : {F : Type 0} → Sizes → ℕ → Paged → TreeFault F → Type 0
+IsOtherTable sizes root base fault =
+    (levels : ℕ) (tree : TreeOf levels) (low high : ℤ) → page_of levels tree ≡ root → Stands sizes base Table levels tree → InOrder levels low high tree → IsOther fault
 
 -- whatever table stands at a page, the store failed or memory is wanting
 abbrev pub IsOtherAt : {F : Type 0} → Sizes → ℕ → Paged → TreeFault F → Type 0
@@ -134,6 +146,10 @@ module _ {P F : Type 0} (g : Ghosts P F) where
   -- so what is refused in the tree of a root
   abbrev pub RefusesRoot : {T : Type 0} → ℕ → ℕ → ℕ → ℕ → P → P → Result T (TreeFault F) → Type 0
   RefusesRoot most more limit page before after result = (m : Pages) → g.pages before ≡ Some m → IfErr result (IsShortRoot (sizes_of g before) most more limit page (paged g before m) (g.count after))
+
+  -- so where its rowids are in order
+  abbrev pub RefusesTable : {T : Type 0} → ℕ → ℕ → ℕ → ℕ → P → P → Result T (TreeFault F) → Type 0
+  RefusesTable most more limit page before after result = (m : Pages) → g.pages before ≡ Some m → IfErr result (IsShortTable (sizes_of g before) most more limit page (paged g before m) (g.count after))
 
   -- so what is refused below a page of a table without an empty page
   abbrev pub RefusesBelow : {T : Type 0} → ℕ → ℕ → ℕ → ℕ → P → P → Result T (TreeFault F) → Type 0

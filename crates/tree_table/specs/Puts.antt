@@ -5,12 +5,13 @@ use Rattle.format_spec.specs.declared.PageKind.TheVariants.{TableInterior, Table
 use Rattle.format_spec.specs.Cell.{IsCell}
 use Rattle.page_spec.specs.Freelists.{Trunk}
 use Rattle.tree_spec.specs.declared.TreeKind.TheVariants.{Table}
-use Rattle.tree_spec.specs.Trees.{Rooted, Member, list_in, root_of}
-use Rattle.tree_spec.specs.Standing.{Sizes, Paged, IsHeld}
+use Rattle.tree_spec.specs.Bounds.{InOrder}
+use Rattle.tree_spec.specs.Trees.{Rooted, Member, TreeOf, list_in, page_of, root_of}
+use Rattle.tree_spec.specs.Standing.{Sizes, Paged, IsHeld, Stands}
 use Rattle.tree_spec.specs.Worlds.{IsFree, IsWorld, greatest_count, with_tree}
 use Rattle.tree_spec.specs.Changes.{SameHeader, Turns}
 use Rattle.put_spec.specs.Children.{PutIn}
-use Rattle.put_spec.specs.Steps.{Spelled, PutUnder, PutInto}
+use Rattle.put_spec.specs.Steps.{Spelled, PutAt, PutUnder, PutInto}
 use Rattle.tree_walk.specs.declared.page.TreePage.{TreePage}
 use Rattle.tree_level.specs.Changes.{Changes, ChangesRoot}
 use Rattle.tree_level.specs.declared.cells.Change.{Change}
@@ -50,6 +51,12 @@ PutsUnder sizes page rowid bytes dividers first count old new =
 abbrev pub PutsInto : Sizes → ℕ → ℤ → List ℕ → ℕ → ℕ → Paged → Paged → Type 0
 PutsInto sizes root rowid bytes first count old new =
     (view : CellView) → IsCell TableLeaf sizes.usable bytes view → view.rowid ≡ rowid → PutInto sizes Table root (record { bytes = bytes; view = view }) old new first count
+
+-- the same of whatever table stands at a root with its rowids in order
+abbrev pub PutsTable : Sizes → ℕ → ℤ → List ℕ → ℕ → ℕ → Paged → Paged → Type 0
+PutsTable sizes root rowid bytes first count old new =
+    (levels : ℕ) (tree : TreeOf levels) (low high : ℤ) (view : CellView) → page_of levels tree ≡ root → Stands sizes old Table levels tree → InOrder levels low high tree → IsCell TableLeaf sizes.usable bytes view
+    → view.rowid ≡ rowid → PutAt sizes Table levels root (record { bytes = bytes; view = view }) old new first count
 
 -- dividers come among the cells of an interior page, which keeps its right child
 abbrev pub divided : TreePage → ℕ → Change

@@ -6,9 +6,10 @@ ghost use Rattle.tree_pages.specs.Takes.{RisesBy};
 ghost use Rattle.tree_pages.specs.Writers.{Becomes, sizes_of};
 ghost use Rattle.tree_spec.specs.Faults.{fault_in};
 ghost use Rattle.tree_walk.specs.Pages.{IsDecoded};
-ghost use Rattle.tree_table.specs.Needs.{RefusesAt, RefusesFull, RefusesRoot};
-ghost use Rattle.tree_table.specs.Deletes.{DeletesInto, DeletesRow, delete_pages};
+ghost use Rattle.tree_table.specs.Needs.{RefusesAt, RefusesFull, RefusesRoot, RefusesTable};
+ghost use Rattle.tree_table.specs.Deletes.{DeletesFrom, DeletesInto, DeletesRow, delete_pages};
 
+use crate::alone::delete_alone;
 use crate::opening::step_below;
 use crate::removing::delete_below;
 use crate::sinking::pass_to_root;
@@ -92,6 +93,31 @@ fn delete_root<S: PageWrite>(
     }
 }
 
+// Deletes the row of a rowid from the table of a root, from its leaf alone where that is enough, but for its overflow chain. Refuses [55], [51] and [50].
+fn delete_row<S: PageWrite>(
+    alloc: Global,
+    store: &mut S,
+    root: u32,
+    rowid: i64,
+    limit: u32,
+) -> Result<Option<Taken>, TreeFault<S::Fault>>
+    requires sizes { HasSizes S.PageRead store.old }
+    requires first { 1 ≤ root }
+    requires within { root ≤ S.count store.old }
+    ensures deleted { IfOk result (λ taken. Becomes S.PageRead store.old store.new (DeletesFrom (sizes_of S.PageRead store.old) root rowid taken)) }
+    ensures count { OnOk result (S.count store.old ≤ S.count store.new) }
+    ensures most { OnOk result (S.count store.new ≤ max limit (S.count store.old)) }
+    ensures rises { OnOk result (RisesBy S.PageRead 50 store.old store.new) }
+    ensures refuses { RefusesTable S.PageRead 24 2 limit root store.old store.new result }
+    ensures owes { OwesBy S.PageRead fault_in store.old store.new result }
+{
+    let alone = delete_alone(alloc, store, root, LEVELS, rowid)?;
+    match alone {
+        Some(row) => Ok(Some(row)),
+        None => delete_root(alloc, store, root, rowid, limit),
+    }
+}
+
 /// Deletes the row of a rowid from the table at a root, and answers its payload; None exactly where there is none, and then nothing changed. The pages that the table has no longer go to the freelist, also those of the row's overflow chain. Pages are taken, as by `put` up to a limit, only where an interior page has no room for a cell that comes. Refuses [55] where it meets a damaged page, [50] a damaged freelist, and [51] where a page is needed and none can be taken.
 ///
 /// The count of pages rises by at most 54, and [51] comes only where free pages and pages up to the limit were together fewer. After an error the store may hold part of the change.
@@ -112,7 +138,7 @@ pub fn delete<S: PageWrite>(
     ensures refuses { RefusesFull S.PageRead root delete_pages limit store.old store.new result }
     ensures owes { OwesBy S.PageRead fault_in store.old store.new result }
 {
-    let taken = delete_root(alloc, store, root, rowid, limit)?;
+    let taken = delete_row(alloc, store, root, rowid, limit)?;
     match taken {
         None => Ok(None),
         Some(row) => {

@@ -5,6 +5,7 @@
 //! `delete` takes the row of a rowid out of it. What it leaves is said by `DeletesRow` of `Deletes`: in every world, the table's list has no row of the rowid, the payload that stood there is the answer, and all other trees are as they were; where there was none nothing changed.
 #![tactic(auto)]
 
+mod alone;
 mod closing;
 mod deleting;
 mod descending;

@@ -10,7 +10,7 @@ ghost use Rattle.tree_pages.specs.Writers.{Becomes, sizes_of};
 ghost use Rattle.tree_spec.specs.Faults.{fault_in};
 ghost use Rattle.tree_walk.specs.Pages.{IsDecoded};
 ghost use Rattle.tree_table.specs.Needs.{RefusesFull, RefusesUnder, put_pages};
-ghost use Rattle.tree_table.specs.Puts.{IsRow, PutsInto, PutsRow, RaisesRoot};
+ghost use Rattle.tree_table.specs.Puts.{IsRow, PutsInto, PutsRow, PutsTable, RaisesRoot};
 
 use crate::descending::{child_number, only, put_below};
 use crate::leaf::{OldChain, leaf_edit};
@@ -20,6 +20,7 @@ use page_store::PageWrite;
 use rbu_value::Bytes;
 use refusal::Rule;
 use std::alloc::Global;
+use table_leaf::put_in_leaf;
 use tree_level::{Change, change_root};
 use tree_pages::{TreeFault, give_back};
 use tree_spec::damaged;
@@ -127,6 +128,33 @@ fn put_root<S: PageWrite>(
     }
 }
 
+// Puts a row into the table of a root, into its leaf alone where that has room, and answers the overflow chain of the row that it replaced. Refuses [55], [51] and [50].
+fn put_row<S: PageWrite>(
+    alloc: Global,
+    store: &mut S,
+    root: u32,
+    cell: Bytes,
+    rowid: i64,
+    limit: u32,
+) -> Result<OldChain, TreeFault<S::Fault>>
+    requires sizes { HasSizes S.PageRead store.old }
+    requires first { 1 ≤ root }
+    requires within { root ≤ S.count store.old }
+    requires cell { IsRow (S.usable store.old) rowid cell }
+    ensures put { IfOk result (λ old. Becomes S.PageRead store.old store.new (PutsTable (sizes_of S.PageRead store.old) root rowid cell old.first old.bytes)) }
+    ensures count { OnOk result (S.count store.old ≤ S.count store.new) }
+    ensures most { OnOk result (S.count store.new ≤ max limit (S.count store.old)) }
+    ensures rises { OnOk result (RisesBy S.PageRead 51 store.old store.new) }
+    ensures refuses { RefusesUnder S.PageRead 24 3 limit root store.old store.new result }
+    ensures owes { OwesBy S.PageRead fault_in store.old store.new result }
+{
+    let did = put_in_leaf(alloc, store, root, LEVELS, rowid, cell.as_slice())?;
+    if did {
+        return Ok(OldChain { first: 0, bytes: 0 });
+    }
+    put_root(alloc, store, root, cell, rowid, limit)
+}
+
 /// Puts a row into the table at a root, in place of the row of its rowid if there is one. A payload has at most 2147483647 bytes. Pages are taken from the freelist, and where that is empty past the end, up to a limit. Refuses [55] where it meets a damaged page, [50] a damaged freelist, and [51] where a page is needed and none can be taken.
 ///
 /// The count of pages rises by at most 54 and the overflow pages of the payload, and [51] comes only where free pages and pages up to the limit were together fewer. After an error the store may hold part of the change.
@@ -150,6 +178,6 @@ pub fn put<S: PageWrite>(
     ensures owes { OwesBy S.PageRead fault_in store.old store.new result }
 {
     let cell = make_cell(alloc, store, rowid, payload, limit)?;
-    let old = put_root(alloc, store, root, cell, rowid, limit)?;
+    let old = put_row(alloc, store, root, cell, rowid, limit)?;
     give_back(alloc, store, old.first, old.bytes)
 }

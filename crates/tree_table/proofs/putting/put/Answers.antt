@@ -7,7 +7,7 @@ use Rattle.tree_spec.specs.Standing.{Sizes}
 use Rattle.put_spec.specs.Steps.{GivesBack}
 use Rattle.tree_pages.specs.Writers.{paged, sizes_of}
 use Rattle.tree_pages.specs.WritersLaws.{sizes-same}
-use Rattle.tree_table.specs.Puts.{MakesRow, PutsInto}
+use Rattle.tree_table.specs.Puts.{MakesRow, PutsTable}
 use Rattle.tree_table.proofs.Worlds.{on-ok_both, rowid-bounds, world-row}
 use Rattle.std.proofs.lemmas.Result.{IfErr-weaker, err_from_is_err_and}
 use Rattle.page_spec.specs.FreePagesLaws.{due_pages-most}
@@ -23,7 +23,7 @@ returns-clause-put g c =
     let S = g.S.PageRead in
     let a = c.args.store.now in
     let s = c.make_cell.new.store in
-    let t = c.put_root.new.store in
+    let t = c.put_row.new.store in
     let v = c.give_back.new.store in
     let z = sizes_of S a in
     let payload = c.args.payload.now in
@@ -44,14 +44,14 @@ returns-clause-put g c =
     let w = paged S t k.0 in
     let u = paged S v l.0 in
     let made = subst (λ (r : ℤ). MakesRow z r payload cell x y) back n.2 in
-    let into = subst (λ (r : ℤ). PutsInto z c.args.root r cell first bytes y w) back (subst (λ (m : Sizes). PutsInto m c.args.root (to_z w64 (of_z w64 c.args.rowid)) cell first bytes y w) one k.2) in
+    let into = subst (λ (r : ℤ). PutsTable z c.args.root r cell first bytes y w) back (subst (λ (m : Sizes). PutsTable m c.args.root (to_z w64 (of_z w64 c.args.rowid)) cell first bytes y w) one k.2) in
     let gives = subst (λ (m : Sizes). GivesBack m first bytes w u) two l.2 in
     let bounds = rowid-bounds c.args.rowid c.ranges.rowid in (
       l.0,
       l.1,
       λ front table behind trunks world kind is limit.
           world-row z front table behind x y w trunks c.args.rowid payload cell first bytes world kind (made trunks world.freelist) bounds.0 bounds.1
-          (subst⁻¹ (λ (r : ℕ). PutsInto z r c.args.rowid cell first bytes y w) is into) u gives (omega (arith, given.1, mk.most, pt.most, world.few, limit)),
+          (subst⁻¹ (λ (r : ℕ). PutsTable z r c.args.rowid cell first bytes y w) is into) u gives (omega (arith, given.1, mk.most, pt.most, world.few, limit)),
     )) (on-ok_both _ _ c.give_back.result c.give_back.ensures.given c.give_back.ensures.count)
 
 pub returns-clause-rises : goal.returns-clause-rises
@@ -59,7 +59,7 @@ returns-clause-rises g c =
     let S = g.S.PageRead in
     let a = c.args.store.now in
     let s = c.make_cell.new.store in
-    let t = c.put_root.new.store in
+    let t = c.put_row.new.store in
     let mk = c.in_ok-cell.ensures in
     let most = overflow_pages (S.usable a) (length c.args.payload.now) in
     let all = rises-then S a s t most 51 mk.owes.stays.size mk.rises c.in_ok-old.ensures.rises in
@@ -88,7 +88,7 @@ returns-in_err-old-clause-refuses g c = λ m front table behind trunks told worl
     let payload = c.args.payload.now in
     let cell = c.in_ok-cell.cell in
     let fault = c.in_err-old.field-0.0 in
-    let count = S.count c.put_root.new.store in
+    let count = S.count c.put_row.new.store in
     let mk = c.in_ok-cell.ensures in
     let one : sizes_of S s ≡ z = sizes-same S a s mk.owes.stays in
     let n = mk.made m told in
@@ -106,7 +106,7 @@ returns-clause-refuses g c = λ m front table behind trunks told world kind is.
     let S = g.S.PageRead in
     let a = c.args.store.now in
     let s = c.make_cell.new.store in
-    let t = c.put_root.new.store in
+    let t = c.put_row.new.store in
     let z = sizes_of S a in
     let payload = c.args.payload.now in
     let cell = c.in_ok-cell.cell in
@@ -123,9 +123,9 @@ returns-clause-refuses g c = λ m front table behind trunks told world kind is.
     let y = paged S s n.0 in
     let w = paged S t k.0 in
     let made = subst (λ (r : ℤ). MakesRow z r payload cell x y) back n.2 in
-    let into = subst (λ (r : ℤ). PutsInto z c.args.root r cell first bytes y w) back (subst (λ (m : Sizes). PutsInto m c.args.root (to_z w64 (of_z w64 c.args.rowid)) cell first bytes y w) one k.2) in
+    let into = subst (λ (r : ℤ). PutsTable z c.args.root r cell first bytes y w) back (subst (λ (m : Sizes). PutsTable m c.args.root (to_z w64 (of_z w64 c.args.rowid)) cell first bytes y w) one k.2) in
     let bounds = rowid-bounds c.args.rowid c.ranges.rowid in
     let freed = world-freed z front table behind x y w trunks c.args.rowid payload cell first bytes world kind (made trunks world.freelist) bounds.0 bounds.1
-    (subst⁻¹ (λ (r : ℕ). PutsInto z r c.args.rowid cell first bytes y w) is into) in
+    (subst⁻¹ (λ (r : ℕ). PutsTable z r c.args.rowid cell first bytes y w) is into) in
     let here : IsFreed (sizes_of S t) first bytes w = subst⁻¹ (λ (m : Sizes). IsFreed m first bytes w) two freed in
     IfErr-weaker c.give_back.result _ _ (λ fault other. inl other) (c.give_back.ensures.sound k.0 here.chain here.trunks k.1 here.is_chain here.free here.within)

@@ -1,0 +1,7 @@
+mod Lists
+mod Halves
+mod Places
+mod Entering
+mod Spelling
+mod Needed
+mod Worlds

@@ -12,7 +12,7 @@ use Rattle.page_layout.specs.ViewsLaws.{view-size}
 use Rattle.tree_walk.specs.declared.page.TreePage.{TreePage}
 use Rattle.tree_level.specs.Changes.{HasSpelled}
 use Rattle.index_cells.specs.declared.cells.Taken.{Taken}
-use Rattle.index_cells.specs.Respelling.{IsCellAt, cell_of}
+use Rattle.index_cells.specs.Respelling.{IsCellAt}
 
 size-at : (kind : PageKind) (usable : ℕ) (cells : List Spelled) (k : ℕ) (d : CellView) → AllByRecursion (λ (cell : Spelled). IsCell kind usable cell.bytes cell.view) cells → k < length cells
     → (slice_index_or (views_in cells) k d).size ≡ length (slice_index_or (bytes_in cells) k [])

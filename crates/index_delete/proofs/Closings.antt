@@ -11,10 +11,9 @@ use Rattle.format_spec.specs.Sizes.{IsUsable}
 use Rattle.page_spec.specs.Rooms.{IsOneCell, free_bytes, needs, right_kept}
 use Rattle.page_spec.specs.RoomsLaws.{rooms-fit}
 use Rattle.tree_spec.specs.declared.TreeKind.TheVariants.{Index}
-use Rattle.tree_spec.specs.Trees.{kind_at}
 use Rattle.tree_spec.specs.Standing.{Sizes, Paged}
 use Rattle.put_spec.specs.ImagesLaws.{length-of}
-use Rattle.put_spec.specs.Steps.{Spelled, bytes_in, HasCells, IsSettled, child_page}
+use Rattle.put_spec.specs.Steps.{Spelled, bytes_in, HasCells, IsSettled}
 use Rattle.index_delete_spec.specs.Steps.{EmptiesPage, GrowsUnder, OpensUnder}
 use Rattle.index_delete_spec.specs.UnderLaws.{leaf-opens-under, settled-under, stays-under}
 use Rattle.tree_walk.specs.declared.page.TreePage.{TreePage}

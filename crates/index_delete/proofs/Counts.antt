@@ -1,5 +1,5 @@
 -- How many pages a level takes, by what was left of its child and what is left of it.
-use Rattle.std.proofs.Common.{◌≡◌, ◌⊎◌, ℕ, refl, ◌∷◌, ◌+◌, ◌-◌, ◌*◌, ◌<◌, ◌≤◌, List, [], Result, Ok, Err, IfOk, length, inl, inr, arith, ap}
+use Rattle.std.proofs.Common.{◌≡◌, ◌⊎◌, ℕ, refl, ◌∷◌, ◌+◌, ◌-◌, ◌<◌, ◌≤◌, List, [], Result, Ok, Err, IfOk, length, inl, inr, arith, ap}
 use Rattle.index_delete.specs.declared.levels.Left.{Left}
 use Rattle.index_delete.specs.declared.levels.Left.TheVariants.{Cells, NoCell}
 use Rattle.index_delete.specs.declared.levels.Opened.{Opened}

@@ -1,5 +1,5 @@
 -- The last cell below a page, which is taken out.
-use Rattle.std.proofs.Common.{◌≡◌, ℕ, suc, ◌<◌, Bool, true, List, Result, Ok, Err, IfOk, OnOk, length, ap, ◌∙◌, sym, subst}
+use Rattle.std.proofs.Common.{◌≡◌, ℕ, Bool, Result, Ok, Err, IfOk, OnOk, ap, ◌∙◌, sym, subst}
 use Rattle.std.proofs.Math.Path.{subst⁻¹}
 use Rattle.page_spec.specs.Pages.{Pages}
 use Rattle.tree_spec.specs.Standing.{Sizes, Paged}

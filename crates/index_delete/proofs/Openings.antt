@@ -22,7 +22,7 @@ use Rattle.index_cells.specs.declared.cells.Taken.{Taken}
 use Rattle.index_cells.specs.Respelling.{IsCellAt, IsWhole, cell_of, respelled, respelled_view}
 use Rattle.index_cells.specs.RespellingLaws.{cell-respelled, respelled-child}
 use Rattle.index_delete.specs.Deletes.{IsChildAt, Opens}
-use Rattle.index_delete.proofs.Readings.{IsMiddle, cell-middle, changed-end, has-cells, middle, none-spelled, same-spelled, spelled-behind, views-many, with-seam}
+use Rattle.index_delete.proofs.Readings.{IsMiddle, cell-middle, changed-end, has-cells, middle, same-spelled, spelled-behind, views-many, with-seam}
 
 -- a cell that was taken out, in a page of another kind
 abbrev pub there_cell : Taken → PageKind → ℕ → Spelled

@@ -8,18 +8,16 @@ use Rattle.std.specs.List.{All, AllByRecursion}
 use Rattle.cell_codec.specs.CellLaws.{cell-same}
 use Rattle.format_spec.specs.declared.PageKind.{PageKind}
 use Rattle.format_spec.specs.declared.PageKind.TheVariants.{IndexInterior, IndexLeaf}
-use Rattle.format_spec.specs.declared.CellView.{CellView}
 use Rattle.format_spec.specs.Cell.{IsCell, child_size}
 use Rattle.format_spec.specs.Page.{IsPage}
 use Rattle.format_spec.specs.Sizes.{IsUsable}
-use Rattle.page_spec.specs.Rooms.{IsOneCell, needs, right_kept}
+use Rattle.page_spec.specs.Rooms.{IsOneCell, needs}
 use Rattle.tree_balance.specs.Cuts.{page_room}
 use Rattle.tree_balance.specs.NeedsLaws.{cell-need, thrice-below}
 use Rattle.tree_spec.specs.Standing.{Sizes, Paged}
 use Rattle.tree_spec.specs.WorldsLaws.{all-back, all-front}
 use Rattle.put_spec.specs.ImagesLaws.{length-of, none-map, split-map}
 use Rattle.put_spec.specs.Steps.{Spelled, bytes_in, views_in, HasCells, child_page}
-use Rattle.put_spec.specs.StepsLaws.{index-map}
 use Rattle.index_delete_spec.specs.Steps.{IsOfIndex}
 use Rattle.tree_walk.specs.declared.page.TreePage.{TreePage}
 use Rattle.tree_walk.specs.Pages.{IsDecoded}

@@ -1,5 +1,5 @@
 -- What is left of a root once a child of it is left in some way, or a cell of it goes.
-use Rattle.std.proofs.Common.{◌≡◌, ◌≢◌, ℕ, suc, ◌+◌, ◌<◌, ◌≤◌, Bool, true, false, List, [], length, take, drop, inl, inr, refl, sym, ap, ◌∙◌, subst, arith}
+use Rattle.std.proofs.Common.{◌≡◌, ◌≢◌, ℕ, suc, ◌+◌, ◌<◌, ◌≤◌, true, false, List, [], length, inl, inr, refl, sym, ap, ◌∙◌, subst, arith}
 use Rattle.std.proofs.Math.Path.{subst⁻¹}
 use Rattle.std.specs.List.{All}
 use Rattle.format_spec.specs.declared.PageKind.{PageKind}
@@ -7,16 +7,14 @@ use Rattle.format_spec.specs.declared.PageKind.TheVariants.{IndexInterior, Index
 use Rattle.format_spec.specs.Page.{IsPage}
 use Rattle.page_spec.specs.Rooms.{IsOneCell, right_kept}
 use Rattle.tree_spec.specs.declared.TreeKind.TheVariants.{Index}
-use Rattle.tree_spec.specs.Trees.{kind_at}
 use Rattle.tree_spec.specs.Standing.{Sizes, Paged}
-use Rattle.put_spec.specs.ImagesLaws.{length-of}
-use Rattle.put_spec.specs.Steps.{Spelled, bytes_in, HasCells, IsRooted, IsSettled, Releases, child_page}
+use Rattle.put_spec.specs.Steps.{Spelled, bytes_in, HasCells, IsRooted, Releases, child_page}
 use Rattle.index_delete_spec.specs.Steps.{DeleteInto, EmptiesPage, GrowsUnder, IsOfIndex, OpensUnder}
 use Rattle.index_delete_spec.specs.UnderLaws.{only-under, root-stays-under, rooted-under, takes-under}
 use Rattle.tree_walk.specs.declared.page.TreePage.{TreePage}
 use Rattle.tree_walk.specs.Pages.{IsDecoded}
 use Rattle.tree_level.specs.declared.cells.Change.{Change}
-use Rattle.tree_level.specs.Changes.{ChangesRoot, HasSpelled, MovesTo, WritesChange, behind, changed}
+use Rattle.tree_level.specs.Changes.{ChangesRoot, HasSpelled, MovesTo, WritesChange, behind}
 use Rattle.tree_level.specs.ChangesLaws.{changed-map, right-kept_of, spelled-read}
 use Rattle.tree_level.specs.Levels.{AreSpelled, WritesNode}
 use Rattle.index_cells.specs.declared.cells.Taken.{Taken}

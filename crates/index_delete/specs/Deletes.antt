@@ -12,7 +12,6 @@ use Rattle.tree_level.specs.Changes.{HasSpelled, behind, changed}
 use Rattle.tree_level.specs.Levels.{AreSpelled}
 use Rattle.index_cells.specs.declared.cells.Taken.{Taken}
 use Rattle.index_cells.specs.Respelling.{IsCellAt, cell_of}
-use Rattle.index_delete.specs.declared.levels.Emptied.{Emptied}
 use Rattle.index_delete.specs.declared.levels.Left.{Left}
 use Rattle.index_delete.specs.declared.levels.Left.TheVariants.{Cells, NoCell}
 use Rattle.index_delete.specs.declared.levels.Opened.{Opened}

@@ -1,34 +1,19 @@
-use Rattle.std.proofs.Common.{◌≡◌, ℕ, ◌+◌, ◌-◌, ◌<◌, ◌≤◌, Bool, true, false, List, [], ◌∷◌, inl, inr, length, refl, sym, ap, ◌∙◌, subst, arith}
+use Rattle.std.proofs.Common.{ℕ, true, false, List, inr, refl, subst}
 use Rattle.std.proofs.Math.Path.{subst⁻¹}
-use Rattle.std.proofs.lemmas.Result.{IfOk-weaker, on_ok_weaker}
+use Rattle.std.proofs.lemmas.Result.{IfOk-weaker}
 use Rattle.std.specs.List.{All}
-use Rattle.format_spec.specs.declared.PageKind.{PageKind}
-use Rattle.format_spec.specs.declared.PageKind.TheVariants.{IndexInterior, IndexLeaf}
-use Rattle.format_spec.specs.Sizes.{IsUsable}
+use Rattle.format_spec.specs.declared.PageKind.TheVariants.{IndexInterior}
 use Rattle.page_spec.specs.Rooms.{IsOneCell}
-use Rattle.tree_spec.specs.Standing.{Sizes, Paged}
-use Rattle.put_spec.specs.Steps.{Releases}
 use Rattle.tree_pages.specs.Takes.{RisesBy}
-use Rattle.tree_pages.specs.TakesLaws.{rises-read, rises-then}
 use Rattle.tree_pages.specs.Writers.{paged, sizes_of}
-use Rattle.tree_pages.specs.WritersLaws.{sizes-same}
-use Rattle.tree_walk.specs.declared.page.TreePage.{TreePage}
 use Rattle.tree_level.specs.declared.cells.Change.{Change}
-use Rattle.tree_level.specs.Changes.{Changes, ChangesAt}
-use Rattle.tree_level.specs.ChangesLaws.{spelled-read}
-use Rattle.tree_level.specs.Levels.{above_kind}
-use Rattle.index_cells.specs.declared.cells.Taken.{Taken}
-use Rattle.index_cells.specs.Respelling.{IsCellAt, IsWhole, cell_of}
 use Rattle.index_delete.specs.declared.levels.Left.{Left}
-use Rattle.index_delete.specs.Deletes.{Closes, IsEmptied, IsFit, Leaves}
-use Rattle.index_delete.proofs.Closings.{emptied-closes, leaf-emptied, leaf-right, leaf-written, room-of, settled-closes, still-left}
-use Rattle.index_delete.proofs.Openings.{grown-opens, last-joins, next-joins-any, next-replaced, replaced-opens}
-use Rattle.index_delete.proofs.Readings.{above-index, cell-whole, cells-fit, none-long, once-there, readable, spelled-there, whole-long}
-use Rattle.index_delete.proofs.Counts.{below-within, if-ok_each, passed-within, replaced-within, root-within, some-come}
-use Rattle.index_delete.specs.Deletes.{HasCell, IsStill, below_most, closed_most, opened_most, passed_most, root_most}
-use Rattle.index_delete.specs.declared.levels.Left.TheVariants.{Cells, NoCell}
-use Rattle.index_delete.specs.declared.levels.Opened.{Opened}
-use Rattle.std.specs.Prelude.{◌++◌}
+use Rattle.index_delete.specs.Deletes.{IsFit, Leaves}
+use Rattle.index_delete.proofs.Openings.{replaced-opens}
+use Rattle.index_delete.proofs.Readings.{spelled-there, whole-long}
+use Rattle.index_delete.proofs.Counts.{if-ok_each}
+use Rattle.index_delete.specs.Deletes.{HasCell, opened_most}
+use Rattle.index_delete.specs.declared.levels.Left.TheVariants.{Cells}
 use Rattle.index_cells.specs.Respelling.{respelled}
 use Rattle.index_delete.specs.Deletes.{Opens}
 use Rattle.index_delete.proofs.Readings.{all-behind}

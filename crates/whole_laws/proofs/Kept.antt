@@ -1,5 +1,5 @@
 -- What a change of one tree of a world leaves whole.
-use Rattle.std.proofs.Common.{◌≡◌, ◌≢◌, ℕ, zero, suc, ◌+◌, ◌<◌, ◌≤◌, ◌==◌, ◌⊎◌, Bool, true, false, if◌then◌else◌, List, [], ◌∷◌, ◌++◌, map, refl, sym, ap, ◌∙◌, subst, inl, inr, arith}
+use Rattle.std.proofs.Common.{◌≡◌, ◌≢◌, ℕ, zero, ◌+◌, ◌≤◌, ◌==◌, Bool, true, false, if◌then◌else◌, List, [], ◌∷◌, ◌++◌, map, refl, ap, ◌∙◌, subst, inl, inr, arith}
 use Rattle.std.proofs.Math.Path.{subst⁻¹}
 use Rattle.std.specs.Prelude.{Option, Some, None, Result, Ok, Err, IfOk, IsTrue}
 use Rattle.std.specs.List.{AllByRecursion}
@@ -12,7 +12,7 @@ use Rattle.tree_spec.specs.Changes.{SameHeader}
 use Rattle.tree_spec.specs.declared.TreeKind.{TreeKind}
 use Rattle.tree_spec.specs.declared.TreeKind.TheVariants as tree
 use Rattle.tree_spec.specs.Trees.{Rooted, Member, root_of, list_in, pages_in, depth_of}
-use Rattle.tree_spec.specs.Standing.{Sizes, Paged, IsNumber}
+use Rattle.tree_spec.specs.Standing.{Sizes, Paged}
 use Rattle.tree_spec.specs.Worlds.{World, IsWorld, with_tree}
 use Rattle.tree_spec.specs.WorldsLaws.{all-front, all-back, all-join, world-tree}
 use Rattle.database_spec.specs.declared.catalog.SchemaKind.{SchemaKind}
@@ -21,7 +21,7 @@ use Rattle.database_spec.specs.declared.catalog.SchemaRow.{SchemaRow}
 use Rattle.database_spec.specs.declared.catalog.NamedEntry.{NamedEntry}
 use Rattle.database_spec.specs.declared.catalog.Catalog.{Catalog}
 use Rattle.database_spec.specs.Walks.{IsList}
-use Rattle.database_spec.specs.ItemsLaws.{Has, has-from, has-to, has-either, has-left, has-right, map-has}
+use Rattle.database_spec.specs.ItemsLaws.{Has, has-from, has-either, has-left, has-right, map-has}
 use Rattle.database_spec.specs.TreeWalksLaws.{tree-list}
 use Rattle.database_spec.specs.CatalogsLaws.{list-one}
 use Rattle.database_spec.specs.Catalogs.{IsCatalog, IsIndexMeaning, format_of, roots_named}
@@ -34,7 +34,7 @@ module _ (sizes : Sizes) (old new : Paged) (grows : old.count ≤ new.count) (he
   format-kept : format_of new ≡ format_of old
   format-kept =
       ap (λ (n : ℕ). if n == 0 then 1 else n)
-          (number_at-same 4 (new.pages 1) 44 (old.pages 1) 44 (λ k low. header (44 + k) (omega (arith, low)) (inr (omega (arith, low)))))
+      (number_at-same 4 (new.pages 1) 44 (old.pages 1) 44 (λ k low. header (44 + k) (omega (arith, low)) (inr (omega (arith, low)))))
 
   right-kept : (rows before : List SchemaRow) (row : SchemaRow) → IsRight sizes old rows before row → IsRight sizes new rows before row
   right-kept rows before row = by row.kind
@@ -156,7 +156,7 @@ schema-tree : (sizes : Sizes) (base : Paged) (catalog : Catalog) (world : World)
 schema-tree sizes base catalog world whole =
     let rows = rows_of whole.has_catalog.found in
     let first : Has 1 catalog.roots =
-        has-from catalog.roots 1 (Contains-permutation (1 ∷ roots_named (format_of base) rows) catalog.roots 1 whole.has_catalog.is_catalog.roots_are (zero, omega arith, refl)) in
+    has-from catalog.roots 1 (Contains-permutation (1 ∷ roots_named (format_of base) rows) catalog.roots 1 whole.has_catalog.is_catalog.roots_are (zero, omega arith, refl)) in
     let found = map-has root_of world.trees 1 (subst⁻¹ (Has 1) whole.roots first) in
     let its = all-has (HasItsKind catalog) world.trees found.0 whole.kinds found.1 in
     (found.0, found.1, found.2, its.table (subst⁻¹ (λ (root : ℕ). IsTrue (is_among root (table_roots catalog))) found.2 refl))
@@ -187,7 +187,7 @@ whole-kept sizes old new grows header catalog front table now back trunks rest w
         let was = subst (λ (lists : List (ℕ × List Member)). AllByRecursion IsReadable (list_at lists at)) (map-split rooted_list front table back) all in
         let kept = change-kept IsReadable (lists_of front) (lists_of back) (root_of table) (list_in table) (list_in now) reads at was in
         subst⁻¹ (λ (lists : List (ℕ × List Member)). AllByRecursion IsReadable (list_at lists at))
-            (map-split rooted_list front now back ∙ ap (λ (r : ℕ). lists_of front ++ (r, list_in now) ∷ lists_of back) root) kept
+        (map-split rooted_list front now back ∙ ap (λ (r : ℕ). lists_of front ++ (r, list_in now) ∷ lists_of back) root) kept
 
     stays : (rooted : Rooted) → root_of rooted ≡ 1 → Has rooted (front ++ table ∷ back) → Has rooted (front ++ now ∷ back)
     stays rooted one h = elim (has-either front (table ∷ back) rooted h) [

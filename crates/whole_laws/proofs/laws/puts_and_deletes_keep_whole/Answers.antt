@@ -1,4 +1,4 @@
-use Rattle.std.proofs.Common.{◌≡◌, List, [], ◌∷◌, ◌++◌, sym, ◌∙◌, subst}
+use Rattle.std.proofs.Common.{List, ◌∷◌, ◌++◌, sym, ◌∙◌, subst}
 use Rattle.std.proofs.Math.Path.{subst⁻¹}
 use Rattle.std.specs.List.{AllByRecursion}
 use Rattle.tree_spec.specs.Trees.{Member, list_in}
@@ -26,9 +26,9 @@ taken-readable gone was now taken all =
 pub returns-clause-put : goal.returns-clause-put
 returns-clause-put c sizes old new catalog front table back trunks row whole kind other readable grows put =
     whole-kept sizes old new grows put.header catalog front table put.now back trunks put.trunks whole other put.world put.root (put.kind_is ∙ sym kind)
-        (put-readable row (list_in table) (list_in put.now) put.list readable)
+    (put-readable row (list_in table) (list_in put.now) put.list readable)
 
 pub returns-clause-delete : goal.returns-clause-delete
 returns-clause-delete c sizes old new catalog front table back trunks gone whole kind other grows deleted =
     whole-kept sizes old new grows deleted.header catalog front table deleted.now back trunks deleted.trunks whole other deleted.world deleted.root (deleted.kind_is ∙ sym kind)
-        (taken-readable gone (list_in table) (list_in deleted.now) deleted.list)
+    (taken-readable gone (list_in table) (list_in deleted.now) deleted.list)

@@ -1,0 +1,6 @@
+pub mod Tests
+pub mod Productions
+pub mod Skips
+pub mod Columns
+pub mod Tables
+pub mod Alike

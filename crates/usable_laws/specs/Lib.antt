@@ -1,0 +1,2 @@
+pub mod UsableBatchesLaws
+pub mod UsableGroupsLaws

@@ -4,3 +4,4 @@ pub mod Skips
 pub mod Columns
 pub mod Tables
 pub mod Alike
+pub mod Texts

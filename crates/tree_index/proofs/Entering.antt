@@ -1,5 +1,5 @@
 -- What is done with a page that was read puts an entry below it, or into the tree of a root.
-use Rattle.std.proofs.Common.{◌≡◌, ℕ, zero, suc, ◌+◌, ◌*◌, ◌<◌, ◌≤◌, false, List, [], ◌∷◌, ◌++◌, length, map, take, drop, slice_index_or, inl, inr, refl, sym, ap, ◌∙◌, subst, arith, append_assoc}
+use Rattle.std.proofs.Common.{◌≡◌, ℕ, zero, suc, ◌*◌, ◌<◌, ◌≤◌, false, List, [], ◌∷◌, ◌++◌, length, map, take, drop, slice_index_or, inl, inr, refl, sym, ap, ◌∙◌, subst, arith, append_assoc}
 use Rattle.std.proofs.Math.Path.{subst⁻¹}
 use Rattle.std.proofs.Math.Nat.{mul-le-mul_left}
 use Rattle.std.specs.List.{All, AllByRecursion, Contains}
@@ -30,7 +30,7 @@ use Rattle.put_spec.specs.ChildrenLaws.{child-stands, child-within}
 use Rattle.tree_index.specs.Entries.{EntryDone, EntryRooted, members_before, members_behind}
 use Rattle.tree_index.specs.EntriesLaws.{entry-in_leaf, entry-in_leaf_root, entry-in_page, entry-in_root, entry-leaves_page, entry-leaves_root, members-around}
 use Rattle.put_spec.specs.ImagesLaws.{length-of, map-map, none-map}
-use Rattle.put_spec.specs.Puts.{Before, IsReady, child_before}
+use Rattle.put_spec.specs.Puts.{Before, IsReady}
 use Rattle.put_spec.specs.Steps.{HasCells, IsRooted, IsSettled, Spelled, bytes_in, child_page, spelled, with_dividers}
 use Rattle.put_spec.specs.StepsLaws.{HasChildAt, child-told}
 use Rattle.tree_level.specs.Changes.{Changes, ChangesRoot, HasSpelled, changed}
@@ -42,10 +42,10 @@ use Rattle.tree_index.specs.declared.descending.Below.TheVariants as below
 use Rattle.tree_index.specs.declared.putting.Inserted.{Inserted}
 use Rattle.tree_index.specs.declared.putting.Inserted.TheVariants as inserted
 use Rattle.tree_index.specs.declared.searching.Sought.TheVariants as sought
-use Rattle.tree_index.specs.Puts.{EntersInto, EntersLeaf, EntersLeafRoot, EntersUnder, Finds, IsEntered, MakesCell, OfTrees, PassesOn, PassesToRoot, PutsBelow, PutsRoot, Raises, RaisesRoot, entry_before, inserting}
+use Rattle.tree_index.specs.Puts.{EntersInto, EntersUnder, Finds, IsEntered, MakesCell, OfTrees, PassesOn, PassesToRoot, PutsBelow, PutsRoot, Raises, RaisesRoot, entry_before, inserting}
 use Rattle.tree_index.specs.Searches.{IsSought}
 use Rattle.tree_index.proofs.Lists.{contains-inside}
-use Rattle.tree_index.proofs.Places.{IsAt, cell_at, child-rises, has-cells, has-spelled, kind-is, leaf-equal, leaf-high, leaf-list, leaf-low, page-equal, page-high, page-low, read_cells, sought-at, sought-equal, told, cells-many}
+use Rattle.tree_index.proofs.Places.{child-rises, has-cells, has-spelled, kind-is, leaf-equal, leaf-high, leaf-list, leaf-low, page-equal, page-high, page-low, read_cells, sought-at, sought-equal, told, cells-many}
 
 -- Once the chain of a cell is written, a put of it may begin below a tree whose pages are in hand.
 pub ready-after : (sizes : Sizes) (a b : Paged) (levels : ℕ) (tree : TreeOf levels) (trunks rest : List Trunk) (cell : TreeCell) → Within sizes a (pages_of levels tree) trunks → Stands sizes a Index levels tree

@@ -1,22 +1,18 @@
 -- What a search by halves keeps.
-use Rattle.std.proofs.Common.{◌≡◌, ℕ, suc, ◌+◌, ◌-◌, ◌/◌, ◌<◌, ◌≤◌, List, length, slice_index_or, Result, Ok, Err, ap, subst, inl, inr, arith}
-use Rattle.std.proofs.Math.Path.{subst⁻¹}
+use Rattle.std.proofs.Common.{◌≡◌, ℕ, suc, ◌+◌, ◌-◌, ◌/◌, ◌<◌, ◌≤◌, List, length, slice_index_or, Result, Ok, Err, subst, inl, inr, arith}
 use Rattle.std.specs.declared.cmp.Ordering.{Ordering}
-use Rattle.std.specs.declared.cmp.Ordering.TheVariants.{Less, Equal, Greater}
-use Rattle.format_spec.specs.declared.CellView.{CellView}
+use Rattle.std.specs.declared.cmp.Ordering.TheVariants.{Less, Greater}
 use Rattle.key_order.specs.declared.order.KeyOrder.{KeyOrder}
 use Rattle.key_order.specs.Orders.{Compares}
 use Rattle.page_spec.specs.Pages.{Pages}
-use Rattle.refusal.specs.declared.Rule.{Rule}
 use Rattle.tree_spec.specs.declared.fault.TreeFault.{TreeFault}
-use Rattle.tree_spec.specs.declared.fault.TreeFault.TheVariants.{TreeDamaged, TrunkDamaged, TargetFull, Store, Memory}
-use Rattle.tree_spec.specs.Faults.{IsDamage, IsDamageOrOther}
+use Rattle.tree_spec.specs.Faults.{IsDamageOrOther}
 use Rattle.tree_spec.specs.FaultsLaws.{damage-then, damage-weaken}
 use Rattle.tree_walk.specs.declared.page.TreePage.{TreePage}
 use Rattle.tree_walk.specs.Pages.{view_of}
-use Rattle.tree_walk.specs.Payloads.{IsBadPayload, IsPayload}
+use Rattle.tree_walk.specs.Payloads.{IsBadPayload}
 use Rattle.tree_walk.specs.PayloadsLaws.{no_view, payload-one}
-use Rattle.tree_index.specs.Searches.{ComparesAt, ComparesSo, IsBadEntry, IsNoEntry, IsSought, Judges, PayloadAt, Searches}
+use Rattle.tree_index.specs.Searches.{ComparesAt, ComparesSo, IsBadEntry, IsNoEntry, Judges, PayloadAt}
 
 -- the index in the middle lies between
 pub middle-inside : (low high : ℕ) → low < high → low + (high - low) / 2 < high

@@ -2,10 +2,8 @@
 use Rattle.std.proofs.Common.{◌≡◌, ℕ, zero, suc, ◌+◌, ◌-◌, ◌<◌, ◌≤◌, List, [], ◌∷◌, ◌++◌, length, map, take, drop, slice_index_or, refl, sym, ap, ◌∙◌, subst, inl, inr, arith, append_assoc}
 use Rattle.std.proofs.Math.Path.{subst⁻¹}
 use Rattle.std.proofs.lemmas.Bool.{cases_lt}
-use Rattle.std.proofs.lemmas.List.{drop_all, length-map, take-append-drop}
+use Rattle.std.proofs.lemmas.List.{drop_all, take-append-drop}
 use Rattle.std.specs.List.{AllByRecursion, Contains}
-use Rattle.std.specs.declared.cmp.Ordering.{Ordering}
-use Rattle.std.specs.declared.cmp.Ordering.TheVariants.{Less, Equal, Greater}
 use Rattle.byte_fields.specs.Bytes.{part_of}
 use Rattle.byte_fields.specs.BytesLaws.{part_of-part_of}
 use Rattle.format_spec.specs.declared.PageKind.{PageKind}
@@ -13,7 +11,7 @@ use Rattle.format_spec.specs.declared.CellView.{CellView}
 use Rattle.format_spec.specs.Cell.{IsCell}
 use Rattle.format_spec.specs.Page.{IsPage, cell_place}
 use Rattle.key_order.specs.declared.order.KeyOrder.{KeyOrder}
-use Rattle.key_order.specs.Orders.{Compares, HasEqual, IsEntry, IsEqual, IsHigh, IsLow, IsRising}
+use Rattle.key_order.specs.Orders.{HasEqual, IsEntry, IsEqual, IsHigh, IsLow, IsRising}
 use Rattle.key_order.specs.OrdersLaws.{high-behind, low-before, rising-back, rising-front}
 use Rattle.page_layout.specs.ViewsLaws.{kind_byte-same, view-size}
 use Rattle.page_spec.specs.Chains.{chain_bytes}
@@ -31,13 +29,11 @@ use Rattle.put_spec.specs.StepsLaws.{page-tells}
 use Rattle.tree_level.specs.Changes.{HasSpelled}
 use Rattle.tree_level.specs.ChangesLaws.{spelled-read}
 use Rattle.tree_walk.specs.declared.page.TreePage.{TreePage}
-use Rattle.tree_walk.specs.Pages.{IsDecoded, PageView, view_of}
+use Rattle.tree_walk.specs.Pages.{IsDecoded, view_of}
 use Rattle.tree_walk.specs.Payloads.{IsPayload, part_at}
 use Rattle.tree_walk.specs.PayloadsLaws.{local_part, no_view, payload-one, payload-not_broken}
-use Rattle.tree_index.specs.declared.searching.Sought.{Sought}
 use Rattle.tree_index.specs.declared.searching.Sought.TheVariants as sought
-use Rattle.tree_index.specs.Needs.{AreEntries}
-use Rattle.tree_index.specs.Searches.{ComparesSo, IsBadEntry, IsSought, PayloadAt}
+use Rattle.tree_index.specs.Searches.{IsBadEntry, IsSought, PayloadAt}
 use Rattle.tree_index.proofs.Lists.{all-index, around-item, contains-middle, drop-here, index-any, take-more}
 
 -- any cell

@@ -1,7 +1,7 @@
 -- An entry put into an index of a world.
-use Rattle.std.proofs.Common.{◌≡◌, ℕ, pos, ◌+◌, ◌*◌, ◌≤◌, List, [], ◌∷◌, ◌++◌, length, max, refl, sym, ap, ◌∙◌, subst, arith}
+use Rattle.std.proofs.Common.{◌≡◌, ℕ, pos, ◌+◌, ◌*◌, ◌≤◌, List, [], ◌∷◌, ◌++◌, max, refl, sym, ap, ◌∙◌, subst, arith}
 use Rattle.std.proofs.Math.Path.{subst⁻¹}
-use Rattle.std.specs.List.{AllByRecursion, Contains}
+use Rattle.std.specs.List.{Contains}
 use Rattle.std.proofs.lemmas.List.Elements.{All-contains, All-from_recursion}
 use Rattle.key_order.specs.declared.order.KeyOrder.{KeyOrder}
 use Rattle.key_order.specs.Orders.{HasEqual, IsEntry, IsEqual, IsRising}
@@ -9,12 +9,11 @@ use Rattle.key_order.specs.OrdersLaws.{place-alone, rising-put}
 use Rattle.page_spec.specs.Chains.{IsChain}
 use Rattle.page_spec.specs.ChainsLaws.{same_chain}
 use Rattle.page_spec.specs.Counts.{times}
-use Rattle.page_spec.specs.CountsLaws.{times-append}
 use Rattle.page_spec.specs.Freelists.{Trunk}
 use Rattle.tree_spec.specs.declared.TreeKind.{TreeKind}
 use Rattle.tree_spec.specs.declared.TreeKind.TheVariants.{Table, Index}
 use Rattle.tree_spec.specs.declared.fault.TreeFault.{TreeFault}
-use Rattle.tree_spec.specs.Trees.{Member, Rooted, TreeCell, TreeOf, list_in, list_of, member, page_of, pages_in, pages_of, root_of}
+use Rattle.tree_spec.specs.Trees.{Member, Rooted, TreeOf, list_in, list_of, member, page_of, pages_of, root_of}
 use Rattle.tree_spec.specs.Standing.{Sizes, Paged, Stands}
 use Rattle.tree_spec.specs.StandingLaws.{chain-none}
 use Rattle.tree_spec.specs.Worlds.{IsWorld, greatest_count, with_tree}

@@ -3,15 +3,14 @@ use Rattle.std.proofs.Common.{◌≡◌, ℕ, zero, suc, ◌≤◌, List, [], �
 use Rattle.std.proofs.lemmas.List.{append-nil}
 use Rattle.std.specs.List.{insert}
 use Rattle.tree_spec.specs.declared.TreeKind.TheVariants.{Table, Index}
-use Rattle.tree_spec.specs.Trees.{Member, TreeCell, TreeOf, member, leaf_kind, interior_kind, kind_at, page_of, list_of, list_beside}
+use Rattle.tree_spec.specs.Trees.{Member, TreeCell, TreeOf, member, leaf_kind, page_of, list_of, list_beside}
 use Rattle.tree_spec.specs.Standing.{Sizes, Paged}
 use Rattle.tree_spec.specs.Worlds.{IsFree}
 use Rattle.put_spec.specs.Children.{child_at, children_with, last_with}
-use Rattle.put_spec.specs.ChildrenLaws.{list-join, list-with}
-use Rattle.put_spec.specs.ImagesLaws.{map-append}
+use Rattle.put_spec.specs.ChildrenLaws.{list-join}
 use Rattle.put_spec.specs.Puts.{Before, IsReady, child_before}
 use Rattle.put_spec.specs.Steps.{Spelled, spelled, HasCells, IsSettled, IsRooted, with_dividers}
-use Rattle.put_spec.specs.StepsLaws.{HasChildAt, ListedPut, ListedRoot, child-opened, child-untouched, entry-opens, opened-rooted, opened-settled, root-done}
+use Rattle.put_spec.specs.StepsLaws.{HasChildAt, ListedPut, child-opened, child-untouched, entry-opens, opened-rooted, opened-settled, root-done}
 use Rattle.tree_index.specs.Entries.{EntryDone, EntryRooted, members_before, members_behind}
 
 -- the members of a leaf with one more

@@ -1,7 +1,4 @@
-use Rattle.std.proofs.Common.{ap, ◌∙◌, sym, List, ℕ}
-use Rattle.format_spec.specs.declared.CellView.{CellView}
-use Rattle.std.specs.Prelude.{slice_get}
-use Rattle.tree_walk.specs.Places.{child_or}
+use Rattle.std.proofs.Common.{◌∙◌, ℕ}
 use Rattle.tree_index.proofs.Needed.{child-named}
 use Rattle.page_spec.specs.Pages.{IsInRange}
 use Rattle.std.proofs.Math.Path.{subst⁻¹}

@@ -1,4 +1,4 @@
-use Rattle.std.proofs.Common.{◌≡◌, ◌≤◌, ℕ, List, length, refl, subst}
+use Rattle.std.proofs.Common.{◌≤◌, length, refl, subst}
 use Rattle.std.proofs.Math.Path.{subst⁻¹}
 use Rattle.std.specs.List.{All}
 use Rattle.format_spec.specs.declared.PageKind.TheVariants.{IndexInterior}

@@ -1,23 +1,20 @@
-use Rattle.std.proofs.Common.{◌≡◌, ◌+◌, ◌≤◌, ℕ, List, [], ◌∷◌, length, refl, sym, ap, ◌∙◌, subst, arith, inl, IfErr}
+use Rattle.std.proofs.Common.{◌≡◌, ◌+◌, ◌≤◌, ℕ, List, length, ap, subst, arith, inl, IfErr}
 use Rattle.std.proofs.Math.Path.{subst⁻¹}
-use Rattle.std.proofs.lemmas.Result.{IfOk-weaker, err_from_is_err_and, on_ok_weaker}
+use Rattle.std.proofs.lemmas.Result.{err_from_is_err_and, on_ok_weaker}
 use Rattle.std.specs.List.{All}
-use Rattle.format_spec.specs.declared.PageKind.{PageKind}
-use Rattle.format_spec.specs.declared.PageKind.TheVariants.{IndexLeaf}
 use Rattle.page_spec.specs.Rooms.{IsOneCell, needs}
 use Rattle.tree_balance.specs.Cuts.{page_room}
-use Rattle.tree_spec.specs.Standing.{Sizes, Paged}
+use Rattle.tree_spec.specs.Standing.{Sizes}
 use Rattle.tree_spec.specs.Worlds.{IsFree}
 use Rattle.tree_pages.specs.Takes.{IsShort, RisesBy}
 use Rattle.tree_pages.specs.TakesLaws.{rises-then, short-more}
 use Rattle.tree_pages.specs.Writers.{Becomes, paged, sizes_of}
 use Rattle.tree_pages.specs.WritersLaws.{sizes-same}
-use Rattle.tree_level.specs.Changes.{Changes, ChangesRoot}
-use Rattle.tree_level.specs.Levels.{above_kind}
-use Rattle.tree_index.specs.Needs.{TakesAt, overflow_pages}
+use Rattle.tree_level.specs.Changes.{ChangesRoot}
+use Rattle.tree_index.specs.Needs.{overflow_pages}
 use Rattle.tree_index.specs.Puts.{inserting}
 use Rattle.tree_index.proofs.Entering.{cell-fits, one-cell}
-use Rattle.tree_index.proofs.Needed.{at-same, chain-result, changes-take, if-ok_join, makes-then}
+use Rattle.tree_index.proofs.Needed.{chain-result}
 use Rattle.tree_index.proofs.putting.enter_leaf_root.Goals as goal
 
 pub change_root-requires-clause-comes : goal.change_root-requires-clause-comes

@@ -1,4 +1,4 @@
-use Rattle.std.proofs.Common.{◌≡◌, ℕ, List, length, subst}
+use Rattle.std.proofs.Common.{subst}
 use Rattle.std.specs.List.{All}
 use Rattle.format_spec.specs.declared.PageKind.TheVariants.{IndexInterior}
 use Rattle.page_spec.specs.Rooms.{IsOneCell}

@@ -1,14 +1,13 @@
-use Rattle.std.proofs.Common.{◌≡◌, ◌+◌, ℕ, List, length, max, refl, sym, ◌∙◌, subst, arith, inl}
+use Rattle.std.proofs.Common.{◌+◌, ℕ, length, arith}
 use Rattle.std.proofs.Math.Path.{subst⁻¹}
 use Rattle.std.proofs.lemmas.Result.{IfErr-weaker, on_ok_weaker}
 use Rattle.page_spec.specs.FreePagesLaws.{due_pages-most}
-use Rattle.tree_spec.specs.Standing.{Paged}
 use Rattle.tree_pages.specs.Takes.{RisesBy}
 use Rattle.tree_pages.specs.TakesLaws.{due_pages-least}
 use Rattle.tree_pages.specs.Writers.{Becomes, paged, sizes_of}
 use Rattle.tree_index.specs.Needs.{IsShortUnder, overflow_pages}
 use Rattle.tree_index.specs.Puts.{EntersInto}
-use Rattle.tree_index.proofs.Needed.{if-ok_join, ok-also, short-full}
+use Rattle.tree_index.proofs.Needed.{ok-also, short-full}
 use Rattle.tree_index.proofs.Worlds.{world-puts, world-short}
 use Rattle.tree_index.proofs.putting.put.Goals as goal
 

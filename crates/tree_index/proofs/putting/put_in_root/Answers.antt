@@ -1,23 +1,19 @@
-use Rattle.std.proofs.Common.{◌≡◌, ◌+◌, ◌<◌, ℕ, List, length, refl, sym, ap, ◌∙◌, subst, arith, inl, IfErr}
+use Rattle.std.proofs.Common.{◌≡◌, ◌+◌, ◌<◌, ℕ, length, ◌∙◌, subst, arith, inl}
 use Rattle.std.proofs.Math.Path.{subst⁻¹}
 use Rattle.std.proofs.lemmas.Result.{err_from_is_err_and}
-use Rattle.std.specs.List.{All}
-use Rattle.format_spec.specs.declared.PageKind.TheVariants.{IndexInterior}
-use Rattle.page_spec.specs.Rooms.{IsOneCell}
 use Rattle.page_store.specs.StoreLaws.{IfSome-told}
 use Rattle.tree_spec.specs.Faults.{IsDamageOrOther}
 use Rattle.tree_spec.specs.Standing.{Sizes, Paged}
-use Rattle.tree_spec.specs.Worlds.{IsFree}
 use Rattle.tree_pages.specs.Takes.{IsShort, RisesBy}
 use Rattle.tree_pages.specs.TakesLaws.{rises-none, rises-read}
 use Rattle.tree_pages.specs.Writers.{paged, sizes_of}
 use Rattle.tree_pages.specs.WritersLaws.{sizes-same}
 use Rattle.tree_index.specs.declared.searching.Sought.TheVariants as sought_of
-use Rattle.tree_index.specs.Needs.{TakesAt, overflow_pages}
-use Rattle.tree_index.specs.Puts.{EntersLeaf, EntersLeafRoot, Finds}
+use Rattle.tree_index.specs.Needs.{overflow_pages}
+use Rattle.tree_index.specs.Puts.{EntersLeafRoot, Finds}
 use Rattle.tree_index.specs.Searches.{IsBadEntry, IsSought}
-use Rattle.tree_index.proofs.Entering.{leaf-enters, leaf-enters_root, leaf-finds}
-use Rattle.tree_index.proofs.Needed.{at-same, leaf-short, same-paged, same-takes, searched-other, trunks-same}
+use Rattle.tree_index.proofs.Entering.{leaf-enters_root, leaf-finds}
+use Rattle.tree_index.proofs.Needed.{leaf-short, same-paged, searched-other, trunks-same}
 use Rattle.tree_index.proofs.putting.put_in_root.Goals as goal
 
 pub returns-in_err-sought-clause-refuses : goal.returns-in_err-sought-clause-refuses

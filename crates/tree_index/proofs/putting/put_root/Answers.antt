@@ -1,4 +1,4 @@
-use Rattle.std.proofs.Common.{◌≡◌, ℕ, List, length, refl, sym, ap, ◌∙◌, subst, arith, slice_get, ◌-◌, ◌+◌, ◌*◌, ◌<◌, IfErr}
+use Rattle.std.proofs.Common.{◌≡◌, ℕ, length, refl, sym, ◌∙◌, subst, arith, slice_get, ◌+◌, ◌<◌, IfErr}
 use Rattle.std.proofs.Math.Path.{subst⁻¹}
 use Rattle.std.proofs.lemmas.Result.{IfOk-weaker, err_from_is_err_and, on_ok_weaker}
 use Rattle.std.specs.List.{All}
@@ -10,19 +10,17 @@ use Rattle.tree_spec.specs.Faults.{IsDamageOrOther}
 use Rattle.tree_spec.specs.Standing.{Sizes, Paged}
 use Rattle.tree_spec.specs.Worlds.{IsFree}
 use Rattle.tree_pages.specs.Takes.{IsShort, RisesBy}
-use Rattle.tree_pages.specs.TakesLaws.{rises-none, rises-read, rises-then}
+use Rattle.tree_pages.specs.TakesLaws.{rises-none, rises-read}
 use Rattle.tree_pages.specs.Writers.{paged, sizes_of}
 use Rattle.tree_pages.specs.WritersLaws.{sizes-same}
 use Rattle.tree_walk.specs.Pages.{IsDecoded, IsReadFault}
 use Rattle.tree_walk.specs.Places.{child_or}
-use Rattle.tree_index.specs.declared.descending.Below.TheVariants as below
-use Rattle.tree_index.specs.declared.putting.Inserted.TheVariants as inserted
 use Rattle.tree_index.specs.declared.searching.Sought.TheVariants as sought_of
-use Rattle.tree_index.specs.Needs.{IsShortLeaf, IsShortUnder, TakesAt, TakesUnder, overflow_pages}
-use Rattle.tree_index.specs.Puts.{EntersInto, EntersUnder, Finds, PassesOn, PassesToRoot, risen_cells}
+use Rattle.tree_index.specs.Needs.{IsShortLeaf, IsShortUnder, TakesUnder, overflow_pages}
+use Rattle.tree_index.specs.Puts.{EntersInto, Finds, PassesToRoot, risen_cells}
 use Rattle.tree_index.specs.Searches.{IsBadEntry, IsSought}
-use Rattle.tree_index.proofs.Entering.{enters-same, into-same, page-finds, passed-on, passed-to_root, read-there}
-use Rattle.tree_index.proofs.Needed.{at-same, index-read, leaf-same, own-result, same-paged, searched-other, short-same, under-child, under-deep, under-interior, under-leaf, under-named, under-other, under-result, under-same, under-same_pages}
+use Rattle.tree_index.proofs.Entering.{enters-same, into-same, page-finds, passed-to_root, read-there}
+use Rattle.tree_index.proofs.Needed.{index-read, leaf-same, own-result, same-paged, searched-other, short-same, under-child, under-named, under-other, under-result, under-same}
 use Rattle.tree_index.proofs.Places.{decoded-own}
 use Rattle.tree_index.proofs.putting.put_root.Goals as goal
 

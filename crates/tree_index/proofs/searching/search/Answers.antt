@@ -1,6 +1,5 @@
-use Rattle.std.proofs.Common.{◌≡◌, ◌+◌, ◌-◌, ◌/◌, ◌<◌, ◌≤◌, ℕ, refl, sym, ◌∙◌, subst, arith}
+use Rattle.std.proofs.Common.{◌+◌, ◌-◌, ◌/◌, ℕ, ◌∙◌, subst, arith}
 use Rattle.std.specs.declared.cmp.Ordering.{Ordering}
-use Rattle.std.specs.declared.cmp.Ordering.TheVariants.{Less, Equal, Greater}
 use Rattle.std.proofs.lemmas.Option.{IfSome_then}
 use Rattle.common_spec.specs.ToldLaws.{told-both}
 use Rattle.page_store.specs.StoreLaws.{at-sizes}
@@ -78,11 +77,11 @@ returns-in-Ok-Equal-clause-pages g c =
       same = step.pages.same ∙ inv.same;
       count = step.pages.count ∙ inv.count;
       answer = told-both (S.pages a) inv.same inv.halved step.pages.answer (λ m h is. (
-            middle,
-            omega (arith, inside, inv.few),
-            subst (λ (o : Ordering). ComparesSo m (S.size a) (S.usable a) (S.count a) page order payload o middle) c.in-Ok-Equal.field-0-is
-                (at-sizes S inv.stays inv.count (λ s u n. ComparesSo m s u n page order payload c.in-Ok-Equal.field-0 middle) is),
-          ));
+        middle,
+        omega (arith, inside, inv.few),
+        subst (λ (o : Ordering). ComparesSo m (S.size a) (S.usable a) (S.count a) page order payload o middle) c.in-Ok-Equal.field-0-is
+            (at-sizes S inv.stays inv.count (λ s u n. ComparesSo m s u n page order payload c.in-Ok-Equal.field-0 middle) is),
+      ));
     }
 
 pub returns-in-Err-clause-pages : goal.returns-in-Err-clause-pages

@@ -6,10 +6,10 @@ ghost use Rattle.dump_spec.specs.SchemaRows.{IsSchemaRecord};
 ghost use Rattle.rbu_dump.specs.declared.schema.SchemaFault.{SchemaFault};
 ghost use Rattle.rbu_dump.specs.Rows.{Appends, HasLines, HasFault, IsMemory};
 
-use crate::printing::push_row;
 use rbu_value::Value;
 use record_codec::{RecordFault, read_record};
 use std::alloc::{AllocError, Global};
+use table_dump::push_row;
 use tree_walk::Row;
 
 /// Why the rows of a schema table have no lines.

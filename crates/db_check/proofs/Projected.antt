@@ -7,7 +7,7 @@ use Rattle.std.proofs.lemmas.List.MinMax.{ranks_by}
 use Rattle.std.proofs.lemmas.List.Sorted.{All-permutation, sorted_far}
 use Rattle.std.proofs.lemmas.Map.Keys.{IsDistinct-IsPermutation}
 use Rattle.std.specs.Global.{Global}
-use Rattle.std.specs.Prelude.{All, AllPairs, IfNone, IfSome, Vec, slice_index_or}
+use Rattle.std.specs.Prelude.{IfNone, IfSome, Vec, slice_index_or}
 use Rattle.std.specs.Cmp.{IsTotalOrder, IsStrictWeakOrder, on_total, then_total}
 use Rattle.std.specs.Fn.{Called, ComparesAs}
 use Rattle.std.specs.List.{AllByRecursion, AllZip, IsDistinct}
@@ -39,7 +39,7 @@ use Rattle.database_spec.specs.Rows.{TableRow, IsRow, with_rowid}
 use Rattle.database_spec.specs.CatalogsLaws.{list-not_stop, list-one}
 use Rattle.database_spec.specs.RowsLaws.{record-one}
 use Rattle.database_spec.specs.Walks.{IsList, StopsAt}
-use Rattle.database_spec.specs.Keys.{IsBefore, IsProjection, entry_of, last_value, order_of}
+use Rattle.database_spec.specs.Keys.{entry_of, last_value, order_of}
 use Rattle.prepared_laws.specs.ChangesMadeLaws.{entry-long, last-is}
 use Rattle.prepared_laws.specs.PaddedKeysLaws.{padded_cmp, padded-same, padded-total}
 use Rattle.prepared_laws.specs.TablesMadeLaws.{Apart}

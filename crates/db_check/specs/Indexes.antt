@@ -1,5 +1,5 @@
 -- What a walk over the tree of an index answers, with what a comparison with its table tells.
-use Rattle.std.specs.Prelude.{◌≡◌, ℕ, ℤ, Bool, List, ◌++◌, Option, Some, None, Result, Ok, Err}
+use Rattle.std.specs.Prelude.{◌≡◌, ℕ, ℤ, Bool, List, ◌++◌, Option, None, Result, Ok, Err}
 use Rattle.rbu_value.specs.declared.value.Value.{Value}
 use Rattle.schema_spec.specs.declared.schema.Table.{Table}
 use Rattle.schema_spec.specs.declared.schema.Index.{Index}

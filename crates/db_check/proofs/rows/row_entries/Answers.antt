@@ -1,5 +1,3 @@
-use Rattle.std.proofs.Common.{List}
-use Rattle.rbu_value.specs.declared.value.Value.{Value}
 use Rattle.tree_rows.specs.Rows.{member_of, members_of}
 use Rattle.database_spec.specs.Rows.{TableRow, IsRow}
 use Rattle.db_check.specs.Projections.{HasEntry}

@@ -11,3 +11,5 @@ pub mod TreePages
 pub mod Sees
 pub mod Compared
 pub mod Passed
+pub mod Projected
+pub mod Indexed

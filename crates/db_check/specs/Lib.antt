@@ -3,3 +3,5 @@ pub mod Passes
 pub mod Steps
 pub mod TreeSteps
 pub mod Compares
+pub mod Projections
+pub mod Indexes

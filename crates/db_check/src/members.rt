@@ -19,8 +19,8 @@ use refusal::Rule;
 use std::alloc::{AllocError, Global};
 use std::cmp::Ordering;
 
-// How values in a column of a key compare.
-fn column_order(column: (Collation, bool), a: &Value, b: &Value) -> Ordering
+/// How values in a column of a key compare.
+pub fn column_order(column: (Collation, bool), a: &Value, b: &Value) -> Ordering
     ensures { result ≡ column_cmp column a.now b.now }
 {
     let order = compare(a, b, column.0);
@@ -40,8 +40,8 @@ pub fn columns_order(columns: &[(Collation, bool)], a: &[Value], b: &[Value]) ->
     }
 }
 
-// How the values of two entries at a place compare by their bytes: one that is not there is NULL.
-fn last_order(at: usize, a: &[Value], b: &[Value]) -> Ordering
+/// How the values of two entries at a place compare by their bytes: one that is not there is NULL.
+pub fn last_order(at: usize, a: &[Value], b: &[Value]) -> Ordering
     ensures { result ≡ value_cmp Collation.Binary (slice_index_or a.now at Value.Null) (slice_index_or b.now at Value.Null) }
 {
     let null = Value::Null;
@@ -94,8 +94,8 @@ fn is_behind(tree: &CheckedTree, walk: &Progress, entry: &OwnedList<Value>) -> b
     }
 }
 
-// The values of a record. `None` where the bytes are none.
-fn read_values(alloc: Global, payload: &[u8]) -> Result<Option<Vec<Value>>, AllocError>
+/// The values of a record. `None` where the bytes are none.
+pub fn read_values(alloc: Global, payload: &[u8]) -> Result<Option<Vec<Value>>, AllocError>
     ensures found { IfOk result (λ read. IfSome read (λ values. IsRecord payload.now values.items)) }
     ensures none { IfOk result (λ read. IfNone read ((values : List Value) → ¬ IsRecord payload.now values)) }
 {

@@ -1,0 +1,11 @@
+//! Tests of what prepared rows do with rows, and of the changes of an index over rows in pairs.
+//!
+//! They stand in a crate of their own, since a crate with tests is proved twice.
+#![tactic(auto)]
+
+#[cfg(test)]
+mod changes;
+#[cfg(test)]
+mod rows;
+#[cfg(test)]
+mod steps;

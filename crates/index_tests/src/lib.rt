@@ -1,0 +1,9 @@
+//! Tests of the order of index entries, and of entries that are put into index trees, over pages in memory.
+#![tactic(auto)]
+
+#[cfg(test)]
+mod entry_puts;
+#[cfg(test)]
+mod orders;
+#[cfg(test)]
+mod stores;

@@ -28,7 +28,7 @@ fn push_head(page: &mut Vec<u8>, count: u16, first: u16, step: u16) -> Result<()
 fn push_short_row(page: &mut Vec<u8>, number: u16) -> Result<(), AllocError> {
     let rowid = number.wrapping_add(128);
     page.push(6)?;
-    page.push(0x80 | (rowid >> 7) as u8)?;
+    page.push(0x80 | (rowid >> 7 & 0x7f) as u8)?;
     page.push((rowid & 0x7f) as u8)?;
     page.extend_from_slice(b"\x04\x00\x02\x08")?;
     page.extend_from_slice(&number.to_be_bytes())
@@ -67,7 +67,11 @@ fn store_of_rows(alloc: Global) -> Result<PlainStore, Fail> {
 
 // The page of a chain that ends at page 18.
 fn chain_page(alloc: Global, number: u32) -> Result<Vec<u8>, AllocError> {
-    let next = if number == 18 { 0 } else { number + 1 };
+    let next = if number == 18 {
+        0
+    } else {
+        number.wrapping_add(1)
+    };
     let mut page = Vec::new(alloc);
     page.extend_from_slice(&next.to_be_bytes())?;
     page.resize(65536, b'x')?;

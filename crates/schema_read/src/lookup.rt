@@ -76,6 +76,13 @@ impl Catalog {
         }
     }
 
+    /// The same as a plain value, for what goes through its tables.
+    pub fn known(&self) -> &KnownCatalog
+        ensures { result.now ≡ self.now }
+    {
+        &self.known
+    }
+
     /// The roots of all trees, that of the schema too, in rising order.
     pub fn roots(&self) -> &[u32]
         ensures { result.now ≡ self.now.roots }

@@ -51,28 +51,86 @@ fn leaf_of(cells: &[u8]) -> [u8; 512] {
     page
 }
 
+/// Writes a page that is there.
+pub fn put(store: &mut PlainStore, number: u32, page: &[u8]) -> Result<(), Fail> {
+    if number < 1 || store.count() < number || store.page_size() as usize != page.len() {
+        return Err(Fail::new("no such page"));
+    }
+    store.set_page(number, page)?;
+    Ok(())
+}
+
 /// Two pages, of which the second is a leaf with these cells.
 pub fn store_of(alloc: Global, cells: &[u8]) -> Result<PlainStore, Fail> {
     let mut store = PlainStore::new(alloc, 512, 512);
     store.set_count(2)?;
-    if store.count() < 2 || store.page_size() != 512 {
-        return Err(Fail::new("no such page"));
-    }
-    store.set_page(2, &leaf_of(cells))?;
+    put(&mut store, 2, &leaf_of(cells))?;
     Ok(store)
 }
 
-/// A table at root 2, without indexes.
-pub fn named(alloc: Global, name: &[u8], sql: &[u8]) -> Result<NamedEntry, AllocError> {
+// The root of a table of two leaves, pages 3 and 4: no rowid of the first is above this one.
+fn root_of(rowid: u8) -> [u8; 512] {
+    let mut page = [0; 512];
+    page[0] = 5;
+    page[4] = 1;
+    page[5] = 1;
+    page[6] = 251;
+    page[11] = 4;
+    page[12] = 1;
+    page[13] = 251;
+    page[510] = 3;
+    page[511] = rowid;
+    page
+}
+
+/// A table at root 2 of two leaves with these cells, of which the first has no rowid above this one.
+pub fn two_leaves(
+    alloc: Global,
+    rowid: u8,
+    first: &[u8],
+    second: &[u8],
+) -> Result<PlainStore, Fail> {
+    let mut store = PlainStore::new(alloc, 512, 512);
+    store.set_count(4)?;
+    put(&mut store, 2, &root_of(rowid))?;
+    put(&mut store, 3, &leaf_of(first))?;
+    put(&mut store, 4, &leaf_of(second))?;
+    Ok(store)
+}
+
+/// A leaf at root 2 with these cells, and one at root 3.
+pub fn two_tables(alloc: Global, first: &[u8], second: &[u8]) -> Result<PlainStore, Fail> {
+    let mut store = PlainStore::new(alloc, 512, 512);
+    store.set_count(3)?;
+    put(&mut store, 2, &leaf_of(first))?;
+    put(&mut store, 3, &leaf_of(second))?;
+    Ok(store)
+}
+
+/// A table at a root, without indexes.
+pub fn rooted(alloc: Global, root: u32, name: &[u8], sql: &[u8]) -> Result<NamedEntry, AllocError> {
     let indexes: Vec<(u32, Result<Index, SqlFault>)> = Vec::new(alloc);
     Ok(NamedEntry {
         name: Bytes::of(alloc, name)?,
         entry: Entry {
-            root: 2,
+            root,
             meaning: read_table(alloc, sql),
             indexes: OwnedList::from_vec(indexes),
         },
     })
+}
+
+/// A table at root 2, without indexes.
+pub fn named(alloc: Global, name: &[u8], sql: &[u8]) -> Result<NamedEntry, AllocError> {
+    rooted(alloc, 2, name, sql)
+}
+
+/// The catalog of tables.
+pub fn catalog_with(alloc: Global, tables: Vec<NamedEntry>) -> Catalog {
+    Catalog {
+        tables: OwnedList::from_vec(tables),
+        roots: OwnedList::from_vec(Vec::new(alloc)),
+    }
 }
 
 /// The catalog of a table at root 2, by one name and perhaps another.
@@ -87,11 +145,5 @@ pub fn catalog_of(
     if !other.is_empty() {
         tables.push(named(alloc, other, sql)?)?;
     }
-    let mut roots = Vec::new(alloc);
-    roots.push(1)?;
-    roots.push(2)?;
-    Ok(Catalog {
-        tables: OwnedList::from_vec(tables),
-        roots: OwnedList::from_vec(roots),
-    })
+    Ok(catalog_with(alloc, tables))
 }

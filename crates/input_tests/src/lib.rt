@@ -6,6 +6,8 @@
 #[cfg(test)]
 mod databases;
 #[cfg(test)]
+mod leaves;
+#[cfg(test)]
 mod limits;
 #[cfg(test)]
 mod lines;
@@ -13,3 +15,5 @@ mod lines;
 mod orders;
 #[cfg(test)]
 mod prepared;
+#[cfg(test)]
+mod sums;

@@ -1,24 +1,16 @@
 // Limits of an RBU database: what is just within one is taken, and what is over it is refused.
 
-use crate::databases::{catalog_of, ensure, named, store_of};
+use crate::databases::{catalog_of, catalog_with, ensure, named, put, store_of};
 use crate::prepared::answer_line;
 use database_spec::{Catalog, Entry, NamedEntry};
 use owned_list::OwnedList;
-use page_store::{PageRead, PageWrite, PlainStore};
+use page_store::{PageWrite, PlainStore};
 use rbu_value::Bytes;
 use schema_spec::{Index, SqlFault};
 use schema_sql::read_table;
 use std::alloc::{AllocError, Global};
 use std::rt::HostRuntime;
 use std::test::Fail;
-
-fn put(store: &mut PlainStore, number: u32, page: &[u8]) -> Result<(), Fail> {
-    if number < 1 || store.count() < number || store.page_size() as usize != page.len() {
-        return Err(Fail::new("no such page"));
-    }
-    store.set_page(number, page)?;
-    Ok(())
-}
 
 // Whether a line begins so.
 fn begins(line: &[u8], answer: &str) -> bool {
@@ -111,7 +103,7 @@ const LONG: [(&[u8], u8, &str, &str); 6] = [
         "93 record 1048577 1048576",
     ),
     // A chain that breaks, behind a row that is right and one that is wrong.
-    (b"=!", b'x', "CREATE TABLE q(a)", "55 "),
+    (b"=!", b'x', "CREATE TABLE q(a)", "55 chain 2"),
     (b"=!", b'1', "CREATE TABLE q(a INT)", "92 data_q 1 a"),
 ];
 
@@ -154,26 +146,29 @@ fn wide_text(alloc: Global, columns: u16) -> Result<Vec<u8>, AllocError> {
     Ok(text)
 }
 
-fn index(alloc: Global) -> Result<Index, AllocError> {
+// An index with a name of so many bytes.
+fn index(alloc: Global, length: usize) -> Result<Index, AllocError> {
     Ok(Index {
-        name: Bytes::of(alloc, b"i")?,
+        name: Bytes::from_vec(vec![in alloc; b'i'; length]?),
         table: Bytes::of(alloc, b"k")?,
         unique: false,
         columns: OwnedList::from_vec(Vec::new(alloc)),
     })
 }
 
-// A table with so long columns and indexes.
+// A table with so many columns and indexes, of which the last has a name of so many bytes.
 fn wide_table(
     alloc: Global,
     name: &[u8],
     columns: u16,
     indexes: u16,
+    length: usize,
 ) -> Result<NamedEntry, AllocError> {
     let mut list: Vec<(u32, Result<Index, SqlFault>)> = Vec::new(alloc);
-    for _ in 0..indexes {
-        list.push((2, Ok(index(alloc)?)))?;
+    for _ in 1..indexes {
+        list.push((2, Ok(index(alloc, 1)?)))?;
     }
+    list.push((2, Ok(index(alloc, length)?)))?;
     let text = wide_text(alloc, columns)?;
     Ok(NamedEntry {
         name: Bytes::of(alloc, name)?,
@@ -188,27 +183,77 @@ fn wide_table(
 fn one_table(alloc: Global, named: NamedEntry) -> Result<Catalog, AllocError> {
     let mut tables = Vec::new(alloc);
     tables.push(named)?;
-    Ok(Catalog {
-        tables: OwnedList::from_vec(tables),
-        roots: OwnedList::from_vec(Vec::new(alloc)),
-    })
+    Ok(catalog_with(alloc, tables))
 }
 
-// The columns and indexes of the target, the bytes of its name, the text of its `data_` table, and how the answer begins.
-const WIDE: [(u16, u16, usize, &str, &str); 6] = [
-    (201, 65, 256, "CREATE TABLE data_k(", "60 data_kk"),
-    (201, 65, 256, "CREATE TABLE data_k(x)", "93 columns 201 200"),
-    (200, 65, 256, "CREATE TABLE data_k(x)", "93 indexes 65 64"),
-    (200, 64, 256, "CREATE TABLE data_k(x)", "93 name 256 255"),
+// The columns and indexes of the target, the bytes of its last index's name and of its own, the text of its `data_` table, and how the answer begins.
+const WIDE: [(u16, u16, usize, usize, &str, &str); 9] = [
+    (201, 65, 257, 258, "CREATE TABLE data_k(", "60 data_kk"),
+    (
+        201,
+        65,
+        257,
+        258,
+        "CREATE TABLE data_k(x)",
+        "93 columns 201 200",
+    ),
+    (
+        200,
+        65,
+        257,
+        258,
+        "CREATE TABLE data_k(x)",
+        "93 indexes 65 64",
+    ),
+    (
+        200,
+        64,
+        257,
+        258,
+        "CREATE TABLE data_k(x)",
+        "93 name 258 255",
+    ),
+    (
+        200,
+        64,
+        257,
+        255,
+        "CREATE TABLE data_k(x)",
+        "93 name 257 255",
+    ),
+    (
+        200,
+        64,
+        256,
+        255,
+        "CREATE TABLE data_k(x)",
+        "93 name 256 255",
+    ),
     // The name of the `data_` table alone is over the limit.
-    (200, 64, 251, "CREATE TABLE data_k(x)", "93 name 256 255"),
-    (200, 64, 250, "CREATE TABLE data_k(x)", "85 data_kk"),
+    (
+        200,
+        64,
+        255,
+        255,
+        "CREATE TABLE data_k(x)",
+        "93 name 260 255",
+    ),
+    (
+        200,
+        64,
+        255,
+        251,
+        "CREATE TABLE data_k(x)",
+        "93 name 256 255",
+    ),
+    (200, 64, 255, 250, "CREATE TABLE data_k(x)", "85 data_kk"),
 ];
 
 fn is_answered_of_wide(
     alloc: Global,
     columns: u16,
     indexes: u16,
+    index: usize,
     length: usize,
     sql: &str,
     answer: &str,
@@ -220,7 +265,10 @@ fn is_answered_of_wide(
     let source = named(alloc, name.as_slice(), sql.as_bytes())?;
     let rbu = one_table(alloc, source)?;
     let name = vec![in alloc; b'k'; length]?;
-    let target = one_table(alloc, wide_table(alloc, name.as_slice(), columns, indexes)?)?;
+    let target = one_table(
+        alloc,
+        wide_table(alloc, name.as_slice(), columns, indexes, index)?,
+    )?;
     let line = answer_line(alloc, &mut store, &rbu, &target)?;
     Ok(begins(line.as_slice(), answer))
 }
@@ -228,9 +276,9 @@ fn is_answered_of_wide(
 #[test]
 fn tables_have_limits(rt: HostRuntime) -> Result<(), Fail> {
     let alloc = rt.alloc();
-    for (columns, indexes, length, sql, answer) in WIDE {
+    for (columns, indexes, index, length, sql, answer) in WIDE {
         ensure(
-            is_answered_of_wide(alloc, columns, indexes, length, sql, answer)?,
+            is_answered_of_wide(alloc, columns, indexes, index, length, sql, answer)?,
             answer,
         )?;
     }

@@ -7,7 +7,8 @@ use rbu_rows::{Batch, Control, ControlFault, OwnedList, Prepared};
 use rbu_value::Value;
 use std::alloc::{AllocError, Global};
 
-fn push_number(line: &mut Vec<u8>, number: i64) -> Result<(), AllocError> {
+/// Appends a number.
+pub fn push_number(line: &mut Vec<u8>, number: i64) -> Result<(), AllocError> {
     let mut digits = Buffer::new();
     line.extend_from_slice(digits.format(number).as_bytes())
 }
@@ -108,7 +109,7 @@ fn table_of(fault: &InputFault) -> &[u8] {
         InputFault::DataRecord { table, .. } => table.as_slice(),
         InputFault::TargetRecord { table, .. } => table.as_slice(),
         InputFault::TooMuch { what, .. } => what.word().as_bytes(),
-        _ => b"",
+        InputFault::TreeDamaged { rule, .. } => rule.word().as_bytes(),
     }
 }
 
@@ -136,7 +137,7 @@ fn column_of(fault: &InputFault) -> &[u8] {
     }
 }
 
-// A refusal: its number, the table or what is limited, a rowid, a column, and a second rowid, as far as it has them.
+// A refusal: its number, the table, what is limited or the rule of a page, a rowid, a column, and a second rowid, as far as it has them.
 fn push_refusal(line: &mut Vec<u8>, fault: &InputFault) -> Result<(), AllocError> {
     push_number(line, number_of(fault))?;
     line.push(b' ')?;
@@ -174,7 +175,7 @@ fn push_control_counts(line: &mut Vec<u8>, fault: &ControlFault) -> Result<(), A
     }
 }
 
-// What a refusal counts: of a control its letters or the place of one, of a limit what there is and the limit.
+// What a refusal counts: of a control its letters or the place of one, of a limit what there is and the limit, of a page its number.
 fn push_counts(line: &mut Vec<u8>, fault: &InputFault) -> Result<(), AllocError> {
     match fault {
         InputFault::TooMuch { has, limit, .. } => {
@@ -182,6 +183,7 @@ fn push_counts(line: &mut Vec<u8>, fault: &InputFault) -> Result<(), AllocError>
             push_count(line, *limit)
         }
         InputFault::Control { fault, .. } => push_control_counts(line, fault),
+        InputFault::TreeDamaged { page, .. } => push_count(line, *page),
         _ => Ok(()),
     }
 }

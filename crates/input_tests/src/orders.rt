@@ -148,7 +148,7 @@ const ORDERS: [(&str, &str, &str, &[u8], &str); 20] = [
         "data_t1",
         "CREATE TABLE data_t1(a, b, c, rbu_control)",
         b"\x06\x02\x05\x01\x00\x00\x08\x04\x06\x01\x05\x01\x00\x00\x08\x04",
-        "55 ",
+        "55 cells 2",
     ),
 ];
 

@@ -1,6 +1,8 @@
 // The prepared rows of RBU databases, and their refusals.
 
-use crate::databases::{catalog_of, ensure, is_whole, store_of};
+use crate::databases::{
+    catalog_of, catalog_with, ensure, is_whole, named, rooted, store_of, two_tables,
+};
 use crate::lines::{fault_line, groups_line};
 use database_spec::Catalog;
 use page_store::{PageRead, PlainStore};
@@ -153,7 +155,7 @@ const CASES: [(&str, &str, &str, &[u8], &str); 22] = [
         "data_t1",
         "CREATE TABLE data_t1(a, b, c, rbu_control)",
         b"\x06\x02\x05\x01\x00\x00\x08\x04\x06\x01\x05\x01\x00\x00\x08\x05",
-        "55 ",
+        "55 cells 2",
     ),
     // A value of another class.
     (
@@ -246,7 +248,10 @@ fn tables_of_one_target_are_a_group_in_the_order_of_their_names(
 // The cells of a targeted table, and what is answered: nothing where all its records are rows.
 const TARGETS: [(&[u8], &str); 4] = [
     // Rowids that fall.
-    (b"\x04\x02\x04\x00\x00\x00\x03\x01\x03\x00\x00", "55 "),
+    (
+        b"\x04\x02\x04\x00\x00\x00\x03\x01\x03\x00\x00",
+        "55 cells 2",
+    ),
     (b"\x04\x01\x04\x00\x00\x00", ""),
     (b"\x04\x01\x04\x00\x00\x00\x03\x02\x03\x00\x00", "96 t1 2"),
     (
@@ -255,14 +260,13 @@ const TARGETS: [(&[u8], &str); 4] = [
     ),
 ];
 
-fn batches_of(alloc: Global) -> Result<Vec<Batch>, AllocError> {
-    let mut batches = Vec::new(alloc);
-    batches.push(Batch {
-        table: Bytes::of(alloc, b"T1")?,
-        source: Bytes::of(alloc, b"data_T1")?,
+// A batch without rows for a table.
+fn batch(alloc: Global, table: &[u8]) -> Result<Batch, AllocError> {
+    Ok(Batch {
+        table: Bytes::of(alloc, table)?,
+        source: Bytes::of(alloc, b"data_t")?,
         rows: OwnedList::from_vec(Vec::new(alloc)),
-    })?;
-    Ok(batches)
+    })
 }
 
 fn target_line(
@@ -283,7 +287,7 @@ fn target_line(
 fn is_checked(alloc: Global, cells: &[u8], answer: &str) -> Result<bool, Fail> {
     let mut store = store_of(alloc, cells)?;
     let catalog = catalog_of(alloc, b"t1", b"", T.as_bytes())?;
-    let batches = batches_of(alloc)?;
+    let batches = [batch(alloc, b"T1")?];
     let line = target_line(alloc, &mut store, &catalog, &batches)?;
     Ok(line.as_slice() == answer.as_bytes())
 }
@@ -293,6 +297,56 @@ fn records_of_targets_are_rows(rt: HostRuntime) -> Result<(), Fail> {
     let alloc = rt.alloc();
     for (cells, answer) in TARGETS {
         ensure(is_checked(alloc, cells, answer)?, answer)?;
+    }
+    Ok(())
+}
+
+// A row, a second one that is none, and rowids that fall.
+const RIGHT: &[u8] = b"\x04\x01\x04\x00\x00\x00";
+
+const SECOND: &[u8] = b"\x04\x01\x04\x00\x00\x00\x03\x02\x03\x00\x00\x03\x03\x03\x00\x00";
+
+const FALLS: &[u8] = b"\x04\x02\x04\x00\x00\x00\x04\x01\x04\x00\x00\x00";
+
+// The cells of `t1` and of `t2`, the tables of two batches, and what is answered.
+const TWO_TARGETS: [(&[u8], &[u8], &str, &str, &str); 6] = [
+    (RIGHT, RIGHT, "t1", "t2", ""),
+    (RIGHT, SECOND, "t1", "t2", "96 t2 2"),
+    (SECOND, FALLS, "t1", "t2", "96 t1 2"),
+    (SECOND, FALLS, "T2", "t1", "55 cells 3"),
+    (SECOND, SECOND, "T2", "t1", "96 t2 2"),
+    (SECOND, RIGHT, "t2", "t2", ""),
+];
+
+fn are_checked(
+    alloc: Global,
+    cells: &[u8],
+    others: &[u8],
+    first: &str,
+    second: &str,
+    answer: &str,
+) -> Result<bool, Fail> {
+    let mut store = two_tables(alloc, cells, others)?;
+    let mut tables = Vec::new(alloc);
+    tables.push(named(alloc, b"t1", T.as_bytes())?)?;
+    tables.push(rooted(alloc, 3, b"t2", T.as_bytes())?)?;
+    let catalog = catalog_with(alloc, tables);
+    let batches = [
+        batch(alloc, first.as_bytes())?,
+        batch(alloc, second.as_bytes())?,
+    ];
+    let line = target_line(alloc, &mut store, &catalog, &batches)?;
+    Ok(line.as_slice() == answer.as_bytes())
+}
+
+#[test]
+fn targets_are_checked_batch_by_batch(rt: HostRuntime) -> Result<(), Fail> {
+    let alloc = rt.alloc();
+    for (cells, others, first, second, answer) in TWO_TARGETS {
+        ensure(
+            are_checked(alloc, cells, others, first, second, answer)?,
+            answer,
+        )?;
     }
     Ok(())
 }

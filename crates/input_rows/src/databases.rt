@@ -149,12 +149,11 @@ fn check_target<R: Files + Drop>(
         log: None,
         header: target.header,
     };
-    let mut left = groups;
-    while let [group, rest @ ..] = left {
-        if !are_plain(alloc, &mut pages, &target.catalog, group.as_slice())? {
-            return Some(false);
+    for group in groups {
+        match are_plain(alloc, &mut pages, &target.catalog, group.as_slice()) {
+            Some(true) => {}
+            other => return other,
         }
-        left = rest;
     }
     Some(true)
 }

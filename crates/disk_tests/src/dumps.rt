@@ -1,4 +1,4 @@
-// Dumps of the schema, over a target that SQLite made.
+// Dumps of the schema and of tables, over a target that SQLite made.
 use crate::changes::{Change, make};
 use crate::ensure::ensure;
 use crate::example::{Parts, write_parts};
@@ -8,8 +8,8 @@ use rbu_disk::{Disk, DiskFault, FileName};
 use std::alloc::Global;
 use std::test::Fail;
 
-// The target that `CREATE TABLE t1(a INTEGER PRIMARY KEY, b TEXT, c UNIQUE)` makes: its header and schema, a leaf of the
-// table, and one of the automatic index. The page of the schema has a freeblock at its end.
+// The target that `CREATE TABLE t1(a INTEGER PRIMARY KEY, b TEXT, c UNIQUE)` and an insert of three rows make: its header and
+// schema, a leaf of the table, and one of the automatic index. The page of the schema has a freeblock at its end.
 const TARGET: Parts = &[
     (
         0,
@@ -24,10 +24,22 @@ const TARGET: Parts = &[
         b"\x48\x01\x06\x17\x11\x11\x01\x7dtablet1t1\x02CREATE TABLE t1(a INTEGER PRIMARY KEY, b TEXT, c UNIQUE)\
         \x23\x02\x06\x17\x37\x11\x01\x00indexsqlite_autoindex_t1_1t1\x03\x00\x00\x00\x08",
     ),
-    (4096, b"\x0d"),
-    (4101, b"\x10"),
-    (8192, b"\x0a"),
-    (8197, b"\x10"),
+    (
+        4096,
+        b"\x0d\x00\x00\x00\x03\x0f\xe0\x00\x0f\xf6\x0f\xec\x0f\xe0",
+    ),
+    (
+        8160,
+        b"\x0a\x03\x04\x00\x17\x01three\x1e\x08\x02\x04\x00\x13\x01two\x14\x08\x01\x04\x00\x13\x01one\x0a",
+    ),
+    (
+        8192,
+        b"\x0a\x00\x00\x00\x03\x0f\xef\x00\x0f\xfb\x0f\xf5\x0f\xef",
+    ),
+    (
+        12271,
+        b"\x05\x03\x01\x01\x1e\x03\x05\x03\x01\x01\x14\x02\x04\x03\x01\x09\x0a",
+    ),
 ];
 
 // Its rows, as SQLite has them in its table of the schema.
@@ -153,7 +165,165 @@ fn dump_has_the_rows_of_the_schema_or_the_first_refusal(rt: HostRuntime) -> Resu
     Ok(())
 }
 
-// What a dump says where one of its calls fails, in the order of the calls: the last is the read of the page.
+// The rows of the table.
+const TABLE: &str = "1|1|'one'|10\n2|2|'two'|20\n3|3|'three'|30\n";
+
+// Names, changes of the target, and the status and the text of a dump. Of two things that are wrong the first cause counts: the
+// schema before the name, the text of a table before its tree, and of the tree what stands first.
+const TABLES: &[(&str, &[Change], u8, &str)] = &[
+    ("dump|t1", &[], 0, TABLE),
+    ("dump|T1", &[Change::Create(FileName::State)], 0, TABLE),
+    ("dump|t9", &[], 4, "refused 84 NoTarget t9\n"),
+    ("dump|", &[], 4, "refused 84 NoTarget \n"),
+    (
+        "dump|sqlite_schem",
+        &[],
+        4,
+        "refused 84 NoTarget sqlite_schem\n",
+    ),
+    (
+        "dump|sqlite_autoindex_t1_1",
+        &[],
+        4,
+        "refused 84 NoTarget sqlite_autoindex_t1_1\n",
+    ),
+    (
+        "dump|t1",
+        &[
+            Change::Write(FileName::Journal, 0, b"\xd9"),
+            Change::Create(FileName::Wal),
+        ],
+        4,
+        "refused 121 JournalPresent\n",
+    ),
+    (
+        "dump|t9",
+        &[
+            Change::Create(FileName::Wal),
+            Change::SetLen(FileName::Target, 50),
+        ],
+        4,
+        "refused 1 NotYet log\n",
+    ),
+    (
+        "dump|t9",
+        &[Change::SetLen(FileName::Target, 8192)],
+        4,
+        "refused 35 SizeMismatch 3 8192\n",
+    ),
+    (
+        "dump|t9",
+        &[Change::Write(FileName::Target, 100, b"\x00")],
+        4,
+        "refused 55 TreeDamaged 1 kind\n",
+    ),
+    // The index has the root of the table.
+    (
+        "dump|t9",
+        &[Change::Write(FileName::Target, 4087, b"\x02")],
+        4,
+        "refused 62 SchemaRow 2\n",
+    ),
+    // The schema has one row, of a text that ends too early; and the table's page is of no kind.
+    (
+        "dump|t1",
+        &[
+            Change::Write(FileName::Target, 104, b"\x01"),
+            Change::Write(
+                FileName::Target,
+                3995,
+                b"CREATE TABLE t1(a INTEGER PRIMARY KEY,)                 ",
+            ),
+            Change::Write(FileName::Target, 4096, b"\x00"),
+        ],
+        4,
+        "refused 60 SqlSyntax t1 38\n",
+    ),
+    // So it has, of a table without rowids, whose name is printed as it stands there.
+    (
+        "dump|wW",
+        &[
+            Change::Write(FileName::Target, 104, b"\x01"),
+            Change::Write(
+                FileName::Target,
+                3990,
+                b"WwWw\x02CREATE TABLE ww(k TEXT PRIMARY KEY) WITHOUT ROWID       ",
+            ),
+        ],
+        4,
+        "refused 61 OutsideProfile Ww WITHOUT\n",
+    ),
+    (
+        "dump|t1",
+        &[Change::Write(FileName::Target, 4096, b"\x00")],
+        4,
+        "refused 55 TreeDamaged 2 kind\n",
+    ),
+    // The rowids of the second and the third row do not rise.
+    (
+        "dump|t1",
+        &[Change::Write(FileName::Target, 8161, b"\x02")],
+        4,
+        "refused 55 TreeDamaged 2 cells\n",
+    ),
+    // The record of the second row has two values, and that of the third a reserved type.
+    (
+        "dump|t1",
+        &[
+            Change::Write(FileName::Target, 8174, b"\x03\x00\x17twoxx"),
+            Change::Write(FileName::Target, 8164, b"\x0a"),
+        ],
+        4,
+        "refused 96 TargetRecord t1 2 25\n",
+    ),
+    // A header that is too long, a reserved type, a floating point value, and a body that is too short.
+    (
+        "dump|t1",
+        &[Change::Write(FileName::Target, 8162, b"\x0b")],
+        4,
+        "refused 96 TargetRecord t1 3 20\n",
+    ),
+    (
+        "dump|t1",
+        &[Change::Write(FileName::Target, 8164, b"\x0a")],
+        4,
+        "refused 96 TargetRecord t1 3 21\n",
+    ),
+    (
+        "dump|t1",
+        &[Change::Write(FileName::Target, 8164, b"\x07\x00")],
+        4,
+        "refused 96 TargetRecord t1 3 22\n",
+    ),
+    (
+        "dump|t1",
+        &[Change::Write(FileName::Target, 8164, b"\x15")],
+        4,
+        "refused 96 TargetRecord t1 3 23\n",
+    ),
+];
+
+fn table_is(
+    alloc: Global,
+    words: &str,
+    changes: &[Change],
+    status: u8,
+    line: &'static str,
+) -> Result<(), Fail> {
+    let disk = changed_target(alloc, changes)?;
+    ends(alloc, &disk, words, &[], &[], status, line)
+}
+
+#[test]
+fn dump_has_the_rows_of_a_table_or_the_first_refusal(rt: HostRuntime) -> Result<(), Fail> {
+    for (words, changes, status, line) in TABLES {
+        table_is(rt.alloc(), words, changes, *status, line)?;
+    }
+    Ok(())
+}
+
+// What a dump of the schema says where one of its calls fails, in the order of the calls: the last is the read of the page. A dump
+// of the table reads page 1 once more, and then the page of the table.
 const FAULTS: &[&str] = &[
     "fault Target SyncFolder\n",
     "fault Journal Read\n",
@@ -163,14 +333,30 @@ const FAULTS: &[&str] = &[
     "fault Target Read\n",
 ];
 
-fn each_call_is_told(alloc: Global, disk: &MemoryDisk) -> Result<(), Fail> {
+const TABLE_FAULTS: &[&str] = &[
+    "fault Target SyncFolder\n",
+    "fault Journal Read\n",
+    "fault Wal Exists\n",
+    "fault Target Read\n",
+    "fault Target Len\n",
+    "fault Target Read\n",
+    "fault Target Read\n",
+    "fault Target Read\n",
+];
+
+fn each_call_is_told(
+    alloc: Global,
+    disk: &MemoryDisk,
+    words: &str,
+    faults: &'static [&'static str],
+    rows: &'static str,
+) -> Result<(), Fail> {
     let mut call = 0;
-    for line in FAULTS {
-        ends(alloc, disk, DUMP, &[call], &[], 6, line)?;
+    for line in faults {
+        ends(alloc, disk, words, &[call], &[], 6, line)?;
         call = call.saturating_add(1);
     }
-    ends(alloc, disk, DUMP, &[call], &[], 0, ROWS)?;
-    ends(alloc, disk, "dump|SQLite_SCHEMA", &[], &[], 0, ROWS)
+    ends(alloc, disk, words, &[call], &[], 0, rows)
 }
 
 // An output that fails takes a part of the rows.
@@ -184,9 +370,15 @@ fn failing_output_is_told(alloc: Global, disk: &MemoryDisk) -> Result<(), Fail> 
     )
 }
 
+fn all_faults_are_told(alloc: Global, disk: &MemoryDisk) -> Result<(), Fail> {
+    each_call_is_told(alloc, disk, DUMP, FAULTS, ROWS)?;
+    each_call_is_told(alloc, disk, "dump|SQLite_SCHEMA", FAULTS, ROWS)?;
+    each_call_is_told(alloc, disk, "dump|t1", TABLE_FAULTS, TABLE)?;
+    failing_output_is_told(alloc, disk)
+}
+
 #[test]
 fn dump_tells_the_call_that_failed(rt: HostRuntime) -> Result<(), Fail> {
     let disk = changed_target(rt.alloc(), &[])?;
-    each_call_is_told(rt.alloc(), &disk)?;
-    failing_output_is_told(rt.alloc(), &disk)
+    all_faults_are_told(rt.alloc(), &disk)
 }

@@ -1,8 +1,10 @@
 pub mod Printing
+pub mod Refusals
 pub mod SchemaRows
 pub mod SchemaRowsLaws
 pub mod SchemaDumps
 pub mod SchemaDumpsLaws
-pub mod Refusals
 pub mod TableDumps
 pub mod TableDumpsLaws
+pub mod Dumps
+pub mod DumpsLaws

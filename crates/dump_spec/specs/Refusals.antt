@@ -1,5 +1,7 @@
 -- What the faults of a database are refused as.
 use Rattle.std.specs.Prelude.{◌≡◌, ℕ, List, codes}
+use Rattle.db_header.specs.declared.fields.HeaderFault.{HeaderFault}
+use Rattle.db_header.specs.declared.fields.HeaderFault.TheVariants as header
 use Rattle.refusal.specs.declared.Refusal.{Refusal}
 use Rattle.refusal.specs.declared.Refusal.TheVariants as refused
 use Rattle.schema_spec.specs.declared.schema.Clause.{Clause}
@@ -10,6 +12,17 @@ use Rattle.database_spec.specs.declared.fault.FileFault.{FileFault}
 use Rattle.database_spec.specs.declared.fault.FileFault.TheVariants as file
 use Rattle.prepared_spec.specs.declared.input_fault.RecordCause.{RecordCause}
 use Rattle.prepared_spec.specs.declared.input_fault.RecordCause.TheVariants as cause
+
+-- the refusal of a header
+abbrev pub header_refusal : HeaderFault → Refusal
+header_refusal header.NotADatabase = refused.NotADatabase
+header_refusal (header.PageSize value) = refused.PageSize value
+header_refusal header.WalMode = refused.WalMode
+header_refusal (header.Encoding value) = refused.Encoding value
+header_refusal (header.AutoVacuum value) = refused.AutoVacuum value
+header_refusal (header.SizeMismatch pages length) = refused.SizeMismatch pages length
+header_refusal (header.ReservedSpace value) = refused.ReservedSpace value
+header_refusal (header.SchemaFormat value) = refused.SchemaFormat value
 
 -- the refusal of a schema and of trees
 abbrev pub file_refusal : FileFault → Refusal

@@ -13,21 +13,16 @@ ghost use Rattle.database_spec.specs.Rows.{TableRow, IsPlain};
 ghost use Rattle.prepared_spec.specs.Plans.{table_named};
 ghost use Rattle.dump_spec.specs.SchemaRows.{AreLines, IsFirstBad};
 ghost use Rattle.dump_spec.specs.TableDumps.{IsTableAnswer, lines_of};
-ghost use Rattle.dump_spec.specs.SchemaDumps.{IsSchemaDump};
+ghost use Rattle.dump_spec.specs.Dumps.{IsDump};
 
 /// The members of a schema table have one text, or one that is the first to be no row of it, and not both.
 pub fn schema_rows_have_one_answer()
     ensures { (members : List Member) → IsOne (OrFault (AreLines members) (IsFirstBad members)) }
 {}
 
-/// Files have one answer: the lines of the schema, or one refusal.
-pub fn schema_dump_has_one_answer()
-    ensures { (files : Files) → IsOne (IsSchemaDump files) }
-{}
-
-/// A name has one answer of pages: the lines of its table, or one refusal.
-pub fn table_dump_has_one_answer()
-    ensures { (sizes : Sizes) (base : Paged) (name : List ℕ) → IsOne (IsTableAnswer sizes base name) }
+/// A name has one answer of the files: the lines of its table, or one refusal.
+pub fn dump_has_one_answer()
+    ensures { (name : List ℕ) (files : Files) → IsOne (IsDump name files) }
 {}
 
 /// A table is printed exactly where it is plain, and what is printed are the lines of its rows.

@@ -2,3 +2,4 @@ mod Lines
 mod Records
 mod Dumps
 mod Loans
+mod CatalogAnswers

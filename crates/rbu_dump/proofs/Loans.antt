@@ -15,7 +15,7 @@ use Rattle.wal_codec.specs.declared.log.Log.{Log}
 use Rattle.file_pages.specs.FileMap.{Loan}
 use Rattle.file_pages.specs.Overlay.{count_over, pages_over}
 use Rattle.refusal.specs.declared.Refusal.{Refusal}
-use Rattle.dump_spec.specs.SchemaDumps.{IsSchemaAnswer, pages_by, sizes_by}
+use Rattle.dump_spec.specs.Dumps.{IsPagesAnswer, pages_by, sizes_by}
 use Rattle.rbu_dump.specs.Dumps.{HasHeader}
 
 -- one moment more or less of a disk is told by what was fixed
@@ -39,11 +39,11 @@ module _ {D : Type 0} (d : Ghosts D) (tied : (disk : D) → d.shown disk ≡ opt
   loan-shown e = tied b ∙ ap (option_map (λ (t : Trail). shown_files t.now.at)) (loan-trail e) ∙ sym (tied a)
 
 -- pages without a log are those of the target
-pub answer-by_header : (log : Option Log) (name : FileName) (header : Header) (f : Files) (answer : Result (List ℕ) Refusal) → log ≡ None → name ≡ Target
-    → IsSchemaAnswer (sizes_by header) (record { count = count_over log header; pages = pages_over header.page_size log name f }) answer
-    → IsSchemaAnswer (sizes_by header) (pages_by header (content f Target)) answer
-answer-by_header log name header f answer no_log is of_pages =
-    let P : Option Log → FileName → Type 0 = λ l n. IsSchemaAnswer (sizes_by header) (record { count = count_over l header; pages = pages_over header.page_size l n f }) answer in
+pub answer-by_header : (asked : List ℕ) (log : Option Log) (name : FileName) (header : Header) (f : Files) (answer : Result (List ℕ) Refusal) → log ≡ None → name ≡ Target
+    → IsPagesAnswer asked (sizes_by header) (record { count = count_over log header; pages = pages_over header.page_size log name f }) answer
+    → IsPagesAnswer asked (sizes_by header) (pages_by header (content f Target)) answer
+answer-by_header asked log name header f answer no_log is of_pages =
+    let P : Option Log → FileName → Type 0 = λ l n. IsPagesAnswer asked (sizes_by header) (record { count = count_over l header; pages = pages_over header.page_size l n f }) answer in
     subst (λ (n : FileName). P None n) is (subst (λ (l : Option Log). P l name) no_log of_pages)
 
 -- the cause that a store tells is that of its disk

@@ -1,4 +1,4 @@
--- The answer of a dump of the schema, and what ends it before.
+-- The answer of a dump, and what ends it before.
 use Rattle.std.specs.Prelude.{◌≡◌, ◌⊎◌, ℕ, ℤ, List, Option, Some, None, Result, Ok, Err}
 use Rattle.common_spec.specs.Counts.{CountsFaults}
 use Rattle.db_header.specs.declared.fields.Header.{Header}
@@ -13,6 +13,10 @@ use Rattle.refusal.specs.declared.Refusal.TheVariants as refusal
 use Rattle.tree_spec.specs.declared.fault.TreeFault.{TreeFault}
 use Rattle.tree_spec.specs.declared.fault.TreeFault.TheVariants as tree
 use Rattle.tree_walk.specs.declared.cursor.Row.{Row}
+use Rattle.schema_read.specs.declared.read.CatalogFault.{CatalogFault}
+use Rattle.schema_read.specs.declared.read.CatalogFault.TheVariants as catalog
+use Rattle.table_dump.specs.declared.fault.PrintFault.{PrintFault}
+use Rattle.table_dump.specs.declared.fault.PrintFault.TheVariants as print
 use Rattle.dump_spec.specs.SchemaRows.{IsFirstBad}
 use Rattle.rbu_dump.specs.declared.halt.Halt.{Halt}
 use Rattle.rbu_dump.specs.declared.halt.Halt.TheVariants.{Fault, Memory}
@@ -48,3 +52,17 @@ IsRefusedBy (tree.TrunkDamaged page) result = result ≡ Err (tree.TrunkDamaged 
 IsRefusedBy (tree.TargetFull pages limit) result = result ≡ Err (tree.TargetFull pages limit)
 IsRefusedBy (tree.Store fault) result = result ≡ Err (tree.Store fault)
 IsRefusedBy (tree.Memory error) result = result ≡ Err (tree.Memory error)
+
+-- what a table is refused for, or the fault, which is another
+abbrev pub IsRefusalOf : {F : Type 0} → PrintFault F → Result Refusal (TreeFault F) → Type 0
+IsRefusalOf (print.Refused refusal) result = result ≡ Ok refusal
+IsRefusalOf (print.Store fault) result = result ≡ Err (tree.Store fault)
+IsRefusalOf (print.Memory error) result = result ≡ Err (tree.Memory error)
+
+-- why there is no catalog, as what a table is refused for
+abbrev pub of_catalog_fault : {F : Type 0} → CatalogFault F → PrintFault F
+of_catalog_fault (catalog.TreeDamaged page rule) = print.Refused (refusal.TreeDamaged page rule)
+of_catalog_fault (catalog.SchemaRow rowid) = print.Refused (refusal.SchemaRow rowid)
+of_catalog_fault (catalog.DuplicateName name) = print.Refused (refusal.DuplicateName name)
+of_catalog_fault (catalog.Store fault) = print.Store fault
+of_catalog_fault (catalog.Memory error) = print.Memory error

@@ -1,4 +1,4 @@
-// The answer of `dump sqlite_schema`, over the files of a disk.
+// The answer of `dump` of a name, over the files of a disk.
 ghost use Rattle.std.specs.Prelude.{◌≡◌, ◌≤◌, ◌↔◌, length, take, IsTrue, IfOk, IfSome, None};
 ghost use Rattle.std.specs.Option.{option_copied};
 ghost use Rattle.common_spec.specs.Reading.{OrFault, Reads};
@@ -6,20 +6,27 @@ ghost use Rattle.file_spec.specs.declared.FileName.TheVariants.{Target};
 ghost use Rattle.file_spec.specs.Files.{content};
 ghost use Rattle.db_header.specs.Reading.{IsFirstFault, IsHeaderOf};
 ghost use Rattle.rbu_disk.specs.Disk.{AllowsAll, Looks, Owes, OwesBy};
-ghost use Rattle.page_store.specs.Store.{HasSizes, OwesBy as StoreOwesBy, Sees};
+ghost use Rattle.page_store.specs.Store.{HasSizes, OwesBy as StoreOwesBy};
 ghost use Rattle.tree_spec.specs.Faults.{fault_in as tree_fault_in};
-ghost use Rattle.dump_spec.specs.SchemaDumps.{HasJournal, IsSchemaAnswer, IsSchemaDump, header_refusal, pages_by, sizes_by};
-ghost use Rattle.rbu_dump.specs.Dumps.{Counts, HasHeader, IsReadHeader, IsRefusedBy, IsSchemaOf, fault_in};
+ghost use Rattle.tree_walk.specs.Stores.{SeesTree};
+ghost use Rattle.dump_spec.specs.Dumps.{HasJournal, IsDump, IsPagesAnswer, is_schema_name as is_schema_name_of, pages_by, sizes_by};
+ghost use Rattle.dump_spec.specs.Refusals.{header_refusal};
+ghost use Rattle.dump_spec.specs.SchemaDumps.{IsSchemaAnswer};
+ghost use Rattle.dump_spec.specs.TableDumps.{IsTableAnswer};
+ghost use Rattle.rbu_dump.specs.Dumps.{Counts, HasHeader, IsReadHeader, IsRefusalOf, IsRefusedBy, IsSchemaOf, fault_in};
 
 use crate::halt::Halt;
 use crate::schema::{SchemaFault, schema_lines};
+use crate::tables::dump_table;
 use db_header::{Header, HeaderFault, read_header};
 use file_pages::{FilePages, file_start};
 use page_store::PageRead;
 use rbu_disk::{Disk, DiskFault, FileName};
 use rbu_value::Bytes;
 use refusal::{Part, Refusal};
+use schema_tokens::same_name;
 use std::alloc::{AllocError, Global};
+use table_dump::PrintFault;
 use tree_rows::table_rows;
 use tree_walk::{Row, TreeFault};
 
@@ -87,14 +94,14 @@ fn refuse_damage<F>(fault: TreeFault<F>) -> Result<Refusal, TreeFault<F>>
     }
 }
 
-// The answer of pages.
-fn dump_pages<S: PageRead>(
+// The answer of the table of the schema.
+fn dump_schema<S: PageRead>(
     alloc: Global,
     pages: &mut S,
 ) -> Result<Result<Bytes, Refusal>, TreeFault<S::Fault>>
     requires sizes { HasSizes S.PageRead pages.old }
     requires some { 1 ≤ S.count pages.old }
-    ensures pages { Sees S.PageRead pages.old pages.new (λ m. IfOk result (IsSchemaAnswer (record { size = S.size pages.old; usable = S.usable pages.old }) (record { count = S.count pages.old; pages = m }))) }
+    ensures pages { SeesTree S.PageRead pages.old pages.new (λ sizes base. IfOk result (IsSchemaAnswer sizes base)) }
     ensures owes { StoreOwesBy S.PageRead tree_fault_in pages.old pages.new result }
 {
     match table_rows(alloc, pages, 1) {
@@ -106,6 +113,62 @@ fn dump_pages<S: PageRead>(
             Ok(refusal) => Ok(Err(refusal)),
             Err(other) => Err(other),
         },
+    }
+}
+
+// What a table is refused for; or the fault is another.
+fn refuse_print<F>(fault: PrintFault<F>) -> Result<Refusal, TreeFault<F>>
+    ensures { IsRefusalOf fault result }
+{
+    match fault {
+        PrintFault::Refused(refusal) => Ok(refusal),
+        PrintFault::Store(fault) => Err(TreeFault::Store(fault)),
+        PrintFault::Memory(error) => Err(TreeFault::Memory(error)),
+    }
+}
+
+// The answer of a table of the catalog.
+fn dump_other<S: PageRead>(
+    alloc: Global,
+    pages: &mut S,
+    name: &[u8],
+) -> Result<Result<Bytes, Refusal>, TreeFault<S::Fault>>
+    requires sizes { HasSizes S.PageRead pages.old }
+    requires some { 1 ≤ S.count pages.old }
+    ensures pages { SeesTree S.PageRead pages.old pages.new (λ sizes base. IfOk result (IsTableAnswer sizes base name.now)) }
+    ensures owes { StoreOwesBy S.PageRead tree_fault_in pages.old pages.new result }
+{
+    match dump_table(alloc, pages, name) {
+        Ok(text) => Ok(Ok(text)),
+        Err(fault) => match refuse_print(fault) {
+            Ok(refusal) => Ok(Err(refusal)),
+            Err(other) => Err(other),
+        },
+    }
+}
+
+// Whether a name is that of the table of the schema.
+fn is_schema_name(name: &[u8]) -> bool
+    ensures { result ≡ is_schema_name_of name.now }
+{
+    same_name(name, b"sqlite_schema")
+}
+
+// The answer of pages.
+fn dump_pages<S: PageRead>(
+    alloc: Global,
+    pages: &mut S,
+    name: &[u8],
+) -> Result<Result<Bytes, Refusal>, TreeFault<S::Fault>>
+    requires sizes { HasSizes S.PageRead pages.old }
+    requires some { 1 ≤ S.count pages.old }
+    ensures pages { SeesTree S.PageRead pages.old pages.new (λ sizes base. IfOk result (IsPagesAnswer name.now sizes base)) }
+    ensures owes { StoreOwesBy S.PageRead tree_fault_in pages.old pages.new result }
+{
+    if is_schema_name(name) {
+        dump_schema(alloc, pages)
+    } else {
+        dump_other(alloc, pages, name)
     }
 }
 
@@ -126,6 +189,7 @@ fn halt_of(fault: TreeFault<DiskFault>) -> Halt
 fn dump_file<D: Disk>(
     alloc: Global,
     pages: &mut FilePages<D>,
+    name: &[u8],
 ) -> Result<Result<Bytes, Refusal>, Halt>
     requires allowed { AllowsAll D.Disk pages.old.disk.now }
     requires file { pages.old.file ≡ Target }
@@ -135,10 +199,10 @@ fn dump_file<D: Disk>(
     ensures same { D.shown pages.new.disk.now ≡ D.shown pages.old.disk.now }
     ensures moments { D.trail pages.new.disk.now ≡ D.trail pages.old.disk.now }
     ensures test { D.test pages.new.disk.now ≡ D.test pages.old.disk.now }
-    ensures answer { IfOk result (λ answer. IfSome (D.shown pages.old.disk.now) (λ f. IsSchemaAnswer (sizes_by pages.old.header) (pages_by pages.old.header (content f Target)) answer)) }
+    ensures answer { IfOk result (λ answer. IfSome (D.shown pages.old.disk.now) (λ f. IsPagesAnswer name.now (sizes_by pages.old.header) (pages_by pages.old.header (content f Target)) answer)) }
     ensures faults { Counts (D.failures pages.old.disk.now) (D.failures pages.new.disk.now) result }
 {
-    match dump_pages(alloc, pages) {
+    match dump_pages(alloc, pages, name) {
         Ok(answer) => Ok(answer),
         Err(fault) => Err(halt_of(fault)),
     }
@@ -149,13 +213,14 @@ fn dump_target<D: Disk>(
     alloc: Global,
     disk: &mut D,
     header: Header,
+    name: &[u8],
 ) -> Result<Result<Bytes, Refusal>, Halt>
     requires allowed { AllowsAll D.Disk disk.old }
     requires header { HasHeader header }
     ensures same { D.shown disk.new ≡ D.shown disk.old }
     ensures moments { D.trail disk.new ≡ D.trail disk.old }
     ensures test { D.test disk.new ≡ D.test disk.old }
-    ensures answer { IfOk result (λ answer. IfSome (D.shown disk.old) (λ f. IsSchemaAnswer (sizes_by header) (pages_by header (content f Target)) answer)) }
+    ensures answer { IfOk result (λ answer. IfSome (D.shown disk.old) (λ f. IsPagesAnswer name.now (sizes_by header) (pages_by header (content f Target)) answer)) }
     ensures faults { Counts (D.failures disk.old) (D.failures disk.new) result }
 {
     let mut pages = FilePages {
@@ -164,17 +229,21 @@ fn dump_target<D: Disk>(
         log: None,
         header,
     };
-    let answer = dump_file(alloc, &mut pages);
+    let answer = dump_file(alloc, &mut pages, name);
     let FilePages { disk: lent, .. } = pages;
     // No effect at run time. The proof reads what the disk holds from this use.
     let _ = &*lent;
     answer
 }
 
-/// The lines of the table of the schema of the target, or the first refusal: [121], [1] `log`, those of the header, [55] and [62]. Changes nothing.
-pub fn dump_schema<D: Disk>(alloc: Global, disk: &mut D) -> Result<Result<Bytes, Refusal>, Halt>
+/// The lines of the table of this name of the target, or the first refusal: [121], [1] `log`, those of the header, and then, of the table of the schema, [55] and [62]; of another, what `dump_table` refuses. Changes nothing.
+pub fn dump_by_name<D: Disk>(
+    alloc: Global,
+    disk: &mut D,
+    name: &[u8],
+) -> Result<Result<Bytes, Refusal>, Halt>
     requires allowed { AllowsAll D.Disk disk.old }
-    ensures files { Looks D.Disk disk.old disk.new result (λ answer f. IsSchemaDump f answer) }
+    ensures files { Looks D.Disk disk.old disk.new result (λ answer f. IsDump name.now f answer) }
     ensures calls { OwesBy D.Disk fault_in disk.old disk.new result }
 {
     if has_journal(disk)? {
@@ -184,7 +253,7 @@ pub fn dump_schema<D: Disk>(alloc: Global, disk: &mut D) -> Result<Result<Bytes,
         return Ok(Err(Refusal::NotYet { part: Part::Log }));
     }
     match target_header(disk)? {
-        Ok(header) => match dump_target(alloc, disk, header) {
+        Ok(header) => match dump_target(alloc, disk, header, name) {
             Ok(answer) => Ok(answer),
             Err(halt) => Err(halt),
         },

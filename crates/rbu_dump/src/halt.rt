@@ -1,11 +1,11 @@
-// What ends a dump before its answer.
+// What ends a call over the files of a disk before its answer.
 ghost use Rattle.std.specs.Prelude.{◌≡◌};
 ghost use Rattle.rbu_dump.specs.declared.halt.Halt.TheVariants.{Fault, Memory};
 
 use rbu_disk::DiskFault;
 use std::alloc::AllocError;
 
-/// What ends a dump before its answer.
+/// What ends a call over the files of a disk before its answer.
 #[derive(Clone, Copy, Debug, PartialEq, Eq)]
 pub enum Halt {
     /// A call on the disk failed.

@@ -2,11 +2,11 @@
 use Rattle.std.proofs.Common.{◌≡◌, ◌≢◌, ◌≤◌, ◌⊎◌, ℕ, IsTrue, List, Option, None, IfSome, Result, Ok, Err, refl, sym, ap, ◌∙◌, subst, inl, inr, arith}
 use Rattle.std.proofs.lemmas.Bool.{false≢true}
 use Rattle.common_spec.specs.Reading.{Reads}
-use Rattle.common_spec.specs.ReadingLaws.{Reads-one}
+use Rattle.common_spec.specs.ReadingLaws.{IsOne, Reads-one}
 use Rattle.common_spec.specs.Told.{Leads}
 use Rattle.common_spec.specs.ToldLaws.{Leads-known, Leads-same, Leads-weaken, same-Leads}
 use Rattle.file_spec.specs.Files.{Files}
-use Rattle.refusal.specs.declared.Part.{Part}
+use Rattle.refusal.specs.declared.Part.TheVariants as part
 use Rattle.refusal.specs.declared.Refusal.{Refusal}
 use Rattle.refusal.specs.declared.Refusal.TheVariants.{NotYet}
 use Rattle.rbu_disk.specs.declared.disk.Disk as disk
@@ -18,19 +18,19 @@ use Rattle.update_spec.specs.declared.Outcome.{Outcome}
 use Rattle.update_spec.specs.declared.Outcome.TheVariants.{Done, KeyPresent, Refused}
 use Rattle.update_spec.specs.declared.Answer.{Answer}
 use Rattle.update_spec.specs.declared.Answer.TheVariants.{Usage, Ended, Printed, Fault, NoMemory}
-use Rattle.update_spec.specs.declared.Command.TheVariants.{Apply, DumpSchema}
+use Rattle.update_spec.specs.declared.Command.TheVariants.{Apply, Dump}
 use Rattle.update_spec.specs.Words.{IsUsage, AsksUpdate, AsksDump, AsksMore}
-use Rattle.update_spec.specs.WordsLaws.{update-no_dump, needed-one}
-use Rattle.update_spec.specs.Answer.{IsUpdateAnswer, IsPrinted, IsAnswer}
+use Rattle.update_spec.specs.WordsLaws.{update-no_dump, dump-name}
+use Rattle.update_spec.specs.Answer.{IsUpdateAnswer, IsPrinted, IsAnswer, Printing}
 use Rattle.update_spec.specs.Text.{answer_status, outcome_status}
 use Rattle.small_spec.specs.SmallUpdate.{IsFinished, small_inserts}
 use Rattle.small_spec.specs.SmallLaws.{IsFinished-done}
-use Rattle.dump_spec.specs.SchemaDumps.{IsSchemaDump}
-use Rattle.dump_spec.specs.SchemaDumpsLaws.{schema_dump-one}
-use Rattle.rbu_run.specs.Commands.{EndsUpdate, EndsDump, EndsCommand}
+use Rattle.dump_spec.specs.Dumps.{IsDump}
+use Rattle.dump_spec.specs.DumpsLaws.{dump-one}
+use Rattle.rbu_run.specs.Commands.{EndsUpdate, EndsPrinted, EndsCommand}
 use Rattle.rbu_run.specs.Ending.{EndsAs}
 use Rattle.rbu_run.specs.Told.{IsTold}
-use Rattle.rbu_run.specs.Status.{KeepsOnFault, KeepsOnRefusal, IsHalted, HasStatusOf, IsStatus, IsOutcome, IsOfUpdate, answer_fault, IsCounted, IsOwed, TellsDump, TellsFault, CountsCalls, CountsWrites}
+use Rattle.rbu_run.specs.Status.{KeepsOnFault, KeepsOnRefusal, IsHalted, HasStatusOf, IsStatus, IsOutcome, IsOfUpdate, answer_fault, IsCounted, IsOwed, TellsPrinted, TellsFault, CountsCalls, CountsWrites}
 use Rattle.rbu_run.proofs.Endings.{outcome-ends, fault-ends}
 
 -- the answer that is told: that of the command, or want of memory where its text takes memory
@@ -109,7 +109,7 @@ module _ (salt : ℕ × ℕ) where
   update-answers a b (Fault file call) other led = Leads-weaken led (fault-ends salt file call)
   update-answers a b NoMemory other led = same-Leads led
 
--- an update has no usage, and a dump neither that nor a constraint fault
+-- an update has no usage, and a command that only reads neither that nor a constraint fault
 update-no_usage : (answer : Answer) → IsOfUpdate answer → answer_status answer ≢ 2
 update-no_usage Usage other two = other
 update-no_usage (Ended Done) other two = omega (arith, two)
@@ -119,23 +119,23 @@ update-no_usage (Printed text) other two = other
 update-no_usage (Fault file call) other two = omega (arith, two)
 update-no_usage NoMemory other two = omega (arith, two)
 
-dump-no_usage : (files : Option Files) (answer : Answer) → IsPrinted IsSchemaDump files answer → answer_status answer ≢ 2
-dump-no_usage files Usage prints two = prints
-dump-no_usage files (Ended Done) prints two = prints
-dump-no_usage files (Ended (KeyPresent table id)) prints two = prints
-dump-no_usage files (Ended (Refused refusal)) prints two = omega (arith, two)
-dump-no_usage files (Printed text) prints two = omega (arith, two)
-dump-no_usage files (Fault file call) prints two = omega (arith, two)
-dump-no_usage files NoMemory prints two = omega (arith, two)
+printed-no_usage : (P : Printing) (files : Option Files) (answer : Answer) → IsPrinted P files answer → answer_status answer ≢ 2
+printed-no_usage P files Usage prints two = prints
+printed-no_usage P files (Ended Done) prints two = prints
+printed-no_usage P files (Ended (KeyPresent table id)) prints two = prints
+printed-no_usage P files (Ended (Refused refusal)) prints two = omega (arith, two)
+printed-no_usage P files (Printed text) prints two = omega (arith, two)
+printed-no_usage P files (Fault file call) prints two = omega (arith, two)
+printed-no_usage P files NoMemory prints two = omega (arith, two)
 
-dump-no_constraint : (files : Option Files) (answer : Answer) → IsPrinted IsSchemaDump files answer → answer_status answer ≢ 3
-dump-no_constraint files Usage prints three = prints
-dump-no_constraint files (Ended Done) prints three = prints
-dump-no_constraint files (Ended (KeyPresent table id)) prints three = prints
-dump-no_constraint files (Ended (Refused refusal)) prints three = omega (arith, three)
-dump-no_constraint files (Printed text) prints three = omega (arith, three)
-dump-no_constraint files (Fault file call) prints three = omega (arith, three)
-dump-no_constraint files NoMemory prints three = omega (arith, three)
+printed-no_constraint : (P : Printing) (files : Option Files) (answer : Answer) → IsPrinted P files answer → answer_status answer ≢ 3
+printed-no_constraint P files Usage prints three = prints
+printed-no_constraint P files (Ended Done) prints three = prints
+printed-no_constraint P files (Ended (KeyPresent table id)) prints three = prints
+printed-no_constraint P files (Ended (Refused refusal)) prints three = omega (arith, three)
+printed-no_constraint P files (Printed text) prints three = omega (arith, three)
+printed-no_constraint P files (Fault file call) prints three = omega (arith, three)
+printed-no_constraint P files NoMemory prints three = omega (arith, three)
 
 status-of_outcome : (answer : Answer) (outcome : Outcome) (status : ℕ) → IsOutcome outcome answer → status ≡ answer_status answer → (status ≡ outcome_status outcome) ⊎ IsHalted status
 status-of_outcome Usage outcome status is told = absurd is
@@ -181,11 +181,11 @@ told-at_status x y status answer n other (inl line) q is = q (sym line.0 ∙ is)
 told-at_status x y status answer n other (inr failed) q is = absurd (other (sym is ∙ failed.0))
 
 -- files that stay, and what a dump says of them, which is their only answer
-dump-reads : {a b : Option Files} (answer : Result (List ℕ) Refusal) → b ≡ a → IfSome a (λ f. IsSchemaDump f answer) → Leads (λ f g. (g ≡ f) × Reads (IsSchemaDump f) answer) a b
-dump-reads answer same prints = Leads-known prints (Leads-same same (λ f is. (refl, Reads-one (IsSchemaDump f) answer (schema_dump-one f) is)))
+printed-reads : {a b : Option Files} (P : Printing) (answer : Result (List ℕ) Refusal) → ((f : Files) → IsOne (P f)) → b ≡ a → IfSome a (λ f. P f answer) → Leads (λ f g. (g ≡ f) × Reads (P f) answer) a b
+printed-reads P answer one same prints = Leads-known prints (Leads-same same (λ f is. (refl, Reads-one (P f) answer (one f) is)))
 
-dump-halts : {a b : Option Files} (status : ℕ) → b ≡ a → 6 ≤ status → status ≤ 8 → IsHalted status × Leads (λ f g. g ≡ f) a b
-dump-halts status same least most = ((least, most), Leads-same same (λ f. refl))
+printed-halts : {a b : Option Files} (status : ℕ) → b ≡ a → 6 ≤ status → status ≤ 8 → IsHalted status × Leads (λ f g. g ≡ f) a b
+printed-halts status same least most = ((least, most), Leads-same same (λ f. refl))
 
 -- a command that ended
 module _ {D : Type 0} {d : disk.Ghosts D} (salt : ℕ × ℕ) (words : List (List ℕ)) (before after : D) where
@@ -201,12 +201,12 @@ module _ {D : Type 0} {d : disk.Ghosts D} (salt : ℕ × ℕ) (words : List (Lis
   ended-no_memory answer takes (inr (inl dump)) = inr (inl (
     dump.0,
     record {
-      prints = tt;
+      printed = tt;
       same = dump.1.same;
       crash = Leads-weaken dump.1.crash (λ a b rests. record { moments = rests.moments; end = tt });
     },
   ))
-  ended-no_memory answer takes (inr (inr (inl more))) = absurd (false≢true (subst (λ (x : Answer). IsTrue (takes_memory x)) more.2 takes))
+  ended-no_memory answer takes (inr (inr (inl more))) = absurd (false≢true (subst (λ (x : Answer). IsTrue (takes_memory x)) more.1 takes))
   ended-no_memory answer takes (inr (inr (inr usage))) = absurd (false≢true (subst (λ (x : Answer). IsTrue (takes_memory x)) usage.1 takes))
 
   -- the answer that is told says no more
@@ -219,45 +219,45 @@ module _ {D : Type 0} {d : disk.Ghosts D} (salt : ℕ × ℕ) (words : List (Lis
       ((f g : Files) → EndsAs salt answer f g → Q f g) → ((f : Files) → Q f f) → Leads Q (d.shown before) (d.shown after)
   ended-however answer (inl update) changes stays = Leads-weaken update.1.files changes
   ended-however answer (inr (inl dump)) changes stays = Leads-same dump.1.same stays
-  ended-however answer (inr (inr (inl more))) changes stays = Leads-same (ap d.shown more.3) stays
+  ended-however answer (inr (inr (inl more))) changes stays = Leads-same (ap d.shown more.2) stays
   ended-however answer (inr (inr (inr usage))) changes stays = Leads-same (ap d.shown usage.2) stays
 
   -- what the words ask for is what ended
   pub ended-update : (answer : Answer) → AsksUpdate words → EndsCommand d salt words before after answer → EndsUpdate d salt before after answer
   ended-update answer asks (inl update) = update.1
   ended-update answer asks (inr (inl dump)) = absurd (update-no_dump words asks dump.0)
-  ended-update answer asks (inr (inr (inl more))) = absurd (more.1.0 asks)
+  ended-update answer asks (inr (inr (inl more))) = absurd (more.0.0 asks)
   ended-update answer asks (inr (inr (inr usage))) = absurd (usage.0 (Apply 4294967295) asks)
 
-  pub ended-dump : (answer : Answer) → AsksDump words → EndsCommand d salt words before after answer → EndsDump d before after answer
+  pub ended-dump : (answer : Answer) (asks : AsksDump words) → EndsCommand d salt words before after answer → EndsPrinted d (IsDump asks.0) before after answer
   ended-dump answer asks (inl update) = absurd (update-no_dump words update.0 asks)
-  ended-dump answer asks (inr (inl dump)) = dump.1
-  ended-dump answer asks (inr (inr (inl more))) = absurd (more.1.1 asks)
-  ended-dump answer asks (inr (inr (inr usage))) = absurd (usage.0 DumpSchema asks)
+  ended-dump answer asks (inr (inl dump)) = subst (λ (name : List ℕ). EndsPrinted d (IsDump name) before after answer) (dump-name words dump.0 asks) dump.1
+  ended-dump answer asks (inr (inr (inl more))) = absurd (more.0.1 asks)
+  ended-dump answer asks (inr (inr (inr usage))) = absurd (usage.0 Dump asks)
 
-  pub ended-more : (answer : Answer) (needed : Part) → AsksMore words needed → EndsCommand d salt words before after answer → answer ≡ Ended (Refused (NotYet needed))
-  ended-more answer needed asks (inl update) = absurd (asks.0 update.0)
-  ended-more answer needed asks (inr (inl dump)) = absurd (asks.1 dump.0)
-  ended-more answer needed asks (inr (inr (inl more))) = more.2 ∙ ap (λ (part : Part). Ended (Refused (NotYet part))) (needed-one words more.0 needed more.1 asks)
-  ended-more answer needed asks (inr (inr (inr usage))) = absurd (usage.0 asks.2.0 asks.2.1)
+  pub ended-more : (answer : Answer) → AsksMore words → EndsCommand d salt words before after answer → answer ≡ Ended (Refused (NotYet part.Words))
+  ended-more answer asks (inl update) = absurd (asks.0 update.0)
+  ended-more answer asks (inr (inl dump)) = absurd (asks.1 dump.0)
+  ended-more answer asks (inr (inr (inl more))) = more.1
+  ended-more answer asks (inr (inr (inr usage))) = absurd (usage.0 asks.2.0 asks.2.1)
 
   pub ended-usage : (answer : Answer) → IsUsage words → EndsCommand d salt words before after answer → answer ≡ Usage
   ended-usage answer asks (inl update) = absurd (asks (Apply 4294967295) update.0)
-  ended-usage answer asks (inr (inl dump)) = absurd (asks DumpSchema dump.0)
-  ended-usage answer asks (inr (inr (inl more))) = absurd (asks more.1.2.0 more.1.2.1)
+  ended-usage answer asks (inr (inl dump)) = absurd (asks Dump dump.0)
+  ended-usage answer asks (inr (inr (inl more))) = absurd (asks more.0.2.0 more.0.2.1)
   ended-usage answer asks (inr (inr (inr usage))) = usage.1
 
   pub ended-idle : (answer : Answer) → (¬ AsksUpdate words) → (¬ AsksDump words) → EndsCommand d salt words before after answer → after ≡ before
   ended-idle answer other also (inl update) = absurd (other update.0)
   ended-idle answer other also (inr (inl dump)) = absurd (also dump.0)
-  ended-idle answer other also (inr (inr (inl more))) = more.3
+  ended-idle answer other also (inr (inr (inl more))) = more.2
   ended-idle answer other also (inr (inr (inr usage))) = usage.2
 
   -- the answer of the words and the files
-  ended-answers : (answer : Answer) → EndsCommand d salt words before after answer → IsAnswer small_inserts IsSchemaDump words (d.shown before) (d.shown after) answer
+  ended-answers : (answer : Answer) → EndsCommand d salt words before after answer → IsAnswer small_inserts IsDump words (d.shown before) (d.shown after) answer
   ended-answers answer (inl update) = inl (update.0, update-answers salt (d.shown before) (d.shown after) answer update.1.of_update update.1.files)
-  ended-answers answer (inr (inl dump)) = inr (inl (dump.0, (dump.1.prints, dump.1.same)))
-  ended-answers answer (inr (inr (inl more))) = inr (inr (inl (more.0, more.1, more.2, ap d.shown more.3)))
+  ended-answers answer (inr (inl dump)) = inr (inl (dump.0, (dump.1.printed, dump.1.same)))
+  ended-answers answer (inr (inr (inl more))) = inr (inr (inl (more.0, more.1, ap d.shown more.2)))
   ended-answers answer (inr (inr (inr usage))) = inr (inr (inr (usage.0, usage.1, ap d.shown usage.2)))
 
   pub ended-owed : (answer : Answer) → EndsCommand d salt words before after answer → IsCounted d before after answer → IsOwed d words before after answer
@@ -271,26 +271,26 @@ module _ {D : Type 0} {d : disk.Ghosts D} (salt : ℕ × ℕ) (words : List (Lis
       (AsksUpdate words × Leads IsFinished (d.shown before) (d.shown after)) ⊎ AsksDump words
   ended-done answer (inl update) zero = inl (update.0, Leads-weaken update.1.files (done-finished salt answer zero))
   ended-done answer (inr (inl dump)) zero = inr dump.0
-  ended-done answer (inr (inr (inl more))) zero = absurd (let four : answer_status answer ≡ 4 = ap answer_status more.2 in omega (arith, zero, four))
+  ended-done answer (inr (inr (inl more))) zero = absurd (let four : answer_status answer ≡ 4 = ap answer_status more.1 in omega (arith, zero, four))
   ended-done answer (inr (inr (inr usage))) zero = absurd (let two : answer_status answer ≡ 2 = ap answer_status usage.1 in omega (arith, zero, two))
 
   ended-constraint : (answer : Answer) → EndsCommand d salt words before after answer → answer_status answer ≡ 3 → AsksUpdate words × Leads KeepsOnFault (d.shown before) (d.shown after)
   ended-constraint answer (inl update) three = (update.0, Leads-weaken update.1.files (constraint-keeps salt answer three))
-  ended-constraint answer (inr (inl dump)) three = absurd (dump-no_constraint (d.shown before) answer dump.1.prints three)
-  ended-constraint answer (inr (inr (inl more))) three = absurd (let four : answer_status answer ≡ 4 = ap answer_status more.2 in omega (arith, three, four))
+  ended-constraint answer (inr (inl dump)) three = absurd (printed-no_constraint (IsDump dump.0.0) (d.shown before) answer dump.1.printed three)
+  ended-constraint answer (inr (inr (inl more))) three = absurd (let four : answer_status answer ≡ 4 = ap answer_status more.1 in omega (arith, three, four))
   ended-constraint answer (inr (inr (inr usage))) three = absurd (let two : answer_status answer ≡ 2 = ap answer_status usage.1 in omega (arith, three, two))
 
   ended-refused : (answer : Answer) → EndsCommand d salt words before after answer → answer_status answer ≡ 4 →
-      (AsksUpdate words × Leads KeepsOnRefusal (d.shown before) (d.shown after)) ⊎ (AsksDump words ⊎ ((needed : Part) × AsksMore words needed))
+      (AsksUpdate words × Leads KeepsOnRefusal (d.shown before) (d.shown after)) ⊎ (AsksDump words ⊎ AsksMore words)
   ended-refused answer (inl update) four = inl (update.0, Leads-weaken update.1.files (refused-keeps salt answer four))
   ended-refused answer (inr (inl dump)) four = inr (inl dump.0)
-  ended-refused answer (inr (inr (inl more))) four = inr (inr (more.0, more.1))
+  ended-refused answer (inr (inr (inl more))) four = inr (inr more.0)
   ended-refused answer (inr (inr (inr usage))) four = absurd (let two : answer_status answer ≡ 2 = ap answer_status usage.1 in omega (arith, four, two))
 
   ended-with_usage : (answer : Answer) → EndsCommand d salt words before after answer → answer_status answer ≡ 2 → IsUsage words
   ended-with_usage answer (inl update) two = absurd (update-no_usage answer update.1.of_update two)
-  ended-with_usage answer (inr (inl dump)) two = absurd (dump-no_usage (d.shown before) answer dump.1.prints two)
-  ended-with_usage answer (inr (inr (inl more))) two = absurd (let four : answer_status answer ≡ 4 = ap answer_status more.2 in omega (arith, two, four))
+  ended-with_usage answer (inr (inl dump)) two = absurd (printed-no_usage (IsDump dump.0.0) (d.shown before) answer dump.1.printed two)
+  ended-with_usage answer (inr (inr (inl more))) two = absurd (let four : answer_status answer ≡ 4 = ap answer_status more.1 in omega (arith, two, four))
   ended-with_usage answer (inr (inr (inr usage))) two = usage.0
 
   -- and told by a status and an output
@@ -302,7 +302,7 @@ module _ {D : Type 0} {d : disk.Ghosts D} (salt : ℕ × ℕ) (words : List (Lis
       pub told-constraint : status ≡ 3 → AsksUpdate words × Leads KeepsOnFault (d.shown before) (d.shown after)
       told-constraint = told-at_status x y status answer 3 (λ e. omega (arith, e)) told (ended-constraint answer ends)
 
-      pub told-refused : status ≡ 4 → (AsksUpdate words × Leads KeepsOnRefusal (d.shown before) (d.shown after)) ⊎ (AsksDump words ⊎ ((needed : Part) × AsksMore words needed))
+      pub told-refused : status ≡ 4 → (AsksUpdate words × Leads KeepsOnRefusal (d.shown before) (d.shown after)) ⊎ (AsksDump words ⊎ AsksMore words)
       told-refused = told-at_status x y status answer 4 (λ e. omega (arith, e)) told (ended-refused answer ends)
 
       pub told-memory : status ≡ 7 → Leads (λ f g. g ≡ f) (d.shown before) (d.shown after)
@@ -311,8 +311,8 @@ module _ {D : Type 0} {d : disk.Ghosts D} (salt : ℕ × ℕ) (words : List (Lis
       pub told-usage : status ≡ 2 → IsUsage words
       told-usage = told-at_status x y status answer 2 (λ e. omega (arith, e)) told (ended-with_usage answer ends)
 
-      pub told-not_built : (needed : Part) → AsksMore words needed → IsTold o (Ended (Refused (NotYet needed))) x y status
-      told-not_built needed asks = subst (λ (a : Answer). IsTold o a x y status) (ended-more answer needed asks ends) told
+      pub told-not_built : AsksMore words → IsTold o (Ended (Refused (NotYet part.Words))) x y status
+      told-not_built asks = subst (λ (a : Answer). IsTold o a x y status) (ended-more answer asks ends) told
 
       pub told-usage_only : IsUsage words → (status ≡ 2) ⊎ (status ≡ 8)
       told-usage_only asks = by (subst (λ (a : Answer). IsTold o a x y status) (ended-usage answer asks ends) told)
@@ -329,19 +329,19 @@ module _ {D : Type 0} {d : disk.Ghosts D} (salt : ℕ × ℕ) (words : List (Lis
           by outcome is (inl line) = status-of_outcome answer outcome status is line.0
           by outcome is (inr failed) = inr (omega (arith, failed.0), omega (arith, failed.0))
 
-    -- what a dump came to
-    dump-tells : (answer : Answer) → EndsDump d before after answer → IsTold o answer x y status → TellsDump d o before after x y status
-    dump-tells answer ends (inr failed) = inr (inr (dump-halts status ends.same (omega (arith, failed.0)) (omega (arith, failed.0))))
-    dump-tells Usage ends (inl line) = absurd ends.prints
-    dump-tells (Ended Done) ends (inl line) = absurd ends.prints
-    dump-tells (Ended (KeyPresent table id)) ends (inl line) = absurd ends.prints
-    dump-tells (Ended (Refused refusal)) ends (inl line) = inr (inl (refusal, line.0, dump-reads (Err refusal) ends.same ends.prints, line.1))
-    dump-tells (Printed text) ends (inl line) = inl (text, line.0, dump-reads (Ok text) ends.same ends.prints, line.1)
-    dump-tells (Fault file call) ends (inl line) = inr (inr (dump-halts status ends.same (omega (arith, line.0)) (omega (arith, line.0))))
-    dump-tells NoMemory ends (inl line) = inr (inr (dump-halts status ends.same (omega (arith, line.0)) (omega (arith, line.0))))
+    -- what a command that only reads came to
+    printed-tells : (P : Printing) (one : (f : Files) → IsOne (P f)) (answer : Answer) → EndsPrinted d P before after answer → IsTold o answer x y status → TellsPrinted d o P before after x y status
+    printed-tells P one answer ends (inr failed) = inr (inr (printed-halts status ends.same (omega (arith, failed.0)) (omega (arith, failed.0))))
+    printed-tells P one Usage ends (inl line) = absurd ends.printed
+    printed-tells P one (Ended Done) ends (inl line) = absurd ends.printed
+    printed-tells P one (Ended (KeyPresent table id)) ends (inl line) = absurd ends.printed
+    printed-tells P one (Ended (Refused refusal)) ends (inl line) = inr (inl (refusal, line.0, printed-reads P (Err refusal) one ends.same ends.printed, line.1))
+    printed-tells P one (Printed text) ends (inl line) = inl (text, line.0, printed-reads P (Ok text) one ends.same ends.printed, line.1)
+    printed-tells P one (Fault file call) ends (inl line) = inr (inr (printed-halts status ends.same (omega (arith, line.0)) (omega (arith, line.0))))
+    printed-tells P one NoMemory ends (inl line) = inr (inr (printed-halts status ends.same (omega (arith, line.0)) (omega (arith, line.0))))
 
-    pub told-dump : (answer : Answer) → EndsCommand d salt words before after answer → IsTold o answer x y status → AsksDump words → TellsDump d o before after x y status
-    told-dump answer ends told asks = dump-tells answer (ended-dump answer asks ends) told
+    pub told-dump : (answer : Answer) → EndsCommand d salt words before after answer → IsTold o answer x y status → (asks : AsksDump words) → TellsPrinted d o (IsDump asks.0) before after x y status
+    told-dump answer ends told asks = printed-tells (IsDump asks.0) (dump-one asks.0) answer (ended-dump answer asks ends) told
 
     -- status 6 names the last call on the disk that failed
     fault-tells : (answer : Answer) → EndsCommand d salt words before after answer → IsCounted d before after answer → IsTold o answer x y status →

@@ -63,7 +63,7 @@ module _ {D : Type 0} {d : disk.Ghosts D} (salt : ℕ × ℕ) (words : List (Lis
       by : EndsCommand d salt words before after answer → Leads (LeavesOldOrNew small_inserts) (d.trail before) (d.trail after)
       by (inl update) = Leads-weaken update.1.crash (λ a b survives. MomentsShow-old_or_new a b survives.moments)
       by (inr (inl dump)) = Leads-weaken dump.1.crash (λ a b rests. MomentsShow-old_or_new a b (rests-shows a b rests.moments))
-      by (inr (inr (inl more))) = still more.3
+      by (inr (inr (inl more))) = still more.2
       by (inr (inr (inr usage))) = still usage.2
 
   -- a dump leaves no image that could not be left before

@@ -1,15 +1,15 @@
 -- How a command ended, by what its words ask for.
 use Rattle.std.specs.Prelude.{◌≡◌, ◌⊎◌, ℕ, List}
-use Rattle.refusal.specs.declared.Part.{Part}
+use Rattle.refusal.specs.declared.Part.TheVariants as part
 use Rattle.refusal.specs.declared.Refusal.TheVariants.{NotYet}
 use Rattle.rbu_disk.specs.declared.disk.Disk.{Ghosts}
 use Rattle.rbu_disk.specs.Disk.{Goes, GoesOn}
 use Rattle.update_spec.specs.declared.Outcome.TheVariants.{Refused}
 use Rattle.update_spec.specs.declared.Answer.{Answer}
 use Rattle.update_spec.specs.declared.Answer.TheVariants.{Usage, Ended}
-use Rattle.update_spec.specs.Answer.{IsPrinted}
+use Rattle.update_spec.specs.Answer.{IsPrinted, Printing}
 use Rattle.update_spec.specs.Words.{IsUsage, AsksUpdate, AsksDump, AsksMore}
-use Rattle.dump_spec.specs.SchemaDumps.{IsSchemaDump}
+use Rattle.dump_spec.specs.Dumps.{IsDump}
 use Rattle.rbu_run.specs.Crash.{IsStableAnswer, Survives, Rests}
 use Rattle.rbu_run.specs.Ending.{EndsAs}
 use Rattle.rbu_run.specs.Status.{IsOfUpdate}
@@ -20,9 +20,9 @@ pub record EndsUpdate {D : Type 0} (d : Ghosts D) (salt : ℕ × ℕ) (before af
   pub files : Goes d before after (EndsAs salt answer)
   pub crash : GoesOn d before after (Survives (IsStableAnswer answer))
 
--- the dump: what it prints of the files, which stay, and that a crash leaves no more than before
-pub record EndsDump {D : Type 0} (d : Ghosts D) (before after : D) (answer : Answer) : Type 0 where
-  pub prints : IsPrinted IsSchemaDump (d.shown before) answer
+-- a command that only reads: what it prints of the files, which stay, and that a crash leaves no more than before
+pub record EndsPrinted {D : Type 0} (d : Ghosts D) (prints : Printing) (before after : D) (answer : Answer) : Type 0 where
+  pub printed : IsPrinted prints (d.shown before) answer
   pub same : d.shown after ≡ d.shown before
   pub crash : GoesOn d before after (Rests (IsStableAnswer answer))
 
@@ -30,6 +30,6 @@ pub record EndsDump {D : Type 0} (d : Ghosts D) (before after : D) (answer : Ans
 abbrev pub EndsCommand : {D : Type 0} → Ghosts D → ℕ × ℕ → List (List ℕ) → D → D → Answer → Type 0
 EndsCommand d salt words before after answer =
     (AsksUpdate words × EndsUpdate d salt before after answer)
-    ⊎ ((AsksDump words × EndsDump d before after answer)
-    ⊎ (((needed : Part) × AsksMore words needed × (answer ≡ Ended (Refused (NotYet needed))) × (after ≡ before))
+    ⊎ (((asks : AsksDump words) × EndsPrinted d (IsDump asks.0) before after answer)
+    ⊎ ((AsksMore words × (answer ≡ Ended (Refused (NotYet part.Words))) × (after ≡ before))
     ⊎ (IsUsage words × (answer ≡ Usage) × (after ≡ before))))

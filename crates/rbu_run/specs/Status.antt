@@ -16,12 +16,12 @@ use Rattle.update_spec.specs.declared.Outcome.{Outcome}
 use Rattle.update_spec.specs.declared.Outcome.TheVariants.{KeyPresent, Refused}
 use Rattle.update_spec.specs.declared.Answer.{Answer}
 use Rattle.update_spec.specs.declared.Answer.TheVariants.{Usage, Ended, Printed, Fault, NoMemory}
-use Rattle.update_spec.specs.Answer.{IsAnswer}
+use Rattle.update_spec.specs.Answer.{IsAnswer, Printing}
 use Rattle.update_spec.specs.Update.{AfterFault}
 use Rattle.update_spec.specs.Words.{AsksUpdate}
 use Rattle.update_spec.specs.Text.{outcome_status, answer_text}
 use Rattle.small_spec.specs.SmallUpdate.{HasOutcome, small_inserts}
-use Rattle.dump_spec.specs.SchemaDumps.{IsSchemaDump}
+use Rattle.dump_spec.specs.Dumps.{IsDump}
 use Rattle.rbu_run.specs.Told.{IsTold}
 
 -- the program ends with 0, 2, 3, 4, 6, 7 or 8
@@ -75,7 +75,7 @@ pub record IsCounted {D : Type 0} (d : disk.Ghosts D) (before after : D) (answer
 
 -- The answer is owed to these words: it is theirs over the files, it is the outcome of the files, and a fault has its cause.
 pub record IsOwed {D : Type 0} (d : disk.Ghosts D) (words : List (List ℕ)) (before after : D) (answer : Answer) : Type 0 where
-  pub answers : IsAnswer small_inserts IsSchemaDump words (d.shown before) (d.shown after) answer
+  pub answers : IsAnswer small_inserts IsDump words (d.shown before) (d.shown after) answer
   pub outcome : AsksUpdate words → Goes d before after (λ f _. IsOutcomeOf answer f)
   pub calls : IsCounted d before after answer
 
@@ -96,11 +96,11 @@ TellsFault d o before after out_before out_after status =
     (file : FileName) × (call : DiskCall) × Fails (d.failures before) (d.failures after) (record { file = file; call = call })
     × Goes d before after (AfterFault small_inserts call) × IsTold o (Fault file call) out_before out_after status
 
--- What a dump came to: the lines that are the only answer of the files were written, or the line of the refusal that is, or it was halted. No file changed.
-abbrev pub TellsDump : {D O : Type 0} → disk.Ghosts D → sink.Ghosts O → D → D → O → O → ℕ → Type 0
-TellsDump d o before after out_before out_after status =
-    ((text : List ℕ) × (status ≡ 0) × Goes d before after (λ f g. (g ≡ f) × Reads (IsSchemaDump f) (Ok text)) × Took o out_before out_after text)
-    ⊎ (((refusal : Refusal) × (status ≡ 4) × Goes d before after (λ f g. (g ≡ f) × Reads (IsSchemaDump f) (Err refusal)) × Took o out_before out_after (answer_text (Ended (Refused refusal))))
+-- What a command that only reads came to: the lines that are the only answer of the files were written, or the line of the refusal that is, or it was halted. No file changed.
+abbrev pub TellsPrinted : {D O : Type 0} → disk.Ghosts D → sink.Ghosts O → Printing → D → D → O → O → ℕ → Type 0
+TellsPrinted d o prints before after out_before out_after status =
+    ((text : List ℕ) × (status ≡ 0) × Goes d before after (λ f g. (g ≡ f) × Reads (prints f) (Ok text)) × Took o out_before out_after text)
+    ⊎ (((refusal : Refusal) × (status ≡ 4) × Goes d before after (λ f g. (g ≡ f) × Reads (prints f) (Err refusal)) × Took o out_before out_after (answer_text (Ended (Refused refusal))))
     ⊎ (IsHalted status × Goes d before after (λ f g. g ≡ f)))
 
 -- A call on the disk failed only where the status is 6 or 8, and the count of those that did never falls.

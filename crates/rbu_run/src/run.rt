@@ -2,32 +2,32 @@
 ghost use Rattle.std.specs.Prelude.{◌≡◌, ◌≢◌, ◌⊎◌, ◌↔◌, map, string_bytes, IsTrue};
 ghost use Rattle.rbu_disk.specs.Disk.{AllowsAll, Goes, GoesOn, HasNow};
 ghost use Rattle.format_spec.specs.Log.{pair_of};
-ghost use Rattle.refusal.specs.declared.Part.{Part};
+ghost use Rattle.refusal.specs.declared.Part.TheVariants.{Words};
 ghost use Rattle.refusal.specs.declared.Refusal.TheVariants.{NotYet};
 ghost use Rattle.update_spec.specs.declared.Answer.TheVariants.{Ended};
-ghost use Rattle.update_spec.specs.declared.Command.TheVariants.{Apply, DumpSchema};
+ghost use Rattle.update_spec.specs.declared.Command.TheVariants.{Apply, Dump};
 ghost use Rattle.update_spec.specs.declared.Outcome.TheVariants.{Refused};
 ghost use Rattle.file_spec.specs.declared.FileName.TheVariants.{Target};
 ghost use Rattle.update_spec.specs.Answer.{IsPrinted};
 ghost use Rattle.update_spec.specs.Update.{SeesOldOrNew};
 ghost use Rattle.update_spec.specs.Crashes.{HasShownFile, HasShownNames, LeavesNoMore, LeavesOldOrNew};
-ghost use Rattle.update_spec.specs.Words.{IsUsage, AsksUpdate, AsksDump, AsksMore, part_of as part_needed};
+ghost use Rattle.update_spec.specs.Words.{IsUsage, AsksUpdate, AsksDump, AsksMore};
 ghost use Rattle.small_spec.specs.SmallUpdate.{IsFinished, small_inserts};
-ghost use Rattle.dump_spec.specs.SchemaDumps.{IsSchemaDump};
+ghost use Rattle.dump_spec.specs.Dumps.{IsDump};
 ghost use Rattle.rbu_run.specs.Commands.{EndsCommand};
 ghost use Rattle.rbu_run.specs.Crash.{IsStableAnswer, Rests, Survives};
 ghost use Rattle.rbu_run.specs.Ending.{EndsAs};
 ghost use Rattle.rbu_run.specs.Handover.{KeepsOthers, LeavesLog};
-ghost use Rattle.rbu_run.specs.Status.{HasEnded, Tells, TellsDump, TellsFault, KeepsOnFault, KeepsOnRefusal, HasStatusOf, IsStatus, IsOfUpdate, IsCounted, CountsCalls, CountsWrites};
+ghost use Rattle.rbu_run.specs.Status.{HasEnded, Tells, TellsPrinted, TellsFault, KeepsOnFault, KeepsOnRefusal, HasStatusOf, IsStatus, IsOfUpdate, IsCounted, CountsCalls, CountsWrites};
 ghost use Rattle.rbu_run.specs.Told.{IsTold};
 
 use crate::dump::dump;
-use crate::halt::Halt;
 use crate::text::write_text;
 use crate::update::{not_yet, update};
 use crate::words::command_of;
 use answer_lines::tellable;
 use rbu_disk::{Disk, Sink};
+use rbu_dump::Halt;
 use refusal::Part;
 use std::alloc::Global;
 use update_spec::{Answer, Command, Outcome};
@@ -57,15 +57,15 @@ fn update_answer<D: Disk>(alloc: Global, salt: [u32; 2], disk: &mut D) -> Answer
     }
 }
 
-/// The answer of the dump.
-fn dump_answer<D: Disk>(alloc: Global, disk: &mut D) -> Answer
+/// The answer of the dump of a name.
+fn dump_answer<D: Disk>(alloc: Global, disk: &mut D, name: &str) -> Answer
     requires allowed { AllowsAll D.Disk disk.old }
-    ensures prints { IsPrinted IsSchemaDump (D.shown disk.old) result }
+    ensures prints { IsPrinted (IsDump name.now) (D.shown disk.old) result }
     ensures same { D.shown disk.new ≡ D.shown disk.old }
     ensures crash { GoesOn D.Disk disk.old disk.new (Rests (IsStableAnswer result)) }
     ensures calls { IsCounted D.Disk disk.old disk.new result }
 {
-    match dump(alloc, disk) {
+    match dump(alloc, disk, name) {
         Ok(Ok(text)) => Answer::Printed { text },
         Ok(Err(refusal)) => Answer::Ended {
             outcome: Outcome::Refused { refusal },
@@ -88,23 +88,23 @@ fn is_whole_update(command: &Command) -> bool
     }
 }
 
-/// Whether the command is the dump of the schema.
-fn is_schema_dump(command: &Command) -> bool
-    ensures { IsTrue result ↔ (command.now ≡ DumpSchema) }
+/// Whether the command is a dump.
+fn is_dump(command: &Command) -> bool
+    ensures { IsTrue result ↔ (command.now ≡ Dump) }
 {
     match command {
-        Command::DumpSchema => true,
+        Command::Dump => true,
         _ => false,
     }
 }
 
-/// The part that a command needs, where it is not built.
-fn part_of(command: &Command) -> Part
-    ensures { result ≡ part_needed command.now }
+/// The name of the table that the words ask for.
+fn name_of(words: &[String]) -> &str
+    ensures { (asks : AsksDump (map string_bytes words.now)) → result.now ≡ asks.0 }
 {
-    match command {
-        Command::DumpTable => Part::Name,
-        _ => Part::Words,
+    match words {
+        [_dump, name] => name.as_str(),
+        _ => "",
     }
 }
 
@@ -120,11 +120,11 @@ fn answer_of<D: Disk>(alloc: Global, words: &[String], salt: [u32; 2], disk: &mu
     if is_whole_update(&command) {
         return update_answer(alloc, salt, disk);
     }
-    if is_schema_dump(&command) {
-        return dump_answer(alloc, disk);
+    if is_dump(&command) {
+        return dump_answer(alloc, disk, name_of(words));
     }
     Answer::Ended {
-        outcome: not_yet(part_of(&command)),
+        outcome: not_yet(Part::Words),
     }
 }
 
@@ -166,17 +166,17 @@ pub fn run_command<D: Disk, O: Sink>(
         ⊎ AsksDump (map string_bytes words.now) }
     ensures constraint { result.status ≡ 3 → AsksUpdate (map string_bytes words.now) × Goes D.Disk disk result.disk KeepsOnFault }
     ensures refused { result.status ≡ 4 → (AsksUpdate (map string_bytes words.now) × Goes D.Disk disk result.disk KeepsOnRefusal)
-        ⊎ (AsksDump (map string_bytes words.now) ⊎ ((needed : Part) × AsksMore (map string_bytes words.now) needed)) }
+        ⊎ (AsksDump (map string_bytes words.now) ⊎ AsksMore (map string_bytes words.now)) }
     ensures memory { result.status ≡ 7 → Goes D.Disk disk result.disk (λ f g. g ≡ f) }
 
-    // A dump writes the lines of the schema's table in the files shown, or the line of their first refusal, exactly, unless a
+    // A dump writes the lines of the named table in the files shown, or the line of their first refusal, exactly, unless a
     // device failed or memory ran out. It changes no file, and a crash at any moment of it leaves no more than one before.
-    ensures dumped { AsksDump (map string_bytes words.now) → TellsDump D.Disk O.Sink disk result.disk out.old out.new result.status }
+    ensures dumped { (asks : AsksDump (map string_bytes words.now)) → TellsPrinted D.Disk O.Sink (IsDump asks.0) disk result.disk out.old out.new result.status }
     ensures kept { AsksDump (map string_bytes words.now) → GoesOn D.Disk disk result.disk LeavesNoMore }
 
     // The outcome of the files is the answer, exactly, unless a device failed or memory ran out.
     ensures complete { AsksUpdate (map string_bytes words.now) → Goes D.Disk disk result.disk (λ f _. HasStatusOf result.status f) }
-    ensures not_built { (needed : Part) → AsksMore (map string_bytes words.now) needed → IsTold O.Sink (Ended (Refused (NotYet needed))) out.old out.new result.status }
+    ensures not_built { AsksMore (map string_bytes words.now) → IsTold O.Sink (Ended (Refused (NotYet Words))) out.old out.new result.status }
     ensures usage { result.status ≡ 2 → IsUsage (map string_bytes words.now) }
     ensures usage_only { IsUsage (map string_bytes words.now) → (result.status ≡ 2) ⊎ (result.status ≡ 8) }
     ensures idle { (¬ AsksUpdate (map string_bytes words.now)) → (¬ AsksDump (map string_bytes words.now)) → result.disk ≡ disk }

@@ -11,14 +11,15 @@ ghost use Rattle.small_spec.specs.SmallFile.{IsSmallTarget, IsSmallRbu};
 ghost use Rattle.small_spec.specs.Inserts.{new_pages, page_room};
 ghost use Rattle.rbu_run.specs.Crash.{CrashesMidway, HasFirmNames, IsStableEnd, Survives};
 ghost use Rattle.rbu_run.specs.Ending.{Ends};
-ghost use Rattle.rbu_run.specs.Halt.{fault_in, FailsAtChange};
+ghost use Rattle.rbu_dump.specs.Dumps.{fault_in};
+ghost use Rattle.rbu_run.specs.Halt.{FailsAtChange};
 ghost use Rattle.rbu_run.specs.Handover.{HasPages, IsAlone, IsMidway};
 ghost use Rattle.rbu_run.specs.Inspection.{IsSmallWith};
 
-use crate::halt::Halt;
 use crate::handover::hand_over;
 use crate::inspect::{Inspected, inspect};
 use rbu_disk::{Disk, DiskFault};
+use rbu_dump::Halt;
 use refusal::{Part, Refusal};
 use small_spec::{PreparedRow, TargetRow};
 use small_update::{Decision, decide, update_leaves_small_target, write_pages};

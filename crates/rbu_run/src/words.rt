@@ -1,5 +1,5 @@
 // The words of a command, read by hand.
-ghost use Rattle.std.specs.Prelude.{◌≡◌, ◌≢◌, ◌≤◌, ◌↔◌, ℕ, map, string_bytes, length, slice_index, IsTrue, IfSome, Some, [], ◌∷◌, codes};
+ghost use Rattle.std.specs.Prelude.{◌≡◌, ◌≢◌, ◌≤◌, ◌↔◌, ℕ, map, string_bytes, length, slice_index, IsTrue, IfSome, Some, [], ◌∷◌};
 ghost use Rattle.update_spec.specs.Words.{AreWords, IsNumber};
 ghost use Rattle.update_spec.specs.declared.Command.{Command};
 
@@ -43,18 +43,6 @@ fn of_one(name: &str) -> Option<Command>
     }
 }
 
-/// The dump of the table of this name.
-fn dump_of(name: &str) -> Command
-    ensures found { AreWords (codes "dump" ∷ name.now ∷ []) result }
-    ensures only { (command : Command) → AreWords (codes "dump" ∷ name.now ∷ []) command → result ≡ command }
-{
-    if name.eq_ignore_ascii_case("sqlite_schema") {
-        Command::DumpSchema
-    } else {
-        Command::DumpTable
-    }
-}
-
 /// The command that is two words.
 fn of_two(name: &str, word: &str) -> Option<Command>
     ensures found { IfSome result (AreWords (name.now ∷ word.now ∷ [])) }
@@ -64,7 +52,7 @@ fn of_two(name: &str, word: &str) -> Option<Command>
         "apply" => Some(Command::Apply {
             steps: number(word, 1, u32::MAX)?,
         }),
-        "dump" => Some(dump_of(word)),
+        "dump" => Some(Command::Dump),
         _ => None,
     }
 }

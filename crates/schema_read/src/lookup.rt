@@ -76,7 +76,7 @@ impl Catalog {
         }
     }
 
-    /// The catalog itself.
+    /// The same as a plain value, for what goes through its tables.
     pub fn known(&self) -> &KnownCatalog
         ensures { result.now ≡ self.now }
     {

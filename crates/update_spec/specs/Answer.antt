@@ -2,7 +2,7 @@
 use Rattle.std.specs.Prelude.{◌≡◌, ℕ, ◌⊎◌, List, Option, IfSome, Result, Ok, Err}
 use Rattle.file_spec.specs.Files.{Files}
 use Rattle.common_spec.specs.Told.{Leads}
-use Rattle.refusal.specs.declared.Part.{Part}
+use Rattle.refusal.specs.declared.Part.TheVariants as part
 use Rattle.refusal.specs.declared.Refusal.{Refusal}
 use Rattle.refusal.specs.declared.Refusal.TheVariants.{NotYet}
 use Rattle.update_spec.specs.declared.Outcome.TheVariants.{Done, KeyPresent, Refused}
@@ -33,21 +33,25 @@ IsPrinted prints files (Printed text) = IfSome files (λ f. prints f (Ok text))
 IsPrinted prints files (Fault file call) = Unit {0}
 IsPrinted prints files NoMemory = Unit {0}
 
--- the answer of the dump: nothing changes
+-- what it prints by the name that is asked for
+abbrev pub Printings : Type 1
+Printings = List ℕ → Printing
+
+-- the answer of the dump of a name: nothing changes
 abbrev pub IsDumpAnswer : Printing → Option Files → Option Files → Answer → Type 0
 IsDumpAnswer dump before after answer = IsPrinted dump before answer × (after ≡ before)
 
 -- the words of a command that is not built: nothing changes
 abbrev pub IsUnbuiltAnswer : List (List ℕ) → Option Files → Option Files → Answer → Type 0
-IsUnbuiltAnswer words before after answer = (needed : Part) × AsksMore words needed × (answer ≡ Ended (Refused (NotYet needed))) × (after ≡ before)
+IsUnbuiltAnswer words before after answer = AsksMore words × (answer ≡ Ended (Refused (NotYet part.Words))) × (after ≡ before)
 
 -- the words of no command: nothing changes
 abbrev pub IsUsageAnswer : List (List ℕ) → Option Files → Option Files → Answer → Type 0
 IsUsageAnswer words before after answer = IsUsage words × (answer ≡ Usage) × (after ≡ before)
 
 -- The answer of a command with these words, whose disk showed these files before and after, where it tells them.
-abbrev pub IsAnswer : Update → Printing → List (List ℕ) → Option Files → Option Files → Answer → Type 0
+abbrev pub IsAnswer : Update → Printings → List (List ℕ) → Option Files → Option Files → Answer → Type 0
 IsAnswer update dump words before after answer =
     (AsksUpdate words × IsUpdateAnswer update before after answer)
-    ⊎ ((AsksDump words × IsDumpAnswer dump before after answer)
+    ⊎ (((asks : AsksDump words) × IsDumpAnswer (dump asks.0) before after answer)
     ⊎ (IsUnbuiltAnswer words before after answer ⊎ IsUsageAnswer words before after answer))

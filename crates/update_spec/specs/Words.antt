@@ -1,11 +1,8 @@
 -- The words of each command.
-use Rattle.std.specs.Prelude.{◌≡◌, ℕ, ◌≤◌, Bool, true, false, List, [], ◌∷◌, codes}
+use Rattle.std.specs.Prelude.{◌≡◌, ℕ, ◌≤◌, List, [], ◌∷◌, codes}
 use Rattle.std.specs.Fmt.{decimal}
-use Rattle.std.specs.Str.{str_eq_ignore_ascii_case}
-use Rattle.refusal.specs.declared.Part.{Part}
-use Rattle.refusal.specs.declared.Part.TheVariants as part
 use Rattle.update_spec.specs.declared.Command.{Command}
-use Rattle.update_spec.specs.declared.Command.TheVariants.{Apply, State, Check, DumpSchema, DumpTable, Make, Trial, Beside}
+use Rattle.update_spec.specs.declared.Command.TheVariants.{Apply, State, Check, Dump, Make, Trial, Beside}
 
 -- the word is a number in decimal digits, without sign or leading zero, from least to most
 pub record IsNumber (word : List ℕ) (least most n : ℕ) : Type 0 where
@@ -29,17 +26,12 @@ IsReaders word = IsNumber word 1 16
 abbrev pub IsReads : List ℕ → ℕ → Type 0
 IsReads word = IsNumber word 1 1000
 
--- whether a name is that of the table of the schema (Database File Format, section 2.6); the case of ASCII letters does not count
-abbrev pub is_schema_name : List ℕ → Bool
-is_schema_name name = str_eq_ignore_ascii_case name (codes "sqlite_schema")
-
 -- the words are those of the command
 abbrev pub AreWords : List (List ℕ) → Command → Type 0
 AreWords words (Apply steps) = (word : List ℕ) × (words ≡ codes "apply" ∷ word ∷ []) × IsSteps word steps
 AreWords words State = words ≡ codes "state" ∷ []
 AreWords words Check = words ≡ codes "check" ∷ []
-AreWords words DumpSchema = (name : List ℕ) × (words ≡ codes "dump" ∷ name ∷ []) × (is_schema_name name ≡ true)
-AreWords words DumpTable = (name : List ℕ) × (words ≡ codes "dump" ∷ name ∷ []) × (is_schema_name name ≡ false)
+AreWords words Dump = (name : List ℕ) × (words ≡ codes "dump" ∷ name ∷ [])
 AreWords words (Make count seed) =
     (first : List ℕ) × (second : List ℕ) × (words ≡ codes "make" ∷ first ∷ second ∷ []) × IsCount first count × IsSeed second seed
 AreWords words (Trial count seed steps) =
@@ -56,15 +48,10 @@ IsUsage words = (command : Command) → ¬ AreWords words command
 abbrev pub AsksUpdate : List (List ℕ) → Type 0
 AsksUpdate words = AreWords words (Apply 4294967295)
 
--- the dump of the schema
+-- the dump of the table with a name
 abbrev pub AsksDump : List (List ℕ) → Type 0
-AsksDump words = AreWords words DumpSchema
+AsksDump words = AreWords words Dump
 
--- the part that a command needs, where it is not built
-abbrev pub part_of : Command → Part
-part_of DumpTable = part.Name
-part_of other = part.Words
-
--- the words of a command that is not built, and the part that it needs
-abbrev pub AsksMore : List (List ℕ) → Part → Type 0
-AsksMore words needed = (¬ AsksUpdate words) × (¬ AsksDump words) × ((command : Command) × AreWords words command × (needed ≡ part_of command))
+-- the words of a command that is not built
+abbrev pub AsksMore : List (List ℕ) → Type 0
+AsksMore words = (¬ AsksUpdate words) × (¬ AsksDump words) × ((command : Command) × AreWords words command)

@@ -6,10 +6,9 @@ ghost use Rattle.file_spec.specs.Records.{Record, at_rest, shown_files};
 ghost use Rattle.file_spec.specs.Steps.{AfterCrash};
 ghost use Rattle.file_spec.specs.Trails.{Trail};
 ghost use Rattle.format_spec.specs.PageMap.{PageMap, SamePages};
-ghost use Rattle.refusal.specs.declared.Part.{Part};
 ghost use Rattle.update_spec.specs.Crashes.{HasShownFile, HasShownNames, ImagesKeepView};
 ghost use Rattle.update_spec.specs.View.{IsView};
-ghost use Rattle.update_spec.specs.Words.{AsksDump, AsksMore, AsksUpdate};
+ghost use Rattle.update_spec.specs.Words.{AsksDump, AsksUpdate};
 
 /// A reader of the files sees one list of pages, as far as they matter; and whatever has those is what it sees.
 pub fn view_is_one()
@@ -25,9 +24,9 @@ pub fn images_keep_view()
     ensures stable { (r : Record) → HasShownNames r → HasShownFile Target r → shown_files r Wal ≡ None → ImagesKeepView r }
 {}
 
-/// Words ask for one thing: none ask for the update and for a dump, and of what is not built they need one part. That words of
+/// Words ask for one thing: none ask for the update and for a dump, and a dump is of one name. That words of
 /// neither are those of something that is not built, or of no command, is said by the definitions.
 pub fn words_ask_for_one_thing()
     ensures apart { (words : List (List ℕ)) → AsksUpdate words → ¬ AsksDump words }
-    ensures needed { (words : List (List ℕ)) (a b : Part) → AsksMore words a → AsksMore words b → a ≡ b }
+    ensures name { (words : List (List ℕ)) (a b : AsksDump words) → a.0 ≡ b.0 }
 {}

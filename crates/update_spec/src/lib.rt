@@ -25,10 +25,8 @@ pub enum Command {
     State,
     /// Tests that the view is sound.
     Check,
-    /// Prints the table of the schema.
-    DumpSchema,
-    /// Prints another table of the view.
-    DumpTable,
+    /// Prints a table of the view.
+    Dump,
     /// Writes a generated target and RBU database.
     Make { count: u32, seed: u32 },
     /// Writes both, updates until the work is done, and checks.

@@ -12,7 +12,7 @@ ghost use Rattle.update_spec.specs.declared.Answer.TheVariants.{Usage, Ended, Pr
 ghost use Rattle.update_spec.specs.declared.Outcome.TheVariants.{Done, KeyPresent, Refused};
 ghost use Rattle.update_spec.specs.Text.{answer_text, answer_status};
 ghost use Rattle.update_spec.specs.View.{IsView, KeepsView};
-ghost use Rattle.update_spec.specs.Words.{AsksDump, AsksMore};
+ghost use Rattle.update_spec.specs.Words.{AsksDump, AsksMore, IsUsage};
 ghost use Rattle.format_spec.specs.PageMap.{pages_of};
 ghost use Rattle.format_spec.specs.LittleLog.{little_page, little_log};
 
@@ -48,11 +48,11 @@ pub fn worked_statuses()
     ensures printed { answer_status (Printed []) ≡ 0 }
 {}
 
-/// Whose dump the words ask for: the schema's in letters of either case, and another table's, which is not built.
+/// What words ask for: the dump of a table, a command that is not built, and nothing where a dump has no name.
 pub fn worked_words()
-    ensures schema { AsksDump (codes "dump" ∷ codes "SQLite_Schema" ∷ []) }
-    ensures table { AsksMore (codes "dump" ∷ codes "t1" ∷ []) part.Name }
-    ensures check { AsksMore (codes "check" ∷ []) part.Words }
+    ensures table { AsksDump (codes "dump" ∷ codes "t1" ∷ []) }
+    ensures state { AsksMore (codes "state" ∷ []) }
+    ensures nameless { IsUsage (codes "dump" ∷ []) }
 {}
 
 /// What a reader sees of a target of one page with a byte behind it, alone, and under a log that SQLite wrote, whose frame is its second page.

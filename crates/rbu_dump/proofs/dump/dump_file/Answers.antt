@@ -5,7 +5,7 @@ use Rattle.std.specs.Option.{option_copied}
 use Rattle.file_pages.specs.Overlay.{count_over, pages_over}
 use Rattle.rbu_disk.specs.declared.disk.DiskFault.{DiskFault}
 use Rattle.rbu_disk.specs.Disk.{IsCause}
-use Rattle.dump_spec.specs.SchemaDumps.{IsSchemaAnswer, sizes_by}
+use Rattle.dump_spec.specs.Dumps.{IsPagesAnswer, sizes_by}
 use Rattle.rbu_dump.proofs.Loans.{loan-name, loan-shown, loan-test, loan-trail, answer-by_header, cause-of_store}
 use Rattle.rbu_dump.proofs.dump.dump_file.Goals as goal
 
@@ -37,9 +37,9 @@ pub returns-in-Ok-clause-answer : goal.returns-in-Ok-clause-answer
 returns-in-Ok-clause-answer g c =
     let pages = c.args.pages.now in
     IfSome_then (g.D.Disk.shown pages.disk.now)
-    (part-IfSome (pages_over pages.header.page_size (option_copied pages.log) pages.file) (λ m. IsSchemaAnswer (sizes_by pages.header) (record { count = count_over (option_copied pages.log) pages.header; pages = m }) c.in-Ok.answer)
+    (part-IfSome (pages_over pages.header.page_size (option_copied pages.log) pages.file) (λ m. IsPagesAnswer c.args.name.now (sizes_by pages.header) (record { count = count_over (option_copied pages.log) pages.header; pages = m }) c.in-Ok.answer)
     (g.D.Disk.shown pages.disk.now) c.in-Ok.ensures.pages.answer)
-    (λ f of_pages. answer-by_header (option_copied pages.log) pages.file pages.header f c.in-Ok.answer c.requires.log c.requires.file of_pages)
+    (λ f of_pages. answer-by_header c.args.name.now (option_copied pages.log) pages.file pages.header f c.in-Ok.answer c.requires.log c.requires.file of_pages)
 
 pub returns-in-Ok-clause-faults : goal.returns-in-Ok-clause-faults
 returns-in-Ok-clause-faults g c = record { later = c.in-Ok.ensures.owes.faults.later; still = c.in-Ok.ensures.owes.faults.still; cause = tt }

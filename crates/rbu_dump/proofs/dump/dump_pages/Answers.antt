@@ -1,26 +1,27 @@
+use Rattle.std.proofs.Common.{sym, ◌∙◌}
 use Rattle.std.proofs.lemmas.Option.{IfSome_then}
-use Rattle.rbu_dump.proofs.Dumps.{answer-of_rows, answer-of_damage}
+use Rattle.tree_walk.specs.Stores.{sizes_of, paged}
+use Rattle.rbu_dump.proofs.Dumps.{pages-schema, pages-table}
 use Rattle.rbu_dump.proofs.dump.dump_pages.Goals as goal
 
-pub returns-in-Ok-lines_of-clause-pages : goal.returns-in-Ok-lines_of-clause-pages
-returns-in-Ok-lines_of-clause-pages g c =
+pub returns-then-is_schema_name-clause-pages : goal.returns-then-is_schema_name-clause-pages
+returns-then-is_schema_name-clause-pages g c =
     let store = c.args.pages.now in
-    let reads = c.in-Ok.ensures.pages in
+    let read = c.dump_schema.ensures.pages in
     record {
-      same = reads.same;
-      count = reads.count;
-      answer = IfSome_then (g.S.PageRead.pages store) reads.answer (λ m rows.
-          answer-of_rows g.row.S-Fault.Denot (record { size = g.S.PageRead.size store; usable = g.S.PageRead.usable store }) (record { count = g.S.PageRead.count store; pages = m }) c.in-Ok.rows.items c.in-Ok-lines_of.answer rows
-          (rw c.deref.ensures.value at c.in-Ok-lines_of.ensures));
+      same = read.same;
+      count = read.count;
+      answer = IfSome_then (g.S.PageRead.pages store) read.answer (λ m is.
+          pages-schema c.args.name.now (sizes_of g.S.PageRead store) (paged g.S.PageRead store m) c.dump_schema.result (sym c.is_schema_name.ensures ∙ c.if-is_schema_name.true) is);
     }
 
-pub returns-in-Ok-refuse_damage-clause-pages : goal.returns-in-Ok-refuse_damage-clause-pages
-returns-in-Ok-refuse_damage-clause-pages g c =
+pub returns-else-is_schema_name-clause-pages : goal.returns-else-is_schema_name-clause-pages
+returns-else-is_schema_name-clause-pages g c =
     let store = c.args.pages.now in
-    let reads = c.in-Err.ensures.pages in
+    let read = c.dump_other.ensures.pages in
     record {
-      same = reads.same;
-      count = reads.count;
-      answer = IfSome_then (g.S.PageRead.pages store) reads.answer (λ m damaged.
-          answer-of_damage g.row.S-Fault.Denot (record { size = g.S.PageRead.size store; usable = g.S.PageRead.usable store }) (record { count = g.S.PageRead.count store; pages = m }) c.in-Err.fault c.in-Ok-refuse_damage.refusal damaged c.in-Ok-refuse_damage.ensures);
+      same = read.same;
+      count = read.count;
+      answer = IfSome_then (g.S.PageRead.pages store) read.answer (λ m is.
+          pages-table c.args.name.now (sizes_of g.S.PageRead store) (paged g.S.PageRead store m) c.dump_other.result (sym c.is_schema_name.ensures ∙ c.if-is_schema_name.false) is);
     }

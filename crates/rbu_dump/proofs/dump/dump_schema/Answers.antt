@@ -1,70 +1,26 @@
-use Rattle.std.proofs.Common.{◌≡◌, ◌∙◌, ◌↔◌, false, IfSome, IsTrue, IsSome, length, rules, subst, sym, take}
-use Rattle.common_spec.specs.ToldLaws.{told-both}
-use Rattle.file_spec.specs.declared.FileName.TheVariants.{Target, Wal}
-use Rattle.file_spec.specs.Files.{content}
-use Rattle.db_header.specs.Reading.{IsHeaderOf}
-use Rattle.rbu_disk.specs.Uses.{AllowsEvery}
-use Rattle.dump_spec.specs.SchemaDumps.{HasJournal}
-use Rattle.rbu_dump.proofs.Dumps.{answer-of_header, answer-of_pages}
+use Rattle.std.proofs.lemmas.Option.{IfSome_then}
+use Rattle.rbu_dump.proofs.Dumps.{answer-of_rows, answer-of_damage}
 use Rattle.rbu_dump.proofs.dump.dump_schema.Goals as goal
 
-pub dump_target-requires-clause-allowed : goal.dump_target-requires-clause-allowed
-dump_target-requires-clause-allowed g c = c.target_header.ensures.calls.allows (c.exists.ensures.test.every (c.has_journal.ensures.calls.allows c.requires.allowed))
-
-pub dump_target-requires-clause-header : goal.dump_target-requires-clause-header
-dump_target-requires-clause-header g c = rw c.in-Ok.is at c.in_ok-header.ensures.read
-
-pub returns-in-Ok-dump_target-clause-files : goal.returns-in-Ok-dump_target-clause-files
-returns-in-Ok-dump_target-clause-files g c =
-    let start = g.D.Disk.shown c.args.disk.now in
-    let no_journal : IfSome start (λ f. IsTrue false ↔ HasJournal f) = rw c.if-branch.false at c.in_ok-has_journal.ensures.files.answer in
-    let no_log : IfSome start (λ f. (IsTrue false ↔ HasJournal f) × (IsTrue false ↔ IsSome (f Wal))) =
-    told-both start c.has_journal.ensures.files.same no_journal (rw c.if-branch-2.false at c.in_ok-exists.ensures.files.answer) (λ f j l. (j, l)) in
-    let same : g.D.Disk.shown c.exists.new.self ≡ start = c.exists.ensures.files.same ∙ c.has_journal.ensures.files.same in
-    let read : IfSome start (λ f. ((IsTrue false ↔ HasJournal f) × (IsTrue false ↔ IsSome (f Wal))) × IsHeaderOf (take 100 (content f Target)) (length (content f Target)) c.in-Ok.header) =
-    told-both start same no_log (rw c.in-Ok.is at c.in_ok-header.ensures.files.answer) (λ f n h. (n, h)) in
-    let kept : g.D.Disk.shown c.target_header.new.disk ≡ start = c.target_header.ensures.files.same ∙ same in
+pub returns-in-Ok-lines_of-clause-pages : goal.returns-in-Ok-lines_of-clause-pages
+returns-in-Ok-lines_of-clause-pages g c =
+    let store = c.args.pages.now in
+    let reads = c.in-Ok.ensures.pages in
     record {
-      same = c.dump_target.ensures.same ∙ kept;
-      answer = told-both start kept read c.in-Ok-dump_target.ensures.answer (λ f known of_pages. answer-of_pages f c.in-Ok.header c.in-Ok-dump_target.answer known.0.0 known.0.1 known.1 of_pages);
-      moments = c.dump_target.ensures.moments ∙ c.target_header.ensures.files.moments ∙ c.exists.ensures.moments ∙ c.has_journal.ensures.files.moments;
-      test = search rules;
+      same = reads.same;
+      count = reads.count;
+      answer = IfSome_then (g.S.PageRead.pages store) reads.answer (λ m rows.
+          answer-of_rows g.row.S-Fault.Denot (record { size = g.S.PageRead.size store; usable = g.S.PageRead.usable store }) (record { count = g.S.PageRead.count store; pages = m }) c.in-Ok.rows.items c.in-Ok-lines_of.answer rows
+          (rw c.deref.ensures.value at c.in-Ok-lines_of.ensures));
     }
 
-pub returns-in-Ok-dump_target-clause-calls : goal.returns-in-Ok-dump_target-clause-calls
-returns-in-Ok-dump_target-clause-calls g c = record {
-  later = search rules;
-  still = search rules;
-  cause = tt;
-  allows = λ all. subst AllowsEvery (sym c.dump_target.ensures.test) (c.target_header.ensures.calls.allows (c.exists.ensures.test.every (c.has_journal.ensures.calls.allows all)));
-}
-
-pub returns-in-Err-dump_target-clause-files : goal.returns-in-Err-dump_target-clause-files
-returns-in-Err-dump_target-clause-files g c = record {
-  same = c.dump_target.ensures.same ∙ c.target_header.ensures.files.same ∙ c.exists.ensures.files.same ∙ c.has_journal.ensures.files.same;
-  answer = tt;
-  moments = c.dump_target.ensures.moments ∙ c.target_header.ensures.files.moments ∙ c.exists.ensures.moments ∙ c.has_journal.ensures.files.moments;
-  test = search rules;
-}
-
-pub returns-in-Err-dump_target-clause-calls : goal.returns-in-Err-dump_target-clause-calls
-returns-in-Err-dump_target-clause-calls g c = record {
-  later = search rules;
-  still = tt;
-  cause = search rules;
-  allows = λ all. subst AllowsEvery (sym c.dump_target.ensures.test) (c.target_header.ensures.calls.allows (c.exists.ensures.test.every (c.has_journal.ensures.calls.allows all)));
-}
-
-pub returns-in-Err-clause-files : goal.returns-in-Err-clause-files
-returns-in-Err-clause-files g c =
-    let start = g.D.Disk.shown c.args.disk.now in
-    let no_journal : IfSome start (λ f. IsTrue false ↔ HasJournal f) = rw c.if-branch.false at c.in_ok-has_journal.ensures.files.answer in
-    let no_log : IfSome start (λ f. (IsTrue false ↔ HasJournal f) × (IsTrue false ↔ IsSome (f Wal))) =
-    told-both start c.has_journal.ensures.files.same no_journal (rw c.if-branch-2.false at c.in_ok-exists.ensures.files.answer) (λ f j l. (j, l)) in
-    let same : g.D.Disk.shown c.exists.new.self ≡ start = c.exists.ensures.files.same ∙ c.has_journal.ensures.files.same in
+pub returns-in-Ok-refuse_damage-clause-pages : goal.returns-in-Ok-refuse_damage-clause-pages
+returns-in-Ok-refuse_damage-clause-pages g c =
+    let store = c.args.pages.now in
+    let reads = c.in-Err.ensures.pages in
     record {
-      same = c.target_header.ensures.files.same ∙ same;
-      answer = rw c.refusal_of.ensures (told-both start same no_log (rw c.in-Err.is at c.in_ok-header.ensures.files.answer) (λ f none is. answer-of_header f c.in-Err.fault none.0 none.1 is));
-      moments = c.target_header.ensures.files.moments ∙ c.exists.ensures.moments ∙ c.has_journal.ensures.files.moments;
-      test = search rules;
+      same = reads.same;
+      count = reads.count;
+      answer = IfSome_then (g.S.PageRead.pages store) reads.answer (λ m damaged.
+          answer-of_damage g.row.S-Fault.Denot (record { size = g.S.PageRead.size store; usable = g.S.PageRead.usable store }) (record { count = g.S.PageRead.count store; pages = m }) c.in-Err.fault c.in-Ok-refuse_damage.refusal damaged c.in-Ok-refuse_damage.ensures);
     }

@@ -1,6 +1,8 @@
-use Rattle.std.proofs.Common.{◌≡◌, Some, true, refl, sym, ◌∙◌, subst, inl, inr, map, string_bytes}
-use Rattle.update_spec.specs.declared.Command.TheVariants.{Apply, DumpSchema}
+use Rattle.std.proofs.Common.{◌≡◌, ℕ, Some, true, List, Option, refl, sym, ◌∙◌, subst, inl, inr, map, string_bytes}
+use Rattle.update_spec.specs.declared.Command.TheVariants.{Apply, Dump}
+use Rattle.update_spec.specs.Answer.{IsPrinted}
 use Rattle.update_spec.specs.Words.{AreWords, AsksUpdate, AsksDump}
+use Rattle.dump_spec.specs.Dumps.{IsDump}
 use Rattle.rbu_run.proofs.run.answer_of.Given as given
 use Rattle.rbu_run.proofs.run.answer_of.Goals as goal
 
@@ -13,10 +15,11 @@ returns-then-is_whole_update-clause-ends g c =
     let asks : AsksUpdate (map string_bytes c.args.words.now) = subst (AreWords (map string_bytes c.args.words.now)) (c.is_whole_update.ensures.0 c.if-is_whole_update.true) c.in-Some.ensures.found in
     inl (asks, record { of_update = c.update_answer.ensures.ended; files = c.update_answer.ensures.files; crash = c.update_answer.ensures.crash })
 
-pub returns-then-is_schema_dump-clause-ends : goal.returns-then-is_schema_dump-clause-ends
-returns-then-is_schema_dump-clause-ends g c =
-    let asks : AsksDump (map string_bytes c.args.words.now) = subst (AreWords (map string_bytes c.args.words.now)) (c.is_schema_dump.ensures.0 c.if-is_schema_dump.true) c.in-Some.ensures.found in
-    inr (inl (asks, record { prints = c.dump_answer.ensures.prints; same = c.dump_answer.ensures.same; crash = c.dump_answer.ensures.crash }))
+pub returns-then-is_dump-clause-ends : goal.returns-then-is_dump-clause-ends
+returns-then-is_dump-clause-ends g c =
+    let asks : AsksDump (map string_bytes c.args.words.now) = subst (AreWords (map string_bytes c.args.words.now)) (c.is_dump.ensures.0 c.if-is_dump.true) c.in-Some.ensures.found in
+    let printed = subst (λ (name : List ℕ). IsPrinted (IsDump name) (g.D.Disk.shown c.args.disk.now) c.dump_answer.result) (c.name_of.ensures asks) c.dump_answer.ensures.prints in
+    inr (inl (asks, record { printed = printed; same = c.dump_answer.ensures.same; crash = c.dump_answer.ensures.crash }))
 
 -- the words ask for another command
 no_update : (g : given.Over) (c : goal.After-not_yet g) → ¬ AsksUpdate (map string_bytes c.args.words.now)
@@ -28,11 +31,11 @@ no_update g c asks =
 
 no_dump : (g : given.Over) (c : goal.After-not_yet g) → ¬ AsksDump (map string_bytes c.args.words.now)
 no_dump g c asks =
-    let read : Some c.in-Some.command ≡ Some DumpSchema = sym c.in-Some.is ∙ c.command_of.ensures.only DumpSchema asks in
-    let schema : c.in-Some.command ≡ DumpSchema = cc in
-    let yes : c.is_schema_dump.result ≡ true = c.is_schema_dump.ensures.1 schema in
-    cc (yes, c.if-is_schema_dump.false)
+    let read : Some c.in-Some.command ≡ Some Dump = sym c.in-Some.is ∙ c.command_of.ensures.only Dump asks in
+    let dump : c.in-Some.command ≡ Dump = cc in
+    let yes : c.is_dump.result ≡ true = c.is_dump.ensures.1 dump in
+    cc (yes, c.if-is_dump.false)
 
 pub returns-clause-ends : goal.returns-clause-ends
 returns-clause-ends g c =
-    rw c.not_yet.ensures (inr (inr (inl (c.part_of.result, (no_update g c, no_dump g c, (c.in-Some.command, c.in-Some.ensures.found, c.part_of.ensures)), refl, refl))))
+    rw c.not_yet.ensures (inr (inr (inl ((no_update g c, no_dump g c, (c.in-Some.command, c.in-Some.ensures.found)), refl, refl))))

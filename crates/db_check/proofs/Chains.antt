@@ -18,7 +18,7 @@ use Rattle.db_check.specs.declared.fault.CheckFault.{CheckFault}
 use Rattle.db_check.specs.declared.fault.CheckFault.TheVariants.{Damaged}
 use Rattle.db_check.specs.Answers.{IsRefusal}
 use Rattle.db_check.specs.Passes.{IsMarked, Passes, chain_found, torn_found}
-use Rattle.db_check.proofs.Parts.{refusal-then, passed-wrong}
+use Rattle.db_check.specs.PassesLaws.{refusal-then, passed-wrong}
 
 chain-append : (subject : Subject) (xs ys : List ℕ) → chain_found subject (xs ++ ys) ≡ chain_found subject xs ++ chain_found subject ys
 chain-append subject xs ys = ap (map (InTree subject)) (map-append Finds xs ys) ∙ map-append (InTree subject) (map Finds xs) (map Finds ys)

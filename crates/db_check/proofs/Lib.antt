@@ -1,4 +1,3 @@
-pub mod Calls
 pub mod Parts
 pub mod Trunks
 pub mod Needs
@@ -8,7 +7,6 @@ pub mod ShortKeys
 pub mod Taken
 pub mod TreeCells
 pub mod TreePages
-pub mod Sees
 pub mod Compared
 pub mod Passed
 pub mod Projected

@@ -9,28 +9,14 @@ use Rattle.std.proofs.lemmas.List.FromFn.{map-range_with_len_more}
 use Rattle.page_spec.specs.Pages.{IsInRange}
 use Rattle.page_spec.specs.Freelists.{leaf_at}
 use Rattle.tree_spec.specs.Standing.{Sizes, Paged, IsNumber}
-use Rattle.database_spec.specs.declared.fault.FileFault.{FileFault}
-use Rattle.database_spec.specs.declared.fault.FileFault.TheVariants as file
 use Rattle.database_spec.specs.ItemsLaws.{or-right}
 use Rattle.database_spec.specs.Walks.{Finds}
 use Rattle.database_spec.specs.FileFindings.{Subject, Found, InTree, Frees, Tears, leaf_found}
-use Rattle.database_spec.specs.FileFaults.{is_found, FirstWrong}
+use Rattle.database_spec.specs.FileFaults.{is_found}
 use Rattle.database_laws.specs.RightFindings.{AreRight}
-use Rattle.database_laws.specs.RightFindingsLaws.{numbers_in, right-join, wrong-front, wrong-back, found-append}
+use Rattle.database_laws.specs.RightFindingsLaws.{numbers_in, right-join, found-append}
 use Rattle.database_laws.specs.FoundFreelistsLaws.{number-is}
-use Rattle.db_check.specs.declared.fault.CheckFault.{CheckFault}
-use Rattle.db_check.specs.declared.fault.CheckFault.TheVariants.{PageTwice, PageLost, KeyOrder, IndexDisagrees, Damaged, Store, Memory}
-use Rattle.db_check.specs.Answers.{IsRefusal}
 use Rattle.db_check.specs.Passes.{IsMarked}
-
-pub refusal-then : {F : Type 0} (P Q : FileFault → Type 0) → ((fault : FileFault) → P fault → Q fault) → (fault : CheckFault F) → IsRefusal P fault → IsRefusal Q fault
-refusal-then P Q step (PageTwice page) is = step (file.PageTwice page) is
-refusal-then P Q step (PageLost page) is = step (file.PageLost page) is
-refusal-then P Q step (KeyOrder page) is = step (file.KeyOrder page) is
-refusal-then P Q step (IndexDisagrees index rowid) is = step (file.IndexDisagrees index rowid) is
-refusal-then P Q step (Damaged page rule) is = step (file.Damaged page rule) is
-refusal-then P Q step (Store fault) is = tt
-refusal-then P Q step (Memory error) is = tt
 
 pub or-none : (s t : Bool) → t ≡ false → (s || t) ≡ s
 or-none true t e = refl
@@ -103,12 +89,6 @@ pub passed-more : (before xs : List Found) (one : Found) (flags : List Bool) →
     → AreRight before (xs ++ one ∷ []) × IsMarked flags (before ++ (xs ++ one ∷ []))
 passed-more before xs one flags front back marked =
     (right-join before xs (one ∷ []) front back, subst (IsMarked flags) (append_assoc before xs (one ∷ [])) marked)
-
--- a fault of one thing behind others is that of a longer list
-pub passed-wrong : {F : Type 0} (before xs ys zs all : List Found) (fault : CheckFault F) → all ≡ xs ++ (ys ++ zs) → AreRight before xs → IsRefusal (FirstWrong (before ++ xs) ys) fault → IsRefusal (FirstWrong before all) fault
-passed-wrong before xs ys zs all fault whole front wrong =
-    refusal-then (FirstWrong (before ++ xs) ys) (FirstWrong before all)
-    (λ other first. subst⁻¹ (λ (list : List Found). FirstWrong before list other) whole (wrong-back before xs (ys ++ zs) other front (wrong-front (before ++ xs) ys zs other first))) fault wrong
 
 -- the leaf pages of a trunk up to one of them, and from it on
 pub leaves-split : (f : ℕ → Found) (at leaves : ℕ) → at < leaves → map f (range_with_len 0 leaves) ≡ map f (range_with_len 0 at) ++ ((f at ∷ []) ++ map f (range_with_len (at + 1) (leaves - (at + 1))))

@@ -21,7 +21,8 @@ use Rattle.db_check.specs.declared.walk.Progress.{Progress}
 use Rattle.db_check.specs.Answers.{IsRefusal}
 use Rattle.db_check.specs.Passes.{IsMarked}
 use Rattle.db_check.specs.Steps.{IsOf, member_at, members_at, HaveEntries, Knows, Leaves, Refuses, Steps, Ended}
-use Rattle.db_check.proofs.Parts.{refusal-then, or-none, marked-page}
+use Rattle.db_check.specs.PassesLaws.{refusal-then}
+use Rattle.db_check.proofs.Parts.{or-none, marked-page}
 
 tree-append : (subject : Subject) (xs ys : List Finding) → in_tree subject (xs ++ ys) ≡ in_tree subject xs ++ in_tree subject ys
 tree-append subject xs ys = map-append (InTree subject) xs ys

@@ -42,7 +42,8 @@ use Rattle.db_check.specs.declared.walk.Progress.{Progress}
 use Rattle.db_check.specs.Answers.{IsRefusal}
 use Rattle.db_check.specs.Steps.{IsOf, is_elsewhere, member_at, members_at, HaveEntries, Knows, Leaves, Refuses}
 use Rattle.db_check.specs.TreeSteps.{HoldsMember, EndsAt, IsEntryOf}
-use Rattle.db_check.proofs.Parts.{or-none, refusal-then}
+use Rattle.db_check.specs.PassesLaws.{refusal-then}
+use Rattle.db_check.proofs.Parts.{or-none}
 use Rattle.db_check.proofs.Steps.{have-same, leaves-one, refuses-one, marked-quiet}
 
 -- Leaves.

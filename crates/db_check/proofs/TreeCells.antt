@@ -35,7 +35,7 @@ use Rattle.db_check.specs.Answers.{told}
 use Rattle.db_check.specs.Passes.{IsMarked, Passes, PassesChain, chain_found, torn_found}
 use Rattle.db_check.specs.Steps.{Leaves, Refuses}
 use Rattle.db_check.specs.TreeSteps.{HoldsMember, CellAt, CellsFrom, DividerAt, MemberAt}
-use Rattle.db_check.proofs.Parts.{refusal-then}
+use Rattle.db_check.specs.PassesLaws.{refusal-then}
 use Rattle.db_check.proofs.Steps.{Splits, knows-quiet, pages-quiet, pages-no_members}
 
 -- a chain of nothing that names nothing

@@ -33,7 +33,7 @@ use Rattle.db_check.specs.declared.walk.Progress.{Progress}
 use Rattle.db_check.specs.Answers.{told}
 use Rattle.db_check.specs.Steps.{Leaves, Refuses, Steps, Ended}
 use Rattle.db_check.specs.TreeSteps.{EndsAt, IsInOrder, IsChildSpot, Below, VisitsSpot, InPage, CellsFrom, DividerAt, ChildrenFrom, ChildrenBehind, VisitsChild}
-use Rattle.db_check.proofs.Parts.{refusal-then}
+use Rattle.db_check.specs.PassesLaws.{refusal-then}
 use Rattle.db_check.proofs.Steps.{Splits, Begins, steps-then, steps-front, steps-from, leaves-then, steps-to, leaves-none, leaves-front, leaves-refuse, leaves-page, refuses-front, refuses-always, refuses-page}
 
 module _ (sizes : Sizes) (base : Paged) (kind : TreeKind) where

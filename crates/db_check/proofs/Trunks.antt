@@ -21,7 +21,8 @@ use Rattle.db_check.specs.declared.fault.CheckFault.{CheckFault}
 use Rattle.db_check.specs.declared.fault.CheckFault.TheVariants.{Damaged}
 use Rattle.db_check.specs.Answers.{IsRefusal}
 use Rattle.db_check.specs.Passes.{IsMarked, Passes, sizes, based, trunk_found, IsPassedTrunk, EndsTrunk, all_trunks, EndsTrunks}
-use Rattle.db_check.proofs.Parts.{refusal-then, or-none, passed-wrong, marked-free}
+use Rattle.db_check.specs.PassesLaws.{refusal-then, passed-wrong}
+use Rattle.db_check.proofs.Parts.{or-none, marked-free}
 
 -- a page that is found free
 abbrev pub freed : ℕ → List Found

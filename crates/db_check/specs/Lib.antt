@@ -5,3 +5,5 @@ pub mod TreeSteps
 pub mod Compares
 pub mod Projections
 pub mod Indexes
+pub mod CallsLaws
+pub mod PassesLaws

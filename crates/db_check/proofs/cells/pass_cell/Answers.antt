@@ -3,7 +3,7 @@ use Rattle.tree_walk.specs.Stores.{sizes_of, paged}
 use Rattle.db_check.specs.Passes.{PassesChain}
 use Rattle.db_check.specs.Steps.{Steps, Ended}
 use Rattle.db_check.specs.TreeSteps.{CellAt, MemberAt}
-use Rattle.db_check.proofs.Sees.{sees-both, sees-one}
+use Rattle.db_check.specs.CallsLaws.{sees-both, sees-one}
 use Rattle.db_check.proofs.Steps.{steps-then}
 use Rattle.db_check.proofs.TreeCells.{chain-left, chain-refused}
 use Rattle.db_check.proofs.cells.pass_cell.Goals as goal

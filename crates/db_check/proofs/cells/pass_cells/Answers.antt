@@ -3,7 +3,7 @@ use Rattle.database_spec.specs.Walks.{Finding}
 use Rattle.tree_walk.specs.Stores.{sizes_of, paged}
 use Rattle.db_check.specs.Steps.{Leaves, Refuses}
 use Rattle.db_check.specs.TreeSteps.{CellAt, CellsFrom}
-use Rattle.db_check.proofs.Sees.{sees-both, sees-one, sees-none}
+use Rattle.db_check.specs.CallsLaws.{sees-both, sees-one, sees-none}
 use Rattle.db_check.proofs.Steps.{leaves-then, leaves-refuse, leaves-front, leaves-none, leaves-to, refuses-front}
 use Rattle.db_check.proofs.TreeCells.{cells-split, cells-end}
 use Rattle.db_check.proofs.cells.pass_cells.Goals as goal

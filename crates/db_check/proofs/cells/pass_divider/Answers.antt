@@ -3,7 +3,7 @@ use Rattle.database_spec.specs.Walks.{Finding}
 use Rattle.tree_walk.specs.Stores.{sizes_of, paged}
 use Rattle.db_check.specs.Steps.{Ended}
 use Rattle.db_check.specs.TreeSteps.{CellAt, DividerAt}
-use Rattle.db_check.proofs.Sees.{sees-one, sees-none}
+use Rattle.db_check.specs.CallsLaws.{sees-one, sees-none}
 use Rattle.db_check.proofs.Steps.{leaves-none, steps-from}
 use Rattle.db_check.proofs.TreeCells.{divider-cell, divider-none}
 use Rattle.db_check.proofs.cells.pass_divider.Goals as goal

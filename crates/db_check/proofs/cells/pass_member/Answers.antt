@@ -1,5 +1,5 @@
 use Rattle.tree_walk.specs.Stores.{sizes_of, paged}
-use Rattle.db_check.proofs.Sees.{sees-none}
+use Rattle.db_check.specs.CallsLaws.{sees-none}
 use Rattle.db_check.proofs.Taken.{any-taken}
 use Rattle.db_check.proofs.TreeCells.{member-any}
 use Rattle.db_check.proofs.cells.pass_member.Goals as goal

@@ -4,7 +4,7 @@ use Rattle.tree_walk.specs.Stores.{sizes_of, paged}
 use Rattle.db_check.specs.declared.fault.CheckFault.{CheckFault}
 use Rattle.db_check.specs.Steps.{Refuses, Steps, Ended}
 use Rattle.db_check.specs.TreeSteps.{HoldsMember, MemberAt}
-use Rattle.db_check.proofs.Sees.{sees-one}
+use Rattle.db_check.specs.CallsLaws.{sees-one}
 use Rattle.db_check.proofs.Steps.{steps-from}
 use Rattle.db_check.proofs.TreeCells.{member-read, member-refused}
 use Rattle.db_check.proofs.cells.read_member.Goals as goal

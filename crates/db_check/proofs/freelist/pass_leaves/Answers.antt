@@ -4,7 +4,8 @@ use Rattle.std.specs.List.{range_with_len}
 use Rattle.database_spec.specs.FileFindings.{Found, leaf_found}
 use Rattle.database_laws.specs.RightFindings.{AreRight}
 use Rattle.db_check.specs.Passes.{IsMarked}
-use Rattle.db_check.proofs.Parts.{leaves-more, leaves-split, passed-more, passed-wrong}
+use Rattle.db_check.specs.PassesLaws.{passed-wrong}
+use Rattle.db_check.proofs.Parts.{leaves-more, leaves-split, passed-more}
 use Rattle.db_check.proofs.freelist.pass_leaves.Goals as goal
 
 pub returns-in-Err-clause-passes : goal.returns-in-Err-clause-passes

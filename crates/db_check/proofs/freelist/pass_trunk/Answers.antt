@@ -3,7 +3,7 @@ use Rattle.std.proofs.lemmas.Option.{IfSome_then}
 use Rattle.page_spec.specs.Pages.{IsInRange}
 use Rattle.page_spec.specs.Freelists.{trunk_limit}
 use Rattle.db_check.specs.Passes.{sizes, based}
-use Rattle.db_check.proofs.Calls.{owes-free}
+use Rattle.db_check.specs.CallsLaws.{owes-free}
 use Rattle.db_check.proofs.Trunks as trunks
 use Rattle.db_check.proofs.freelist.pass_trunk.Goals as goal
 

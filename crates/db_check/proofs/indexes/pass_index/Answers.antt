@@ -10,7 +10,7 @@ use Rattle.db_check.specs.Compares.{Tells}
 use Rattle.db_check.specs.Indexes.{ComparesTree, PassesOther, TellsIndex}
 use Rattle.db_check.specs.Projections.{Projects}
 use Rattle.db_check.proofs.Indexed.{ends-then, index-other, index-plain, tells-other, tells-plain}
-use Rattle.db_check.proofs.Sees.{sees-both}
+use Rattle.db_check.specs.CallsLaws.{sees-both}
 use Rattle.db_check.proofs.indexes.pass_index.Goals as goal
 
 pub returns-in-Ok-Some-clause-pages : goal.returns-in-Ok-Some-clause-pages

@@ -1,5 +1,5 @@
 use Rattle.std.proofs.Common.{refl}
-use Rattle.db_check.proofs.Sees.{sees-one}
+use Rattle.db_check.specs.CallsLaws.{sees-one}
 use Rattle.db_check.proofs.indexes.pass_other.Goals as goal
 
 pub returns-in-Ok-clause-pages : goal.returns-in-Ok-clause-pages

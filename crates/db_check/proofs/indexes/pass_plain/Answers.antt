@@ -9,7 +9,7 @@ use Rattle.db_check.specs.declared.walk.Members.TheVariants.{Entries}
 use Rattle.db_check.specs.Compares.{AreMembersOf}
 use Rattle.db_check.specs.Steps.{IsOf}
 use Rattle.db_check.specs.TreeSteps.{AreEntriesOf}
-use Rattle.db_check.proofs.Sees.{sees-one}
+use Rattle.db_check.specs.CallsLaws.{sees-one}
 use Rattle.db_check.proofs.indexes.pass_plain.Goals as goal
 
 pub returns-in-Ok-clause-pages : goal.returns-in-Ok-clause-pages

@@ -6,7 +6,7 @@ use Rattle.tree_rows.specs.Rows.{members_of}
 use Rattle.database_spec.specs.Rows.{TableRow, IsRow}
 use Rattle.db_check.specs.Projections.{IsProjectionOf}
 use Rattle.db_check.proofs.Projected.{rows-project, unread-projects}
-use Rattle.db_check.proofs.Sees.{sees-one}
+use Rattle.db_check.specs.CallsLaws.{sees-one}
 use Rattle.db_check.proofs.projections.projection.Goals as goal
 
 pub returns-in-Err-clause-pages : goal.returns-in-Err-clause-pages

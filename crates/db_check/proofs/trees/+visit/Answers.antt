@@ -9,7 +9,7 @@ use Rattle.tree_walk.specs.Places.{low_bound}
 use Rattle.tree_walk.specs.Stores.{sizes_of, paged}
 use Rattle.db_check.specs.Steps.{Leaves, Refuses, Steps, Ended}
 use Rattle.db_check.specs.TreeSteps.{VisitsSpot, VisitsChild, InPage, GoesInto, CellsFrom, ChildrenFrom, ChildrenBehind, DividerAt}
-use Rattle.db_check.proofs.Sees.{sees-both, sees-one, sees-none}
+use Rattle.db_check.specs.CallsLaws.{sees-both, sees-one, sees-none}
 use Rattle.db_check.proofs.Steps.{leaves-then, leaves-to, leaves-none, leaves-refuse, steps-then, steps-from}
 use Rattle.db_check.proofs.TreePages.{child-out, child-visited, step-child, step-refused, last-child}
 use Rattle.db_check.proofs.trees.+visit.Goals as goal

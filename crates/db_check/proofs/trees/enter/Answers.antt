@@ -4,7 +4,7 @@ use Rattle.tree_walk.specs.Stores.{sizes_of, paged}
 use Rattle.db_check.specs.declared.fault.CheckFault.{CheckFault}
 use Rattle.db_check.specs.Steps.{Refuses}
 use Rattle.db_check.specs.TreeSteps.{VisitsSpot}
-use Rattle.db_check.proofs.Sees.{sees-one, sees-none}
+use Rattle.db_check.specs.CallsLaws.{sees-one, sees-none}
 use Rattle.db_check.proofs.TreePages.{enter-twice, enter-deep, enter-read, enter-refused}
 use Rattle.db_check.proofs.trees.enter.Goals as goal
 

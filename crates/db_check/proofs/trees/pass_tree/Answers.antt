@@ -3,7 +3,7 @@ use Rattle.std.proofs.Math.Path.{subst⁻¹}
 use Rattle.tree_walk.specs.Stores.{sizes_of, paged}
 use Rattle.db_check.specs.TreeSteps.{IsFresh}
 use Rattle.db_check.proofs.Passed.{knows-start, tree-ended}
-use Rattle.db_check.proofs.Sees.{sees-one}
+use Rattle.db_check.specs.CallsLaws.{sees-one}
 use Rattle.db_check.proofs.trees.pass_tree.Goals as goal
 
 pub returns-in-Ok-clause-pages : goal.returns-in-Ok-clause-pages

@@ -1,13 +1,25 @@
--- What calls over a store say one after the other.
-use Rattle.std.proofs.Common.{◌∙◌, IfSome, refl}
+-- What calls over a store say one after the other, and what one owes whose error is no fault of the store: crates above cite these facts in their proofs.
+use Rattle.std.proofs.Common.{◌≡◌, Option, None, Result, Ok, Err, IfErr, IfSome, refl, ap, ◌∙◌, arith}
+use Rattle.std.proofs.Math.Path.{subst⁻¹}
 use Rattle.std.proofs.lemmas.Option.{IfSome_then}
 use Rattle.common_spec.specs.ToldLaws.{told-both}
 use Rattle.page_spec.specs.Pages.{Pages}
 use Rattle.page_store.specs.declared.store.PageRead.{Ghosts}
-use Rattle.page_store.specs.Store.{Sees, Stays}
+use Rattle.page_store.specs.Store.{Sees, Stays, OwesBy, IsCause}
 use Rattle.page_store.specs.StoreLaws.{some-all, at-sizes}
 use Rattle.tree_spec.specs.Standing.{Sizes, Paged}
 use Rattle.tree_walk.specs.Stores.{sizes_of, paged}
+use Rattle.db_check.specs.declared.fault.CheckFault.{CheckFault}
+use Rattle.db_check.specs.Answers.{fault_in}
+
+-- after calls that ended well
+pub owes-free : {P F T : Type 0} (g : Ghosts P F) {before after : P} (result : Result T (CheckFault F)) → Stays g before after → g.faults after ≡ g.faults before → IfErr result (λ fault. fault_in fault ≡ None)
+    → OwesBy g fault_in before after result
+owes-free g {before} {after} (Ok done) stays same none = record { stays = stays; faults = record { later = omega (arith, ap g.fault_count same); still = same; cause = tt } }
+owes-free {P} {F} {T} g {before} {after} (Err fault) stays same none = record {
+  stays = stays;
+  faults = record { later = omega (arith, ap g.fault_count same); still = tt; cause = subst⁻¹ (λ (o : Option F). IsCause g.Fails o (g.faults before) (g.faults after)) none same };
+}
 
 module _ {P F : Type 0} (g : Ghosts P F) where
   -- two calls, of which the second speaks of the sizes that the first left

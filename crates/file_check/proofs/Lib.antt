@@ -1,0 +1,6 @@
+pub mod Rising
+pub mod TreeWalks
+pub mod Judging
+pub mod Passing
+pub mod Subjects
+pub mod Files

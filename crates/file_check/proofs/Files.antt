@@ -1,5 +1,5 @@
 -- What is answered of a whole file, by what its parts say.
-use Rattle.std.proofs.Common.{◌≡◌, ◌≢◌, ℕ, ◌+◌, ◌*◌, ◌/◌, ◌≤◌, Bool, false, List, [], ◌++◌, length, map, replicate, slice_index_or, Result, Ok, Err, refl, sym, ap, ap₂, ◌∙◌, subst, inr, arith, append_assoc}
+use Rattle.std.proofs.Common.{◌≡◌, ◌≢◌, ℕ, ◌+◌, ◌*◌, ◌/◌, ◌≤◌, Bool, false, List, [], ◌++◌, length, map, replicate, slice_index_or, Result, Ok, Err, refl, sym, ap, ◌∙◌, subst, inr, arith, append_assoc}
 use Rattle.std.proofs.Math.Path.{subst⁻¹}
 use Rattle.std.specs.Prelude.{IsPermutation, min}
 use Rattle.std.specs.List.{flat_map}
@@ -13,8 +13,7 @@ use Rattle.database_spec.specs.declared.fault.FileFault.{FileFault}
 use Rattle.database_spec.specs.ItemsLaws.{Has}
 use Rattle.database_spec.specs.ListsLaws.{PairsByRecursion}
 use Rattle.database_spec.specs.RightRows.{HasCatalog}
-use Rattle.database_spec.specs.Rows.{TableRow}
-use Rattle.database_spec.specs.FileFindings.{Content, Rows, Entries, Anything, Subject, Walked, Found, Needs, freelist_found, pages_needed, tree_found, compared, AreFound}
+use Rattle.database_spec.specs.FileFindings.{Content, Rows, Entries, Anything, Walked, Found, Needs, freelist_found, pages_needed, tree_found, compared, AreFound}
 use Rattle.database_spec.specs.FileFaults.{FirstWrong, FileHasFault}
 use Rattle.database_spec.specs.FileFaultsLaws.{file_fault-one}
 use Rattle.database_laws.specs.FaultlessFilesLaws.{entries-apart}

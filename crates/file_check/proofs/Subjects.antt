@@ -1,5 +1,5 @@
 -- What the parts of `db_check` say of a tree, said of what is told of it.
-use Rattle.std.proofs.Common.{◌≡◌, ℕ, ℤ, ◌≤◌, Bool, true, false, List, [], ◌∷◌, ◌++◌, Option, Some, None, Result, Ok, Err, IfOk, is_ok, refl, sym, ap, ◌∙◌, subst}
+use Rattle.std.proofs.Common.{◌≡◌, ℕ, ℤ, ◌≤◌, Bool, true, false, List, [], ◌∷◌, Option, Some, None, Result, Ok, Err, is_ok, refl, sym, ap, ◌∙◌, subst}
 use Rattle.std.proofs.Math.Path.{subst⁻¹}
 use Rattle.schema_spec.specs.declared.schema.SqlFault.{SqlFault}
 use Rattle.schema_spec.specs.declared.schema.Table.{Table}
@@ -8,7 +8,7 @@ use Rattle.tree_spec.specs.declared.TreeKind.{TreeKind}
 use Rattle.tree_spec.specs.declared.TreeKind.TheVariants as tree
 use Rattle.tree_spec.specs.Standing.{Sizes, Paged}
 use Rattle.database_spec.specs.declared.catalog.Entry.{Entry}
-use Rattle.database_spec.specs.Walks.{IsWalk, members_found}
+use Rattle.database_spec.specs.Walks.{IsWalk}
 use Rattle.database_spec.specs.FileFindings.{Content, Rows, Entries, Anything, Subject, Walked, Found, IsIndexContent, IsIndexSubject, own_kind, table_kind, table_content}
 use Rattle.db_check.specs.declared.fault.CheckFault.{CheckFault}
 use Rattle.db_check.specs.declared.walk.Members.{Members}
@@ -16,7 +16,7 @@ use Rattle.db_check.specs.declared.walk.Members.TheVariants as holds
 use Rattle.db_check.specs.Indexes.{EndsIndex, HasMembers, PassesIndex, PassesMembers, TellsIndex}
 use Rattle.db_check.specs.TreeSteps.{IsFresh}
 use Rattle.file_check.specs.declared.trees.Disagreement.{Disagreement}
-use Rattle.file_check.specs.Parts.{EndsWalk, IsNext, Judges, PassesWalk}
+use Rattle.file_check.specs.Parts.{IsNext, Judges, PassesWalk}
 use Rattle.file_check.specs.Trees.{IsBeside, IsSubjectOf, OfIndex, OfSchema, OfTable}
 use Rattle.file_check.proofs.Judging.{judges-alone, judges-any, judges-right, judges-wrong}
 

@@ -1,7 +1,7 @@
 -- The trees of a catalog by their roots stand beside the subjects of a check.
 use Rattle.std.proofs.Common.{◌≡◌, ◌≢◌, ℕ, ◌<◌, ◌≤◌, ◌==◌, Bool, true, false, List, [], ◌∷◌, ◌++◌, length, map, if◌then◌else◌, Result, is_ok, refl, sym, ap, ap₂, ◌∙◌, subst, inl, inr, arith}
 use Rattle.std.proofs.Math.Path.{subst⁻¹}
-use Rattle.std.specs.Prelude.{AllPairs, Contains, IsPermutation}
+use Rattle.std.specs.Prelude.{Contains, IsPermutation}
 use Rattle.std.specs.List.Sorted.{IsNonDecreasingBy}
 use Rattle.std.specs.List.{flat_map, AllZip, AllByRecursion, IsDistinct}
 use Rattle.std.proofs.lemmas.Bool.{eq-eqb}
@@ -22,7 +22,7 @@ use Rattle.database_spec.specs.ItemsLaws.{Has, has-either, map-has, true-false}
 use Rattle.database_spec.specs.FileFindings.{Subject, Walked, Found, own_subject, table_kind, table_content, IsIndexSubject, AreSubjectsOf, schema_subject, IsWalked, AreFound}
 use Rattle.database_laws.specs.RightFilesLaws.{if_ok-each}
 use Rattle.database_laws.specs.SoundFilesLaws.{pairs-to}
-use Rattle.database_laws.specs.SubjectsLaws.{has-permuted, has-zip, joined-has, index-stands, own-tree, own_tree, read-number, schema-stands, subject-number, subject-one, table-stands}
+use Rattle.database_laws.specs.SubjectsLaws.{has-permuted, joined-has, index-stands, own-tree, own_tree, read-number, schema-stands, subject-number, subject-one, table-stands}
 use Rattle.file_check.specs.declared.roots.CatalogTree.{CatalogTree}
 use Rattle.file_check.specs.Trees.{KnownTree, OfSchema, OfTable, OfIndex, root_of, own_trees, entry_trees, catalog_trees, HasRoot, IsSubjectOf, IsTreeWalk, AreTreeWalks, seen}
 use Rattle.file_check.proofs.Rising.{same, same-flips, pairs-map, map-pairs, rising-distinct, distinct-rising, rising-many, zip-numbers}

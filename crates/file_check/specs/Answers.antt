@@ -1,5 +1,5 @@
 -- What is answered of a file that has a catalog (PRAGMA integrity_check).
-use Rattle.std.specs.Prelude.{◌≡◌, ℕ, length, Result, Ok, Err}
+use Rattle.std.specs.Prelude.{◌≡◌, length, Result, Ok, Err}
 use Rattle.common_spec.specs.Reading.{Reads, OrFault}
 use Rattle.tree_spec.specs.Standing.{Sizes, Paged}
 use Rattle.database_spec.specs.declared.catalog.Catalog.{Catalog}

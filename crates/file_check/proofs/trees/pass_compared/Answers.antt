@@ -1,4 +1,4 @@
-use Rattle.std.proofs.Common.{ℤ, Option, Some, None, Ok, SFits, of_z, to_z, rules, refl, subst}
+use Rattle.std.proofs.Common.{ℤ, Option, Ok, SFits, of_z, to_z, rules, refl, subst}
 use Rattle.std.specs.Int.{w64}
 use Rattle.std.proofs.lemmas.Int.{to_z-of_z}
 use Rattle.tree_walk.specs.Stores.{sizes_of, paged}

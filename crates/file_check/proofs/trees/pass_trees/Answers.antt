@@ -1,8 +1,7 @@
-use Rattle.std.proofs.Common.{Ok, Err, List, [], map, refl, ◌∙◌}
+use Rattle.std.proofs.Common.{Ok, Err, map, refl, ◌∙◌}
 use Rattle.std.proofs.Math.Path.{subst⁻¹}
 use Rattle.std.specs.Prelude.{Option}
 use Rattle.tree_walk.specs.Stores.{sizes_of, paged}
-use Rattle.database_spec.specs.FileFindings.{Walked}
 use Rattle.db_check.specs.CallsLaws.{sees-both, sees-none, sees-one}
 use Rattle.file_check.specs.declared.trees.Disagreement.{Disagreement}
 use Rattle.file_check.specs.Parts.{PassesWalk}

@@ -1,7 +1,7 @@
-use Rattle.std.proofs.Common.{Ok, Err, List, map, flat_map, ◌++◌, [], filter_map, ◌≡◌}
+use Rattle.std.proofs.Common.{Ok, Err, List, map, ◌++◌, [], filter_map, ◌≡◌}
 use Rattle.tree_walk.specs.Stores.{sizes_of, paged}
 use Rattle.database_spec.specs.FileFaults.{free_page}
-use Rattle.database_spec.specs.FileFindings.{Found, Needs, freelist_found, pages_needed, tree_found}
+use Rattle.database_spec.specs.FileFindings.{Found, Needs, freelist_found, pages_needed}
 use Rattle.database_laws.specs.RightFilesLaws.{trees-free}
 use Rattle.db_check.specs.CallsLaws.{sees-both, sees-one}
 use Rattle.db_check.specs.Passes.{IsMarked, Passes}

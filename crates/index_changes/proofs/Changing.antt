@@ -39,7 +39,7 @@ use Rattle.index_changes.specs.declared.pairs.OldNew.{OldNew}
 use Rattle.index_changes.specs.Pairs.{row_in, old_rows, new_rows, IsOfRowid, ArePairs}
 use Rattle.index_changes.specs.Dues.{entry_in, change_of, is_kept, removed, added, pair_changes, all_changes}
 use Rattle.index_changes.specs.ListsLaws.{joined-has, pairs-at, zip-second}
-use Rattle.index_changes.proofs.Sorting.{sorted-rise}
+use Rattle.index_changes.specs.SortingLaws.{sorted-rise}
 use Rattle.index_changes.proofs.Pairing.{of-rowid, pair-cases, each-is, gone-or, came-or}
 
 all-by : {A : Type 0} (P : A → Type 0) (xs : List A) → ((x : A) → Has x xs → P x) → AllByRecursion P xs

@@ -1,4 +1,3 @@
-pub mod Sorting
 pub mod Pairing
 pub mod Changing
 pub mod EntryOrders

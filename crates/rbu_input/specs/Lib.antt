@@ -3,7 +3,6 @@ pub mod Layouts
 pub mod RowAnswersLaws
 pub mod Tables
 pub mod Keys
-pub mod KeysLaws
 pub mod Sums
 pub mod Reading
 pub mod Targets

@@ -4,7 +4,7 @@
 //!
 //! Of one table and one row, `check_table` refuses what is wrong with a `data_` table by itself, and `find_target` finds the table that it is for. `layout_of` says once where the target's columns stand in it, and `read_row` what a row of it prepares, or its first fault. What these mean is said by `DataTables`, `PreparedRows`, `Inputs` and `TargetRecords` in the `specs/` of `prepared_spec`.
 //!
-//! In `specs/`, `Prepared` and `Targets` have what the calls over a store answer, with `Batches` and `Reading` for one table and its rows; `Tables` and `RowAnswers` what those of one table and one row do, `Layouts` where columns stand, `Keys` how keys compare, and `RowAnswersLaws` and `KeysLaws` that a row has one answer and that keys are in a total order.
+//! In `specs/`, `Prepared` and `Targets` have what the calls over a store answer, with `Batches` and `Reading` for one table and its rows; `Tables` and `RowAnswers` what those of one table and one row do, `Layouts` where columns stand, `Keys` that two rows have one key, and `RowAnswersLaws` that a row has one answer.
 #![tactic(auto)]
 
 mod batches;

@@ -8,7 +8,7 @@ ghost use Rattle.tree_walk.specs.Stores.{SeesTree};
 ghost use Rattle.database_spec.specs.declared.catalog.Catalog.{Catalog};
 ghost use Rattle.prepared_spec.specs.Inputs.{Input};
 ghost use Rattle.prepared_spec.specs.PreparedRows.{IsPrepared};
-ghost use Rattle.rbu_input.specs.Keys.{HasKey};
+ghost use Rattle.compared_keys.specs.Keys.{HasKey};
 ghost use Rattle.rbu_input.specs.Layouts.{IsLayout};
 ghost use Rattle.rbu_input.specs.Reading.{ReadsFrom, ReadsNext, ReadsRows, TakesRow, fault_in, opened_as};
 ghost use Rattle.rbu_input.specs.RowAnswers.{member_with};

@@ -13,7 +13,7 @@ ghost use Rattle.schema_spec.specs.declared.schema.Table.{Table as AnyTable};
 ghost use Rattle.prepared_spec.specs.RowKeys.{key_at};
 ghost use Rattle.prepared_spec.specs.Tables.{stored_values};
 ghost use Rattle.prepared_spec.specs.PreparedRows.{ChangesSome, IsPrepared, IsUnprepared, IsWrongRow, key_fault, record_length as record_length_of};
-ghost use Rattle.rbu_input.specs.Keys.{HasKey};
+ghost use Rattle.compared_keys.specs.Keys.{HasKey};
 ghost use Rattle.rbu_input.specs.Layouts.{IsLayout, marks_at, reordered, values_at};
 ghost use Rattle.rbu_input.specs.RowAnswers.{HasValues, IsRefused, IsRightRow, IsWant, Refuses, member_with};
 

@@ -8,7 +8,7 @@ use Rattle.schema_spec.specs.declared.schema.Table.{Table}
 use Rattle.database_spec.specs.Rows.{TableRow, with_rowid}
 use Rattle.prepared_spec.specs.declared.violation.Violation.{Violation}
 use Rattle.prepared_spec.specs.declared.violation.Violation.TheVariants.{NotNull, KeyPresent, RowidsSpent}
-use Rattle.prepared_spec.specs.Tables.{makes_row, marked}
+use Rattle.prepared_spec.specs.Tables.{makes_row, marked, new_rowid}
 use Rattle.prepared_spec.specs.StepFaults.{null_column, written_columns, is_insert, is_spent}
 
 -- the first column that is written as NULL and may not be
@@ -35,3 +35,8 @@ values_where table rowid old (Update marks) values = Some (with_rowid table.rowi
 -- a row by its rowid and values, and the record that holds it
 abbrev pub row_of : ℤ × List Value → List ℕ → TableRow
 row_of row payload = record { rowid = row.0; values = row.1; payload = payload }
+
+-- the row that it makes, so many rows of its group being new before it
+abbrev pub made_values : Table → ℤ → ℕ → Prepared → ℤ × List Value
+made_values table g taken prepared =
+    (new_rowid table g (suc taken) prepared, with_rowid table.rowid_column (new_rowid table g (suc taken) prepared) prepared.values)

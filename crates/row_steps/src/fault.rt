@@ -14,7 +14,7 @@ use schema_spec::Table;
 use std::alloc::{AllocError, Global};
 
 // Whether the key of a table is its rowid.
-fn has_rowid_key(table: &Table) -> bool
+pub(crate) fn has_rowid_key(table: &Table) -> bool
     ensures { result ≡ has_rowid_key_of table.now }
 {
     match table.key.as_slice() {
@@ -34,7 +34,8 @@ fn is_insert(control: &Control) -> bool
     }
 }
 
-fn makes_row(control: &Control) -> bool
+/// Whether a prepared row of this control makes a row where it meets none: an insertion or a replacement.
+pub fn makes_row(control: &Control) -> bool
     ensures { result ≡ makes_row_of control.now }
 {
     match control {

@@ -2,10 +2,12 @@ use Rattle.std.proofs.Common.{◌∙◌, ◌-◌, length, take, drop, sym, ap, a
 use Rattle.std.specs.BTreeMap.{get}
 use Rattle.std.specs.Option.{option_copied}
 use Rattle.std.specs.Ordering.{is_eq}
-use Rattle.rbu_input.specs.Keys.{IsKeyTwice, compared_key, key_order}
+use Rattle.compared_keys.specs.Keys.{compared_key, key_order}
+use Rattle.rbu_input.specs.Keys.{IsKeyTwice}
 use Rattle.rbu_input.proofs.Lists.{uncons}
 use Rattle.rbu_input.proofs.Rows.{refuses-then}
-use Rattle.rbu_input.proofs.SharedKeys.{noted-copied, tested-more, tested-twice}
+use Rattle.compared_keys.specs.NotedLaws.{noted-copied}
+use Rattle.rbu_input.proofs.SharedKeys.{tested-more, tested-twice}
 use Rattle.rbu_input.proofs.keys.check_keys.Goals as goal
 
 pub returns-in-Ok-Some-clause-fault : goal.returns-in-Ok-Some-clause-fault

@@ -2,7 +2,7 @@ use Rattle.std.proofs.Common.{◌≡◌, length}
 use Rattle.std.specs.BTreeMap.{get}
 use Rattle.std.specs.Option.{option_copied}
 use Rattle.prepared_spec.specs.RowKeys.{key_collations}
-use Rattle.rbu_input.specs.Keys.{key_order}
+use Rattle.compared_keys.specs.Keys.{key_order}
 use Rattle.rbu_input.proofs.SharedKeys.{AreTested}
 use Rattle.rbu_input.proofs.keys.check_keys.Given as goal
 

@@ -6,7 +6,7 @@ use Rattle.page_store.specs.StoreLaws.{at-sizes, some-all}
 use Rattle.rbu_rows.specs.declared.prepared.Prepared.{Prepared}
 use Rattle.tree_walk.specs.Stores.{sizes_of, paged}
 use Rattle.rbu_input.specs.declared.reading.CountedRow.{CountedRow}
-use Rattle.rbu_input.specs.Keys.{HasKey}
+use Rattle.compared_keys.specs.Keys.{HasKey}
 use Rattle.rbu_input.specs.Reading.{ReadsNext}
 use Rattle.rbu_input.proofs.SharedKeys.{all-more}
 use Rattle.rbu_input.proofs.Walking.{KeepsRows, rows-none, rows-next, rows-end, rows-fault}

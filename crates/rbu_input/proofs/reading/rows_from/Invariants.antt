@@ -2,7 +2,7 @@ use Rattle.std.proofs.Common.{◌≡◌, IfSome}
 use Rattle.std.specs.List.{AllByRecursion}
 use Rattle.page_store.specs.Store.{Stays}
 use Rattle.tree_walk.specs.Stores.{sizes_of, paged}
-use Rattle.rbu_input.specs.Keys.{HasKey}
+use Rattle.compared_keys.specs.Keys.{HasKey}
 use Rattle.rbu_input.specs.Sums.{AreWithin}
 use Rattle.rbu_input.proofs.Walking.{KeepsRows}
 use Rattle.rbu_input.proofs.reading.rows_from.Given as goal

@@ -1,4 +1,4 @@
--- What a sort leaves of items of which no two are equal in its order.
+-- What a sort leaves of items of which no two are equal in its order: crates above cite these facts in their proofs.
 use Rattle.std.proofs.Common.{◌≡◌, ◌≢◌, Bool, true, false, List, [], ◌∷◌, refl, sym, ap, ◌∙◌, arith}
 use Rattle.std.proofs.lemmas.List.Sorted.{sorted_far}
 use Rattle.std.proofs.lemmas.List.MinMax.{ranks_by}

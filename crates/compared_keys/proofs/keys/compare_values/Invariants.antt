@@ -1,6 +1,6 @@
 use Rattle.std.proofs.Common.{◌≡◌, length}
-use Rattle.rbu_input.specs.Keys.{values_order}
-use Rattle.rbu_input.proofs.keys.compare_values.Given as goal
+use Rattle.compared_keys.specs.Keys.{values_order}
+use Rattle.compared_keys.proofs.keys.compare_values.Given as goal
 
 abbrev pub invariant-loop-a_left : goal.invariant-loop-a_left
 invariant-loop-a_left l = values_order l.fn.a l.fn.b ≡ values_order l.a_left l.b_left

@@ -1,0 +1,4 @@
+pub mod Keys
+pub mod KeysLaws
+pub mod Noted
+pub mod NotedLaws

@@ -129,7 +129,7 @@ pub fn key_of(bytes: &[u8]) -> Option<Key<'_>>
 
 /// The order of bytes and a key, where both are of records that have the values which it compares: of other bytes no more is looked at than of these, and they may have any order. None where they are not. Takes no memory.
 pub fn compare_with(bytes: &[u8], key: Key<'_>, order: &KeyOrder) -> Option<Ordering>
-    ensures { IfSome result (λ found. ComparesWith order.now bytes.now key.types.now key.bodies.now found) }
+    ensures { IfSome result (λ found. ComparesWith order.now bytes.now key.entry.types.now key.entry.bodies.now found) }
 {
     let Some((types, bodies)) = header_of(bytes) else {
         return None;

@@ -1,7 +1,6 @@
 use Rattle.std.proofs.Common.{◌-◌, ◌<◌, ℕ, length, take, drop, subst, arith}
 use Rattle.cell_codec.specs.Cells.{BeginsWithCell}
 use Rattle.cell_codec.specs.CellLaws.{cell-same_first}
-use Rattle.put_spec.specs.Steps.{Spelled}
 use Rattle.page_shape.specs.ShapesLaws.{cell-begins, many-cells}
 use Rattle.page_shape.proofs.shape.view_at.Goals as goal
 

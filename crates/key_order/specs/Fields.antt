@@ -5,10 +5,11 @@ use Rattle.rbu_value.specs.declared.value.Value.{Value}
 use Rattle.rbu_value.specs.declared.value.Value.TheVariants as variant
 use Rattle.format_spec.specs.Varint.{IsVarint}
 use Rattle.format_spec.specs.Record.{AreFields, IsField}
+use Rattle.record_codec.specs.Faults.{HasHeader}
 use Rattle.key_order.specs.declared.fields.Field.{Field}
 use Rattle.key_order.specs.declared.fields.Field.TheVariants.{Null, Int, Text, Blob}
 use Rattle.key_order.specs.declared.order.KeyOrder.{KeyOrder}
-use Rattle.key_order.specs.Orders.{key_cmp, key_length}
+use Rattle.key_order.specs.Orders.{Compares, IsEntry, key_cmp, key_length}
 
 -- the value whose bytes are lent
 abbrev pub value_of : Field → Value
@@ -35,3 +36,7 @@ AreCompared order types bodies other_types other_bodies found =
 abbrev pub CannotCompare : KeyOrder → List ℕ → List ℕ → List ℕ → List ℕ → Type 0
 CannotCompare order types bodies other_types other_bodies =
     (a b : List Value) → AreFields types bodies a → AreFields other_types other_bodies b → key_length order ≤ length a → key_length order ≤ length b → ⊥
+
+-- where bytes are an entry, and these are the serial types and bodies of another one, the two compare so
+abbrev pub ComparesWith : KeyOrder → List ℕ → List ℕ → List ℕ → Ordering → Type 0
+ComparesWith order bytes types bodies found = (other : List ℕ) → HasHeader other types bodies → IsEntry order bytes → IsEntry order other → Compares order found bytes other

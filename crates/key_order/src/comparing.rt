@@ -3,9 +3,10 @@ ghost use Rattle.std.specs.Prelude.{◌≡◌, ◌↔◌, ℕ, List, IfSome, IsT
 ghost use Rattle.std.specs.Char.{to_ascii_lowercase};
 ghost use Rattle.std.specs.Cmp.Lexicographic.{slice_cmp};
 ghost use Rattle.std.specs.Ordering.{nat_cmp};
+ghost use Rattle.record_codec.specs.Faults.{HasHeader};
 ghost use Rattle.rbu_value.specs.Order.{class_place, collated, value_cmp, without_end_spaces};
 ghost use Rattle.database_spec.specs.Keys.{column_cmp};
-ghost use Rattle.key_order.specs.Fields.{AreCompared, CannotCompare, value_of};
+ghost use Rattle.key_order.specs.Fields.{AreCompared, CannotCompare, ComparesWith, value_of};
 ghost use Rattle.key_order.specs.Orders.{Compares, IsEntry};
 
 use crate::fields::{Field, has_values, header_of, next_field};
@@ -107,6 +108,33 @@ fn compare_fields(
         other_bodies = other.bodies;
     }
     Some(Ordering::Equal)
+}
+
+/// An entry that others are compared with: its serial types, and its bodies.
+#[derive(Clone, Copy)]
+pub struct Key<'a> {
+    pub types: &'a [u8],
+    pub bodies: &'a [u8],
+}
+
+/// An entry to compare others with; None where the header of its record is not whole.
+pub fn key_of(bytes: &[u8]) -> Option<Key<'_>>
+    ensures { IfSome result (λ key. HasHeader bytes.now key.types.now key.bodies.now) }
+{
+    let Some((types, bodies)) = header_of(bytes) else {
+        return None;
+    };
+    Some(Key { types, bodies })
+}
+
+/// The order of bytes and a key, where both are of records that have the values which it compares: of other bytes no more is looked at than of these, and they may have any order. None where they are not. Takes no memory.
+pub fn compare_with(bytes: &[u8], key: Key<'_>, order: &KeyOrder) -> Option<Ordering>
+    ensures { IfSome result (λ found. ComparesWith order.now bytes.now key.entry.types.now key.entry.bodies.now found) }
+{
+    let Some((types, bodies)) = header_of(bytes) else {
+        return None;
+    };
+    compare_fields(types, bodies, key.types, key.bodies, order)
 }
 
 /// Whether bytes are a record that has the values which an order compares.

@@ -9,5 +9,5 @@ mod comparing;
 mod fields;
 mod order;
 
-pub use comparing::{compare_entries, is_entry};
+pub use comparing::{Key, compare_entries, compare_with, is_entry, key_of};
 pub use order::KeyOrder;

@@ -1,4 +1,2 @@
-pub mod Cells
 pub mod Narrowing
 pub mod Rows
-pub mod Writing

@@ -1,20 +1,16 @@
 -- A row that is put into a leaf's bytes.
-use Rattle.std.proofs.Common.{◌≡◌, ℕ, ℤ, List, slice_index, sym, ap, ◌∙◌, subst}
+use Rattle.std.proofs.Common.{◌≡◌, ℕ, ℤ, List, subst}
 use Rattle.std.proofs.Math.Path.{subst⁻¹}
 use Rattle.std.specs.List.{insert}
 use Rattle.format_spec.specs.declared.PageKind.{PageKind}
 use Rattle.format_spec.specs.declared.PageKind.TheVariants.{TableLeaf}
-use Rattle.format_spec.specs.Page.{IsPage, header_place}
-use Rattle.page_layout.specs.Views.{HasKind}
-use Rattle.page_layout.specs.ViewsLaws.{kind_byte-same}
+use Rattle.format_spec.specs.Page.{IsPage}
 use Rattle.put_spec.specs.Children.{Belongs, Meets}
 use Rattle.put_spec.specs.Steps.{Spelled, bytes_in, views_in}
-use Rattle.table_leaf.specs.declared.shape.Shape.{Shape}
+use Rattle.page_shape.specs.declared.shape.Shape.{Shape}
+use Rattle.page_shape.specs.Shapes.{AreCells}
 use Rattle.table_leaf.specs.Leaves.{PlacesRow}
-use Rattle.table_leaf.specs.Searches.{AreCells, Climbs, HasShape, rowids_in}
-
-pub kind-leaf : (page : List ℕ) (number : ℕ) (shape : Shape) → HasShape page shape → shape.number ≡ number → HasKind page number TableLeaf → shape.kind ≡ TableLeaf
-kind-leaf page number shape has same kind = kind_byte-same shape.kind TableLeaf (sym has.kind_is ∙ ap (λ (n : ℕ). slice_index page (header_place n)) same ∙ kind)
+use Rattle.table_leaf.specs.Searches.{Climbs, rowids_in}
 
 pub row-placed : (number usable : ℕ) (shape : Shape) (rowid : ℤ) (cell old new : List ℕ) (at : ℕ) → shape.number ≡ number → shape.usable ≡ usable → shape.kind ≡ TableLeaf
     → ((cells : List Spelled) (right : ℕ) (bound : ℤ) → AreCells old shape.number shape.usable shape.kind cells right → Climbs bound (rowids_in cells) → Belongs rowid at (views_in cells))

@@ -12,7 +12,8 @@ use Rattle.tree_spec.specs.Trees.{TreeOf, cells_behind, page_of}
 use Rattle.tree_spec.specs.Standing.{Sizes, Paged, Stands}
 use Rattle.put_spec.specs.Children.{Belongs, Meets, child_at, views_of}
 use Rattle.put_spec.specs.Steps.{PutBelow, Spelled, bytes_in, child_page, views_in}
-use Rattle.table_leaf.specs.Searches.{AreCells, Climbs, rowids_in}
+use Rattle.page_shape.specs.Shapes.{AreCells}
+use Rattle.table_leaf.specs.Searches.{Climbs, rowids_in}
 
 -- the leaf of a tree in which a rowid belongs, by its page: at each level it lies below the child at the place where the rowid belongs
 abbrev pub IsLeafOf : ℤ → (levels : ℕ) → TreeOf levels → ℕ → Type 0

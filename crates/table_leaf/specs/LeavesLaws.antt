@@ -9,7 +9,6 @@ use Rattle.format_spec.specs.declared.CellView.{CellView}
 use Rattle.format_spec.specs.Cell.{IsCell}
 use Rattle.format_spec.specs.Page.{IsPage}
 use Rattle.page_layout.specs.Views.{HasKind}
-use Rattle.page_layout.specs.ViewsLaws.{kind_byte-same}
 use Rattle.tree_spec.specs.declared.TreeKind.TheVariants.{Table}
 use Rattle.tree_spec.specs.Bounds.{BesideIn, InOrder, RisesIn}
 use Rattle.tree_spec.specs.BoundsLaws.{InOrder-rises, rises-bounds, rowids as member_rowids}
@@ -23,8 +22,10 @@ use Rattle.put_spec.specs.LeavesLaws.{belongs-within}
 use Rattle.put_spec.specs.Steps.{HasCells, IsLeafEdit, IsSettled, PutBelow, Spelled, bytes_in, child_page, spelled, views_in}
 use Rattle.put_spec.specs.StepsLaws.{child-page, insert-map, interior-untouched, leaf-step}
 use Rattle.delete_spec.specs.Steps.{DeleteAt, GrowsBelow}
-use Rattle.delete_spec.specs.StepsLaws.{bytes-spelled, parent-stays, root-unwritten}
-use Rattle.table_leaf.specs.Searches.{AreCells, Climbs, rowids_in}
+use Rattle.delete_spec.specs.StepsLaws.{parent-stays, root-unwritten}
+use Rattle.page_shape.specs.OwnCellsLaws.{own-are, own-has, own-kind, views-spelled}
+use Rattle.page_shape.specs.Shapes.{AreCells}
+use Rattle.table_leaf.specs.Searches.{Climbs, rowids_in}
 use Rattle.table_leaf.specs.Leaves.{IsLeafOf, LeadsTo, Names, PlacesRow, PutsAlone}
 
 -- what is said of something that a call answers goes on to what follows from it
@@ -32,43 +33,6 @@ pub if-ok_some : {T E : Type 0} {P Q : T → Type 0} (result : Result (Option T)
 if-ok_some (Ok (Some x)) more holds = more x holds
 if-ok_some (Ok None) more holds = tt
 if-ok_some (Err e) more holds = tt
-
--- The cells of a tree's own page.
-
-held-cells : (sizes : Sizes) (base : Paged) (cells : List TreeCell) → AllByRecursion (IsHeld sizes base TableLeaf) cells → AllByRecursion (λ cell. IsCell TableLeaf sizes.usable cell.bytes cell.view) (map spelled cells)
-held-cells sizes base [] held = tt
-held-cells sizes base (cell ∷ cells) held = (held.0.is_cell, held-cells sizes base cells held.1)
-
-behind-cells : (sizes : Sizes) (base : Paged) (levels : ℕ) (children : List (TreeOf levels × TreeCell)) → AllByRecursion (StandsBefore sizes base Table levels) children
-    → AllByRecursion (λ cell. IsCell TableInterior sizes.usable cell.bytes cell.view) (map spelled (cells_behind children))
-behind-cells sizes base levels [] stand = tt
-behind-cells sizes base levels (child ∷ children) stand = (stand.0.0.held.is_cell, behind-cells sizes base levels children stand.1)
-
-own-cells : (sizes : Sizes) (base : Paged) (levels : ℕ) (tree : TreeOf levels) → HasBelow sizes base Table levels tree
-    → AllByRecursion (λ cell. IsCell (kind_at Table levels) sizes.usable cell.bytes cell.view) (map spelled (own_cells levels tree))
-own-cells sizes base zero tree below = held-cells sizes base tree.cells below
-own-cells sizes base (suc levels) tree below = behind-cells sizes base levels tree.children below.0
-
-pub own-has : (sizes : Sizes) (base : Paged) (levels : ℕ) (tree : TreeOf levels) → Stands sizes base Table levels tree
-    → HasCells sizes base (kind_at Table levels) (page_of levels tree) (map spelled (own_cells levels tree)) (own_right levels tree)
-own-has sizes base levels tree stands = record {
-  is_page = subst⁻¹ (λ (l : List (List ℕ)). IsPage (base.pages (page_of levels tree)) (page_of levels tree) sizes.usable (kind_at Table levels) l (own_right levels tree)) (bytes-spelled (own_cells levels tree)) stands.0;
-  are_cells = own-cells sizes base levels tree stands.1;
-}
-
--- so of the bytes of its page
-own-are : (sizes : Sizes) (base : Paged) (levels page : ℕ) (bytes : List ℕ) (tree : TreeOf levels) → page_of levels tree ≡ page → bytes ≡ base.pages page → Stands sizes base Table levels tree
-    → AreCells bytes page sizes.usable (kind_at Table levels) (map spelled (own_cells levels tree)) (own_right levels tree)
-own-are sizes base levels page bytes tree is there stands =
-    let has = own-has sizes base levels tree stands in
-    record {
-      is_page = subst⁻¹ (λ (b : List ℕ). IsPage b page sizes.usable (kind_at Table levels) (bytes_in (map spelled (own_cells levels tree))) (own_right levels tree)) there
-          (subst (λ (n : ℕ). IsPage (base.pages n) n sizes.usable (kind_at Table levels) (bytes_in (map spelled (own_cells levels tree))) (own_right levels tree)) is has.is_page);
-      are_cells = has.are_cells;
-    }
-
-views-spelled : (cells : List TreeCell) → views_in (map spelled cells) ≡ views_of cells
-views-spelled cells = map-map (λ (cell : Spelled). cell.view) spelled cells
 
 -- Their rowids do not fall.
 
@@ -100,19 +64,16 @@ child-order levels low high zero (child ∷ children) last order = record { low 
 child-order levels low high (suc i) (child ∷ children) last order = child-order levels child.1.view.rowid high i children last order.1
 
 module _ (sizes : Sizes) (base : Paged) (rowid : ℤ) (page : ℕ) (bytes : List ℕ) (there : bytes ≡ base.pages page) where
-  kind-is : (levels : ℕ) (tree : TreeOf levels) (kind : PageKind) → page_of levels tree ≡ page → Stands sizes base Table levels tree → HasKind bytes page kind → kind_at Table levels ≡ kind
-  kind-is levels tree kind is stands has = kind_byte-same (kind_at Table levels) kind (sym (own-are sizes base levels page bytes tree is there stands).is_page.kind_is ∙ has)
-
   -- a leaf is the leaf below itself
   pub leads-leaf : HasKind bytes page TableLeaf → LeadsTo sizes base rowid page page
   leads-leaf has zero tree low high is stands order = sym is
-  leads-leaf has (suc levels) tree low high is stands order = absurd (let other : TableInterior ≡ TableLeaf = kind-is (suc levels) tree TableLeaf is stands has in let no : ⊥ = cc in no)
+  leads-leaf has (suc levels) tree low high is stands order = absurd (let other : TableInterior ≡ TableLeaf = own-kind sizes Table base page bytes there (suc levels) tree TableLeaf is stands has in let no : ⊥ = cc in no)
 
   -- that of an interior page is that below the child which it names where the rowid belongs
   pub leads-down : (child leaf : ℕ) → HasKind bytes page TableInterior → Names bytes page sizes.usable TableInterior rowid child → LeadsTo sizes base rowid child leaf → LeadsTo sizes base rowid page leaf
-  leads-down child leaf has names below zero tree low high is stands order = absurd (let other : TableLeaf ≡ TableInterior = kind-is zero tree TableInterior is stands has in let no : ⊥ = cc in no)
+  leads-down child leaf has names below zero tree low high is stands order = absurd (let other : TableLeaf ≡ TableInterior = own-kind sizes Table base page bytes there zero tree TableInterior is stands has in let no : ⊥ = cc in no)
   leads-down child leaf has names below (suc levels) tree low high is stands order =
-      let named = names (map spelled (cells_behind tree.children)) (page_of levels tree.last) low (own-are sizes base (suc levels) page bytes tree is there stands) (own-climb (suc levels) low high tree order) in
+      let named = names (map spelled (cells_behind tree.children)) (page_of levels tree.last) low (own-are sizes Table base page bytes there (suc levels) tree is stands) (own-climb (suc levels) low high tree order) in
       let at = named.0 in
       let inner = child-order levels low high at tree.children tree.last order in
       let page_is : page_of levels (child_at at tree.children tree.last) ≡ child = child-page sizes Table base levels at tree.children tree.last stands.1.0 ∙ sym named.2 in (
@@ -146,7 +107,7 @@ module _ (sizes : Sizes) (base : Paged) (rowid : ℤ) (leaf : ℕ) where
       let below = put-lifted levels child cell new same is.2 (child-stands sizes Table base levels at tree.children tree.last stands.1.0 stands.1.1.1) put in
       let named : page_of levels child ≡ child_page at cells (page_of levels tree.last) = child-page sizes Table base levels at tree.children tree.last stands.1.0 in
       let here : Belongs cell.view.rowid at (views_in cells) = subst⁻¹ (λ (r : ℤ). Belongs r at (views_in cells)) same (subst⁻¹ (Belongs rowid at) (views-spelled (cells_behind tree.children)) is.1) in
-      interior-untouched sizes Table levels tree.page cell base cells (page_of levels tree.last) at new 0 0 (own-has sizes base (suc levels) tree stands) (λ _. here)
+      interior-untouched sizes Table levels tree.page cell base cells (page_of levels tree.last) at new 0 0 (own-has sizes Table base (suc levels) tree stands) (λ _. here)
       (subst (λ (p : ℕ). PutBelow sizes Table levels p cell base new [] 0 0) named below)
 
   -- A row was put into it.
@@ -155,11 +116,11 @@ module _ (sizes : Sizes) (base : Paged) (rowid : ℤ) (leaf : ℕ) where
   leaf-put cell new same has places writes =
       let tree = has.tree in
       let cells = map spelled tree.cells in
-      let placed = places cells 0 has.ordered.low (own-are sizes base zero leaf (base.pages leaf) tree has.page_is refl has.stands) (own-climb zero has.ordered.low has.ordered.high tree has.ordered.order) in
+      let placed = places cells 0 has.ordered.low (own-are sizes Table base leaf (base.pages leaf) refl zero tree has.page_is has.stands) (own-climb zero has.ordered.low has.ordered.high tree has.ordered.order) in
       let at = placed.0 in
       let within : at ≤ length cells = omega (arith, belongs-within rowid at tree.cells (subst (Belongs rowid at) (views-spelled tree.cells) placed.1), length-of spelled tree.cells) in
       let here : Belongs cell.view.rowid at (views_in cells) = subst⁻¹ (λ (r : ℤ). Belongs r at (views_in cells)) same placed.1 in
-      let there : HasCells sizes base TableLeaf leaf cells 0 = subst (λ (p : ℕ). HasCells sizes base TableLeaf p cells 0) has.page_is (own-has sizes base zero tree has.stands) in
+      let there : HasCells sizes base TableLeaf leaf cells 0 = subst (λ (p : ℕ). HasCells sizes base TableLeaf p cells 0) has.page_is (own-has sizes Table base zero tree has.stands) in
       let edit : IsLeafEdit cells cell (insert cells at cell) 0 0 = record {
         place = at;
         here = here;
@@ -189,7 +150,7 @@ module _ (sizes : Sizes) (base : Paged) (rowid : ℤ) (leaf : ℕ) where
       let below = grows-lifted gone levels child new first bytes is.2 (child-stands sizes Table base levels at tree.children tree.last stands.1.0 stands.1.1.1)
       (all-child (IsFull levels) at tree.children tree.last full.1.0 full.1.1) grows in
       let named : page_of levels child ≡ child_page at cells (page_of levels tree.last) = child-page sizes Table base levels at tree.children tree.last stands.1.0 in
-      parent-stays sizes gone levels tree.page base cells (page_of levels tree.last) at new first bytes (own-has sizes base (suc levels) tree stands)
+      parent-stays sizes gone levels tree.page base cells (page_of levels tree.last) at new first bytes (own-has sizes Table base (suc levels) tree stands)
       (omega (arith, full.0, length-of spelled (cells_behind tree.children))) (subst (λ (p : ℕ). GrowsBelow sizes gone levels p base new [] first bytes) named below)
 
   -- so from the table of a root that is no leaf
@@ -202,5 +163,5 @@ module _ (sizes : Sizes) (base : Paged) (rowid : ℤ) (leaf : ℕ) where
       let below = grows-lifted gone levels child new first bytes is.2 (child-stands sizes Table base levels at tree.children tree.last stands.1.0 stands.1.1.1)
       (all-child (IsFull levels) at tree.children tree.last full.0 full.1) grows in
       let named : page_of levels child ≡ child_page at cells (page_of levels tree.last) = child-page sizes Table base levels at tree.children tree.last stands.1.0 in
-      root-unwritten sizes gone levels tree.page base cells (page_of levels tree.last) at new first bytes (own-has sizes base (suc levels) tree stands)
+      root-unwritten sizes gone levels tree.page base cells (page_of levels tree.last) at new first bytes (own-has sizes Table base (suc levels) tree stands)
       (λ other. omega (arith, some other, length-of spelled (cells_behind tree.children))) (subst (λ (p : ℕ). GrowsBelow sizes gone levels p base new [] first bytes) named below)

@@ -3,37 +3,17 @@ ghost use Rattle.std.specs.Prelude.{◌≡◌, ◌≤◌, IfErr, IfOk, IfSome, O
 ghost use Rattle.format_spec.specs.declared.PageKind.TheVariants.{TableInterior, TableLeaf};
 ghost use Rattle.page_layout.specs.Views.{HasKind};
 ghost use Rattle.page_spec.specs.Pages.{Pages};
-ghost use Rattle.page_store.specs.Store.{HasSizes, Looks, OwesBy};
+ghost use Rattle.page_store.specs.Store.{HasSizes, OwesBy};
 ghost use Rattle.tree_pages.specs.Writers.{paged, sizes_of};
 ghost use Rattle.tree_spec.specs.Faults.{IsOther, fault_in};
 ghost use Rattle.table_leaf.specs.Leaves.{LeadsTo, Names};
-ghost use Rattle.table_leaf.specs.Searches.{HasShape};
+ghost use Rattle.page_shape.specs.Shapes.{HasShape};
 
 use crate::searching::index_of;
-use crate::shape::{Shape, child_at, shape_of};
 use cell_codec::PageKind;
+use page_shape::{Shape, child_at, fetch, shape_of};
 use page_store::{PageRead, is_in_range};
 use tree_spec::TreeFault;
-
-// Fills a buffer with the bytes of a page.
-fn fetch<S: PageRead>(
-    store: &mut S,
-    number: u32,
-    page: &mut [u8],
-) -> Result<(), TreeFault<S::Fault>>
-    requires first { 1 ≤ number }
-    requires within { number ≤ S.count store.old }
-    requires whole { length page.old ≡ S.size store.old }
-    ensures pages { Looks S.PageRead store.old store.new result (λ _ m. page.new ≡ m number) }
-    ensures whole { length page.new ≡ S.size store.old }
-    ensures other { IfErr result IsOther }
-    ensures owes { OwesBy S.PageRead fault_in store.old store.new result }
-{
-    match store.page(number, page) {
-        Ok(()) => Ok(()),
-        Err(fault) => Err(TreeFault::Store(fault)),
-    }
-}
 
 // The child of an interior page below which a rowid belongs. None where a cell does not decode that is read.
 fn child_below(page: &[u8], shape: Shape, rowid: i64) -> Option<u32>

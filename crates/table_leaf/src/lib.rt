@@ -6,7 +6,6 @@
 mod finding;
 mod placing;
 mod searching;
-mod shape;
 
 pub use finding::find_leaf;
 pub use placing::put_in_leaf;

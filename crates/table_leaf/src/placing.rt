@@ -10,13 +10,13 @@ ghost use Rattle.put_spec.specs.Steps.{Spelled, views_in};
 ghost use Rattle.tree_pages.specs.Writers.{Becomes, sizes_of};
 ghost use Rattle.tree_spec.specs.Faults.{IsOther, fault_in};
 ghost use Rattle.table_leaf.specs.Leaves.{PlacesRow, PutsAlone};
-ghost use Rattle.table_leaf.specs.Searches.{AreCells, HasShape};
+ghost use Rattle.page_shape.specs.Shapes.{AreCells, HasShape};
 
 use crate::finding::find_leaf;
 use crate::searching::index_of;
-use crate::shape::{Shape, shape_of, view_at};
 use cell_codec::CellView;
 use page_layout::insert_in_gap;
+use page_shape::{Shape, shape_of, view_at};
 use page_store::{PageWrite, page_buffer};
 use std::alloc::Global;
 use tree_spec::TreeFault;

@@ -2,10 +2,11 @@
 ghost use Rattle.std.specs.Prelude.{◌≡◌, ◌-◌, ◌<◌, ◌≤◌, ◌↔◌, ◌<ℤ◌, ℕ, ℤ, List, IfSome, IsTrue};
 ghost use Rattle.put_spec.specs.Children.{Belongs};
 ghost use Rattle.put_spec.specs.Steps.{Spelled, views_in};
-ghost use Rattle.table_leaf.specs.Searches.{AreCells, Climbs, HasShape, IsNarrowed, rowids_in};
+ghost use Rattle.page_shape.specs.Shapes.{AreCells, HasShape};
+ghost use Rattle.table_leaf.specs.Searches.{Climbs, IsNarrowed, rowids_in};
 
-use crate::shape::{Shape, view_at};
 use cell_codec::CellView;
+use page_shape::{Shape, view_at};
 
 /// The indexes among which that of a rowid is.
 #[derive(Clone, Copy)]

@@ -7,12 +7,12 @@ use page_store::{PageRead, PageWrite, PlainStore};
 use std::alloc::{AllocError, Global};
 use tree_table::{TreeFault, delete, put};
 
-/// The order in which rows are put.
+/// The order in which rows or entries are put.
 #[derive(Clone, Copy)]
 pub enum Order {
-    /// The rowids rise from 0.
+    /// The rowids or keys rise from 0.
     Rising,
-    /// The rowids are a permutation of some numbers of 32 bits.
+    /// They are a permutation of some numbers of 32 bits.
     Scattered,
 }
 
@@ -23,16 +23,16 @@ fn scattered(number: u32) -> u32 {
     second ^ (second >> 16)
 }
 
-// The rowid of the row that is put at a place.
-fn rowid_at(order: Order, at: u32) -> i64 {
+/// The rowid of the row, or the key of the entry, that is put at a place.
+pub fn rowid_at(order: Order, at: u32) -> i64 {
     match order {
         Order::Rising => i64::from(at),
         Order::Scattered => i64::from(scattered(at)),
     }
 }
 
-// Whether there are two pages, of sizes that a database may have.
-fn is_whole(store: &PlainStore) -> bool
+/// Whether there are two pages, of sizes that a database may have.
+pub fn is_whole(store: &PlainStore) -> bool
     ensures sizes { IsTrue result → HasSizes ⟦<PlainStore as PageRead>⟧ store.now }
     ensures some { IsTrue result → 2 ≤ ⟦<PlainStore as PageRead>⟧.count store.now }
 {
@@ -41,15 +41,15 @@ fn is_whole(store: &PlainStore) -> bool
     480 <= usable && usable <= size && size <= 65536 && 2 <= store.count()
 }
 
-// Page 1 with the number of pages, and page 2, which is a leaf without cells.
-fn empty_table(alloc: Global) -> Result<PlainStore, AllocError> {
+/// Page 1 with the number of pages, and page 2, which is a leaf without cells. The byte tells whether it is one of a table, 13, or of an index, 10 (Database File Format, section 1.6).
+pub fn empty_tree(alloc: Global, kind: u8) -> Result<PlainStore, AllocError> {
     let mut store = PlainStore::new(alloc, 4096, 4096);
     store.set_count(2)?;
     let mut page = [0; 4096];
     put_u32(&mut page, 28, 2);
     store.set_page(1, &page)?;
     let mut leaf = [0; 4096];
-    leaf[0] = 13;
+    leaf[0] = kind;
     leaf[5] = 16;
     store.set_page(2, &leaf)?;
     Ok(store)
@@ -70,7 +70,7 @@ fn put_row(
 
 // A table with so many rows.
 fn fill(alloc: Global, order: Order, rows: u32) -> Result<PlainStore, TreeFault<AllocError>> {
-    let mut store = empty_table(alloc)?;
+    let mut store = empty_tree(alloc, 13)?;
     let payload = [7; 100];
     for at in 0..rows {
         put_row(alloc, &mut store, rowid_at(order, at), &payload)?;

@@ -1,3 +1,4 @@
+mod OneLeaf
 mod Lists
 mod Halves
 mod Places

@@ -1,8 +1,8 @@
 -- The cell of an entry as it is spelled, and what it holds.
-use Rattle.std.proofs.Common.{◌≡◌, ℕ, pos, ◌-◌, ◌^◌, ◌<◌, ◌≤◌, List, ◌++◌, length, take, drop, refl, sym, ap, ◌∙◌, subst, arith}
+use Rattle.std.proofs.Common.{◌≡◌, ℕ, pos, ◌-◌, ◌^◌, ◌<◌, ◌≤◌, List, [], ◌++◌, length, take, drop, refl, sym, ap, ◌∙◌, subst, arith}
 use Rattle.std.proofs.Math.Path.{subst⁻¹}
 use Rattle.std.proofs.Math.Seq.{take-append_seam, drop-append_seam}
-use Rattle.std.proofs.lemmas.List.{length-drop, length-take-le, take-append-drop}
+use Rattle.std.proofs.lemmas.List.{drop_all, length-drop, length-take-le, take-append-drop}
 use Rattle.std.specs.Int.{w64}
 use Rattle.std.specs.Int.RustNames.{FitsSigned}
 use Rattle.byteorder.specs.Endian.{big_bytes}
@@ -16,6 +16,8 @@ use Rattle.page_spec.specs.Chains.{IsChain, chain_bytes, pages_for}
 use Rattle.page_spec.specs.Rooms.{IsOneCell}
 use Rattle.tree_spec.specs.Standing.{Sizes, Paged}
 use Rattle.tree_pages.specs.Writers.{WritesOverflow}
+use Rattle.tree_spec.specs.StandingLaws.{chain-none}
+use Rattle.tree_spec.specs.ChangesLaws.{Turns-same}
 use Rattle.tree_index.specs.Puts.{MakesCell}
 
 part-of : (a b c : List ℕ) (at n : ℕ) → at ≡ length a → n ≡ length b → part_of (a ++ (b ++ c)) at n ≡ b
@@ -33,7 +35,7 @@ module _ (usable : ℕ) (payload : List ℕ) (first : ℕ) where
   abbrev plain : CellView
   plain = record { size = 0; rowid = pos 0; child = 0; payload = length payload; local_at = 0; local = kept; overflow = first }
 
-  abbrev bytes : List ℕ
+  abbrev pub bytes : List ℕ
   bytes = cell_bytes IndexLeaf plain (take kept payload)
 
   abbrev view : CellView
@@ -118,3 +120,16 @@ pub makes-cell : (sizes : Sizes) (payload cell : List ℕ) (first : ℕ) (a b : 
     → WritesOverflow sizes first (drop (local_size IndexLeaf sizes.usable (length payload)) payload) a b → MakesCell sizes payload cell a b
 makes-cell sizes payload cell first a b is limit small none written =
     subst⁻¹ (λ (c : List ℕ). MakesCell sizes payload c a b) is (entry-made sizes.usable payload first sizes a b refl limit small none written)
+
+-- a cell that needs no chain
+pub makes-whole : (sizes : Sizes) (payload cell : List ℕ) (base : Paged) → cell ≡ bytes sizes.usable payload 0 → length payload ≤ payload_limit → length payload ≤ local_size IndexLeaf sizes.usable (length payload)
+    → MakesCell sizes payload cell base base
+makes-whole sizes payload cell base is limit all =
+    let none = drop_all (local_size IndexLeaf sizes.usable (length payload)) payload all in
+    makes-cell sizes payload cell 0 base base is limit (omega arith) (λ _. refl) (λ trunks free. record {
+      chain = [];
+      rest = trunks;
+      turns = Turns-same sizes base [] [] trunks (λ n. refl);
+      is_chain = subst⁻¹ (λ (l : List ℕ). IsChain base.pages sizes.size sizes.usable base.count 0 (length l) []) none (chain-none sizes base);
+      holds = subst⁻¹ (λ (l : List ℕ). chain_bytes base.pages sizes.usable [] (length l) ≡ l) none refl;
+    })

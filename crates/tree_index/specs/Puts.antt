@@ -3,6 +3,8 @@ use Rattle.std.specs.Prelude.{◌≡◌, ◌⊎◌, ◌≤◌, ℕ, pos, false, 
 use Rattle.std.specs.List.{AllByRecursion}
 use Rattle.format_spec.specs.declared.CellView.{CellView}
 use Rattle.format_spec.specs.declared.PageKind.TheVariants.{IndexInterior, IndexLeaf}
+use Rattle.index_leaf.specs.declared.placing.Attempt.{Attempt}
+use Rattle.index_leaf.specs.declared.placing.Attempt.TheVariants as attempt
 use Rattle.key_order.specs.declared.order.KeyOrder.{KeyOrder}
 use Rattle.key_order.specs.Orders.{HasEqual, IsHigh, IsLow, IsRising}
 use Rattle.page_spec.specs.Freelists.{Trunk}
@@ -32,6 +34,10 @@ pub record HasCell (sizes : Sizes) (payload bytes : List ℕ) (old : Paged) (tru
   pub turns : Turns sizes old [] trunks new chain rest
   pub held : IsHeld sizes new IndexLeaf (record { bytes = bytes; view = view; payload = payload; chain = chain })
   pub many : length chain ≡ overflow_pages sizes.usable (length payload)
+
+-- the view of an entry's cell, as far as its bytes are spelled by it
+abbrev pub entry_view : ℕ → ℕ → ℕ → CellView
+entry_view payload local overflow = record { size = 0; rowid = pos 0; child = 0; payload = payload; local_at = 0; local = local; overflow = overflow }
 
 -- so whatever freelist stood there
 abbrev pub MakesCell : Sizes → List ℕ → List ℕ → Paged → Paged → Type 0
@@ -122,6 +128,12 @@ module _ (sizes : Sizes) (order : KeyOrder) (payload : List ℕ) where
   abbrev pub EntersInto : ℕ → Inserted → Paged → Paged → Type 0
   EntersInto root inserted.Present old new = Finds root old new
   EntersInto root inserted.New old new = OfTrees root old (λ levels tree trunks. IsEntered levels tree trunks old (PutsRoot levels new))
+
+  -- what came of trying to put it into a leaf alone
+  abbrev pub TriesInto : ℕ → Attempt → Paged → Paged → Type 0
+  TriesInto root attempt.Put old new = EntersInto root inserted.New old new
+  TriesInto root attempt.Present old new = EntersInto root inserted.Present old new
+  TriesInto root attempt.GivenUp old new = new ≡ old
 
 -- An index has an entry too, behind those that are less and before those that are greater, and no equal one stood there; its list rises still. All other trees are as they were, and of page 1's first 100 bytes only the size in pages and the freelist's fields may have changed.
 pub record HasPut (sizes : Sizes) (order : KeyOrder) (payload : List ℕ) (front : List Rooted) (index : Rooted) (back : List Rooted) (old new : Paged) : Type 0 where

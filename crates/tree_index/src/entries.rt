@@ -1,5 +1,5 @@
 // Cells of entries.
-ghost use Rattle.std.specs.Prelude.{◌≡◌, ◌≤◌, ◌-◌, IfOk, OnOk, length, max};
+ghost use Rattle.std.specs.Prelude.{◌≡◌, ◌≤◌, ◌-◌, IfOk, IfSome, OnOk, length, max, take};
 ghost use Rattle.format_spec.specs.declared.PageKind.TheVariants.{IndexLeaf};
 ghost use Rattle.format_spec.specs.Cell.{cell_bytes, payload_limit};
 ghost use Rattle.page_spec.specs.Rooms.{IsOneCell};
@@ -8,7 +8,9 @@ ghost use Rattle.tree_pages.specs.Takes.{RefusesShort, RisesBy};
 ghost use Rattle.tree_pages.specs.Writers.{Becomes, sizes_of};
 ghost use Rattle.tree_spec.specs.Faults.{fault_in};
 ghost use Rattle.tree_index.specs.Needs.{overflow_pages};
-ghost use Rattle.tree_index.specs.Puts.{MakesCell};
+ghost use Rattle.tree_spec.specs.Standing.{Paged, Sizes};
+ghost use Rattle.format_spec.specs.Sizes.{IsUsable};
+ghost use Rattle.tree_index.specs.Puts.{MakesCell, entry_view};
 
 use cell_codec::{CellView, PageKind, cell_length, local_size, write_cell};
 use page_store::PageWrite;
@@ -24,6 +26,39 @@ fn spell(alloc: Global, view: &CellView, local: &[u8]) -> Result<Bytes, AllocErr
     let mut bytes = vec![in alloc; 0; cell_length(PageKind::IndexLeaf, view)]?;
     write_cell(PageKind::IndexLeaf, view, local, bytes.as_mut_slice());
     Ok(Bytes::from_vec(bytes))
+}
+
+// The cell of an entry which keeps so many bytes of its payload, where the rest begins in this overflow page.
+fn cell_of(alloc: Global, payload: &[u8], local: u32, overflow: u32) -> Result<Bytes, AllocError>
+    requires { local ≤ length payload.now }
+    ensures { IfOk result (λ cell. cell ≡ cell_bytes IndexLeaf (entry_view (length payload.now) local overflow) (take local payload.now)) }
+{
+    let view = CellView {
+        size: 0,
+        rowid: 0,
+        child: 0,
+        payload: payload.len() as u64,
+        local_at: 0,
+        local,
+        overflow,
+    };
+    spell(alloc, &view, &payload[..local as usize])
+}
+
+/// The cell of an entry that needs no overflow chain; None where it needs one.
+pub fn whole_cell(alloc: Global, usable: u32, payload: &[u8]) -> Result<Option<Bytes>, AllocError>
+    requires usable { IsUsable usable }
+    requires payload { length payload.now ≤ payload_limit }
+    ensures made { IfOk result (λ made. IfSome made (λ cell. (sizes : Sizes) (base : Paged) → sizes.usable ≡ usable → MakesCell sizes payload.now cell base base)) }
+    ensures cell { IfOk result (λ made. IfSome made (IsOneCell IndexLeaf usable)) }
+{
+    let size = payload.len() as u64;
+    let local = local_size(PageKind::IndexLeaf, usable, size);
+    if u64::from(local) < size {
+        return Ok(None);
+    }
+    let cell = cell_of(alloc, payload, local, 0)?;
+    Ok(Some(cell))
 }
 
 /// Makes the cell of an entry, and writes the overflow chain of what the cell does not keep. Refuses [51] and [50].
@@ -48,15 +83,6 @@ pub fn make_cell<S: PageWrite>(
     let local = local_size(PageKind::IndexLeaf, store.usable(), size);
     let kept = local as usize;
     let overflow = write_overflow(alloc, store, &payload[kept..], limit)?;
-    let view = CellView {
-        size: 0,
-        rowid: 0,
-        child: 0,
-        payload: size,
-        local_at: 0,
-        local,
-        overflow,
-    };
-    let cell = spell(alloc, &view, &payload[..kept])?;
+    let cell = cell_of(alloc, payload, local, overflow)?;
     Ok(cell)
 }

@@ -13,6 +13,7 @@ ghost use Rattle.tree_walk.specs.Pages.{IsDecoded};
 ghost use Rattle.tree_index.specs.Needs.{RefusesFull, RefusesLeaf, RefusesUnder, overflow_pages, put_pages};
 ghost use Rattle.tree_index.specs.Puts.{EntersInto, EntersLeafRoot, PassesToRoot, PutsEntry, RaisesRoot, risen_cells};
 
+use crate::alone::put_entry;
 use crate::descending::{Below, child_number, only, put_below};
 use crate::entries::make_cell;
 use crate::searching::{Sought, search};
@@ -27,8 +28,8 @@ use tree_pages::TreeFault;
 use tree_spec::damaged;
 use tree_walk::{TreePage, read_page};
 
-// The most pages below a root, from its children to the leaves.
-const LEVELS: u32 = 24;
+/// The most pages below a root, from its children to the leaves.
+pub const LEVELS: u32 = 24;
 
 /// What a put of an entry came to.
 #[derive(Clone, Copy, Debug, PartialEq, Eq)]
@@ -177,8 +178,8 @@ fn pass_to_root<S: PageWrite>(
     }
 }
 
-// Puts an entry into the tree of a root, unless an equal one stands there. Refuses [55], [51] and [50].
-fn put_root<S: PageWrite>(
+/// Puts an entry into the tree of a root, unless an equal one stands there. Refuses [55], [51] and [50].
+pub fn put_root<S: PageWrite>(
     alloc: Global,
     store: &mut S,
     root: u32,
@@ -239,5 +240,5 @@ pub fn put<S: PageWrite>(
     ensures refuses { RefusesFull S.PageRead order.now root (put_pages (S.usable store.old) (length payload.now)) limit store.old store.new result }
     ensures owes { OwesBy S.PageRead fault_in store.old store.new result }
 {
-    put_root(alloc, store, root, payload, order, limit)
+    put_entry(alloc, store, root, payload, order, limit)
 }

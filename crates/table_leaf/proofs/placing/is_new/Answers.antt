@@ -3,7 +3,7 @@ use Rattle.std.proofs.lemmas.Int.{to_z-of_z}
 use Rattle.std.specs.Int.{w64}
 use Rattle.format_spec.specs.declared.CellView.{CellView}
 use Rattle.put_spec.specs.Steps.{Spelled}
-use Rattle.table_leaf.proofs.Cells.{many-cells}
+use Rattle.page_shape.specs.ShapesLaws.{many-cells}
 use Rattle.table_leaf.proofs.Narrowing.{meets-here, meets-within, not-true}
 use Rattle.table_leaf.proofs.placing.is_new.Goals as goal
 

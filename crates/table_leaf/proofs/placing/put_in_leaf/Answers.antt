@@ -6,7 +6,7 @@ use Rattle.page_store.specs.StoreLaws.{Leads-told}
 use Rattle.tree_pages.specs.Writers.{paged, sizes_of}
 use Rattle.table_leaf.specs.Leaves.{PlacesRow, PutsAlone}
 use Rattle.table_leaf.specs.LeavesLaws.{puts-alone}
-use Rattle.table_leaf.proofs.Writing.{page-there, page-written}
+use Rattle.page_shape.specs.WritingLaws.{page-there, page-written}
 use Rattle.table_leaf.proofs.placing.put_in_leaf.Goals as goal
 
 pub returns-in-Ok-clause-put : goal.returns-in-Ok-clause-put

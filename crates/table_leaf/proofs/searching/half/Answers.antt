@@ -2,7 +2,7 @@ use Rattle.std.proofs.Common.{◌+◌, ◌-◌, ◌/◌, ◌<◌, ◌<ℤ◌, �
 use Rattle.std.proofs.lemmas.Int.{to_z-of_z}
 use Rattle.std.specs.Int.{w64}
 use Rattle.put_spec.specs.Steps.{Spelled}
-use Rattle.table_leaf.proofs.Cells.{many-cells}
+use Rattle.page_shape.specs.ShapesLaws.{many-cells}
 use Rattle.table_leaf.proofs.Narrowing.{narrowed-high, narrowed-low, not_lt}
 use Rattle.table_leaf.proofs.searching.half.Goals as goal
 

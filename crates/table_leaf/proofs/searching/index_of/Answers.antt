@@ -4,7 +4,7 @@ use Rattle.std.specs.Int.{w64}
 use Rattle.put_spec.specs.Children.{Belongs}
 use Rattle.put_spec.specs.Steps.{views_in}
 use Rattle.table_leaf.specs.Searches.{IsNarrowed, rowids_in}
-use Rattle.table_leaf.proofs.Cells.{many-cells}
+use Rattle.page_shape.specs.ShapesLaws.{many-cells}
 use Rattle.table_leaf.proofs.Narrowing.{narrowed-belongs, narrowed-first}
 use Rattle.table_leaf.proofs.searching.index_of.Goals as goal
 

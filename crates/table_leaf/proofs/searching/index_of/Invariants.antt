@@ -1,6 +1,7 @@
 use Rattle.std.proofs.Common.{◌-◌, ◌≤◌, ℕ, ℤ, List}
 use Rattle.put_spec.specs.Steps.{Spelled}
-use Rattle.table_leaf.specs.Searches.{AreCells, Climbs, IsNarrowed, rowids_in}
+use Rattle.page_shape.specs.Shapes.{AreCells}
+use Rattle.table_leaf.specs.Searches.{Climbs, IsNarrowed, rowids_in}
 use Rattle.table_leaf.proofs.searching.index_of.Given as goal
 
 abbrev pub invariant-loop-span : goal.invariant-loop-span

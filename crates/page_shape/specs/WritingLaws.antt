@@ -1,5 +1,5 @@
--- A page of a store is written.
-use Rattle.std.proofs.Common.{◌≡◌, ◌≢◌, ℕ, ◌<◌, List, slice_index, refl, sym, ap, ◌∙◌}
+-- A page of a store is written: crates above cite these facts in their proofs.
+use Rattle.std.proofs.Common.{◌≡◌, ℕ, ◌<◌, List, slice_index, sym, ap, ◌∙◌}
 use Rattle.format_spec.specs.Page.{header_place}
 use Rattle.page_spec.specs.Pages.{Pages, with_page}
 use Rattle.page_spec.specs.PagesLaws.{with_page-itself, with_page-other}

@@ -2,7 +2,7 @@
 ghost use Rattle.std.specs.Prelude.{◌≡◌, ◌<◌, ◌≤◌, ℕ, List, IfSome, length, slice_index_or};
 ghost use Rattle.format_spec.specs.Sizes.{IsUsable};
 ghost use Rattle.put_spec.specs.Steps.{Spelled, child_page};
-ghost use Rattle.table_leaf.specs.Searches.{AreCells, HasShape};
+ghost use Rattle.page_shape.specs.Shapes.{AreCells, HasShape};
 
 use cell_codec::{CellView, PageKind, read_cell};
 use page_layout::{count_of, header_length, header_place, page_kind, place_of, right_child};

@@ -1,8 +1,8 @@
 use Rattle.std.proofs.Common.{◌<◌, ◌≤◌, [], length, ap, sym, ◌∙◌, arith}
 use Rattle.format_spec.specs.declared.CellView.{CellView}
 use Rattle.put_spec.specs.Steps.{Spelled, bytes_in}
-use Rattle.table_leaf.proofs.Cells.{child-behind, child-here, many-cells}
-use Rattle.table_leaf.proofs.shape.child_at.Goals as goal
+use Rattle.page_shape.specs.ShapesLaws.{child-behind, child-here, many-cells}
+use Rattle.page_shape.proofs.shape.child_at.Goals as goal
 
 pub returns-then-at-shape : goal.returns-then-at-shape
 returns-then-at-shape c = λ cells right are.

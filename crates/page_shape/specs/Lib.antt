@@ -1,0 +1,4 @@
+pub mod Shapes
+pub mod ShapesLaws
+pub mod OwnCellsLaws
+pub mod WritingLaws

@@ -1,7 +1,5 @@
 mod OneLeaf
-mod Lists
 mod Halves
-mod Places
 mod Entering
 mod Spelling
 mod Needed

@@ -26,7 +26,7 @@ use Rattle.tree_index.specs.Entries.{EntryDone, EntryRooted, members_before, mem
 use Rattle.tree_index.specs.EntriesLaws.{entry-in_leaf, entry-leaves_page, members-around}
 use Rattle.tree_index.specs.Puts.{IsEntered, MakesCell, PutsRoot, TriesInto, entry_before}
 use Rattle.tree_index.proofs.Entering.{ready-after}
-use Rattle.tree_index.proofs.Places.{child-rises, leaf-high, leaf-list, leaf-low, page-high, page-low}
+use Rattle.tree_index.specs.PlacesLaws.{child-rises, leaf-high, leaf-list, leaf-low, page-high, page-low}
 
 -- where no divider came, the tree of a root has the entry
 rooted : (sizes : Sizes) (levels : ℕ) (before : Before levels) (new : Paged) (front back : List Member) → EntryDone sizes levels before new [] front back → EntryRooted sizes levels before new front back

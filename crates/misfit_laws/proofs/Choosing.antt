@@ -1,15 +1,13 @@
 -- One of two productions, a thing or nothing, and a token or none.
-use Rattle.std.proofs.Common.{◌≡◌, ℕ, Bool, true, false, ◌&&◌, ◌||◌, List, [], ◌∷◌, ◌++◌, refl, sym, ap, ◌∙◌, subst, inl, inr}
-use Rattle.std.specs.Prelude.{IsTrue, IsFalse, Option, Some, None, ⊤, codes}
-use Rattle.std.specs.List.{list_any}
+use Rattle.std.proofs.Common.{◌≡◌, ℕ, Bool, true, false, ◌&&◌, ◌||◌, List, [], ◌∷◌, ◌++◌, refl, sym, ap, ◌∙◌, inl, inr}
+use Rattle.std.specs.Prelude.{IsTrue, Some, None}
 use Rattle.schema_spec.specs.declared.token.TokenKind.{TokenKind}
 use Rattle.schema_spec.specs.declared.token.Token.{Token}
-use Rattle.schema_spec.specs.Words.{is_sign, is_word_of, is_keyword, is_one_of}
 use Rattle.schema_spec.specs.Fronts.{Front, Behind, Stops, ◌>>=◌, begins, either, nothing, optional, ended}
-use Rattle.grammar_laws.specs.TestsLaws.{Alike, Respects, none}
-use Rattle.grammar_laws.specs.ProductionsLaws.{Alikes, Same, Next, Part, Tests, tests-one, chosen-first, chosen-second, part-either, part-or_nothing, part-ended}
+use Rattle.grammar_laws.specs.TestsLaws.{Respects, none}
+use Rattle.grammar_laws.specs.ProductionsLaws.{Alikes, Tests, tests-one, chosen-first, chosen-second, part-either, part-or_nothing, part-ended}
 use Rattle.misfit_laws.proofs.Fillers.{Filler, lexeme, token_of, AreFillers}
-use Rattle.misfit_laws.proofs.Continuing.{Anything, Ends, Passed, OneTaken, Mended, Continues, longer, nothing-left, first-none, behind-same, continues-same, continues-fewer, continues-one, continues-nothing, continues-then, continues-made}
+use Rattle.misfit_laws.proofs.Continuing.{Anything, Ends, Passed, OneTaken, Mended, Continues, longer, nothing-left, first-none, behind-same, continues-same, continues-fewer, continues-one, continues-then, continues-made}
 
 begun-one : (at t : List ℕ → Token → Bool) → ((text : List ℕ) (c : Token) → t text c ≡ true → at text c ≡ true) → (text : List ℕ) (tokens : List Token) → begins (t text) tokens ≡ true → begins (at text) tokens ≡ true
 begun-one at t begun text [] e = e

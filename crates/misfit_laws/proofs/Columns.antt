@@ -8,7 +8,7 @@ use Rattle.schema_spec.specs.declared.syntax.ColumnRule.TheVariants.{PrimaryKey,
 use Rattle.schema_spec.specs.Words.{constraint_words, is_keyword, is_word_of, is_sign, is_name}
 use Rattle.schema_spec.specs.Fronts.{Front, Behind, Stops, ◌>>=◌, begins, one, either, nothing, optional, many}
 use Rattle.schema_spec.specs.Brackets.{bracketed}
-use Rattle.schema_spec.specs.ColumnGrammar.{word, name, at_word, collation, on_conflict, made, primary_key, not_null, one_word, collate, default, check, refers, generated_as, generated, column_rule, column_constraint, column}
+use Rattle.schema_spec.specs.ColumnGrammar.{word, name, at_word, on_conflict, made, primary_key, not_null, one_word, collate, default, check, refers, generated_as, generated, column_rule, column_constraint, column}
 use Rattle.grammar_laws.specs.Lexemes.{is_whole}
 use Rattle.grammar_laws.specs.TestsLaws.{Alike, none, word-respects, wordy-whole, words-more, words-first, words-others, keyword-words}
 use Rattle.grammar_laws.specs.ProductionsLaws.{tests-one, chosen-first, chosen-second}

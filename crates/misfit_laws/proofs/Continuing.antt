@@ -1,13 +1,13 @@
 -- What a production takes can go on: with tokens that complete it, and with whatever may follow it.
 use Rattle.std.proofs.Common.{◌≡◌, ℕ, ◌<◌, Bool, true, false, ◌&&◌, ◌⊎◌, List, [], ◌∷◌, ◌++◌, length, refl, sym, ap, ◌∙◌, subst, inl, inr, arith, length-append}
 use Rattle.std.proofs.Math.Path.{subst⁻¹}
-use Rattle.std.proofs.lemmas.List.{append_assoc, append-nil, append_cancel_right}
+use Rattle.std.proofs.lemmas.List.{append_assoc, append_cancel_right}
 use Rattle.std.specs.Prelude.{IsTrue, IsFalse, codes, ⊤}
 use Rattle.schema_spec.specs.declared.token.TokenKind.{TokenKind}
 use Rattle.schema_spec.specs.declared.token.Token.{Token}
 use Rattle.schema_spec.specs.Words.{is_sign, is_keyword}
 use Rattle.schema_spec.specs.Fronts.{Front, Behind, Stops, ◌>>=◌, begins, one}
-use Rattle.grammar_laws.specs.TestsLaws.{Alike, Respects, none, sign-respects}
+use Rattle.grammar_laws.specs.TestsLaws.{Respects, none, sign-respects}
 use Rattle.grammar_laws.specs.ProductionsLaws.{Alikes, alikes-front, alikes-back, Same, Next, Outcome, Part, part-same, part-looks, part-one, part-nothing, part-then_taken, part-made}
 use Rattle.misfit_laws.proofs.Fillers.{Filler, Closing, lexeme, token_of, AreFillers, fillers-split}
 

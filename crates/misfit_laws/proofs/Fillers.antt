@@ -1,17 +1,15 @@
 -- Tokens with which a text is brought into the grammar.
-use Rattle.std.proofs.Common.{◌≡◌, ℕ, ◌+◌, ◌-◌, ◌<◌, ◌≤◌, ◌==◌, ◌&&◌, ◌||◌, Bool, true, false, List, [], ◌∷◌, ◌++◌, length, get_or, take, drop, refl, sym, ap, ◌∙◌, subst, arith, if◌then◌else◌}
+use Rattle.std.proofs.Common.{◌≡◌, ℕ, ◌+◌, ◌-◌, ◌<◌, ◌≤◌, ◌&&◌, Bool, true, false, List, [], ◌∷◌, ◌++◌, length, get_or, take, drop, refl, sym, ap, ◌∙◌, subst, arith}
 use Rattle.std.proofs.lemmas.Bool.Decides.{nat_tests}
 use Rattle.std.proofs.Math.Seq.{take-length}
 use Rattle.std.proofs.lemmas.List.{drop-drop, get_or-drop, get_or-take}
-use Rattle.std.specs.Prelude.{not, IsTrue, IsFalse, nat_le, slice_range, slice_index, map}
+use Rattle.std.specs.Prelude.{not, IsTrue, nat_le, slice_range, map}
 use Rattle.std.specs.List.{list_all, AllByRecursion, AllZip}
-use Rattle.schema_spec.specs.declared.token.TokenKind.{TokenKind}
-use Rattle.schema_spec.specs.declared.token.TokenKind.TheVariants.{Space, LineComment, BlockComment, Word, Number, Quoted, Bracketed, Sign}
+use Rattle.schema_spec.specs.declared.token.TokenKind.TheVariants.{Word, Number, Sign}
 use Rattle.schema_spec.specs.declared.token.Token.{Token}
 use Rattle.schema_spec.specs.Parts.{IsRun}
 use Rattle.schema_spec.specs.Tokens.{is_white, is_word_byte, is_quote, begins_number, opening, goes_on, part_of, first_part}
 use Rattle.schema_spec.specs.TokensLaws.{past-run}
-use Rattle.schema_spec.specs.Words.{spelling, inner}
 use Rattle.grammar_laws.specs.Lexemes.{Lexeme, Opens, IsLexeme, IsSpelled}
 use Rattle.grammar_laws.specs.TestsLaws.{Alike}
 use Rattle.grammar_laws.specs.AlikeLaws.{range-front}

@@ -1,11 +1,11 @@
 -- What may follow a production begins with no token of another kind.
 use Rattle.std.proofs.Common.{◌≡◌, ℕ, ◌==◌, Bool, true, false, List, [], ◌∷◌, refl, ap, ◌∙◌, inl, inr}
-use Rattle.std.specs.Prelude.{not, codes}
+use Rattle.std.specs.Prelude.{codes}
 use Rattle.schema_spec.specs.declared.token.Token.{Token}
 use Rattle.schema_spec.specs.Words.{is_one_of, is_sign, is_keyword, is_word_of, is_type_word}
 use Rattle.schema_spec.specs.Fronts.{begins}
 use Rattle.grammar_laws.specs.TestsLaws.{sign-not_word, sign-not_type, sign-other, keyword-words, keyword-type, keyword-not_sign}
-use Rattle.misfit_laws.proofs.Continuing.{Ends, Closes, Bounded, AtNot, Apart}
+use Rattle.misfit_laws.proofs.Continuing.{Ends, Closes, Bounded, Apart}
 
 module _ (t : List ℕ → Token → Bool) (closing : (text : List ℕ) (c : Token) → is_sign 41 text c ≡ true → t text c ≡ false) (comma : (text : List ℕ) (c : Token) → is_sign 44 text c ≡ true → t text c ≡ false) where
   pub bounded-free : (text : List ℕ) (rest : List Token) → Bounded text rest → begins (t text) rest ≡ false

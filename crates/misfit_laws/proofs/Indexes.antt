@@ -1,5 +1,5 @@
 -- The productions of indexes.
-use Rattle.std.proofs.Common.{◌≡◌, ℕ, Bool, true, false, ◌||◌, ◌⊎◌, List, [], ◌∷◌, ◌++◌, refl, sym, ap, ◌∙◌, subst, inl, inr}
+use Rattle.std.proofs.Common.{◌≡◌, ℕ, Bool, true, false, ◌||◌, List, [], ◌∷◌, ◌++◌, refl, sym, ap, ◌∙◌, subst, inl}
 use Rattle.std.proofs.lemmas.List.{append_assoc}
 use Rattle.std.specs.Prelude.{IsTrue, is_some, Some, None, codes}
 use Rattle.std.specs.List.{AllByRecursion}
@@ -14,8 +14,8 @@ use Rattle.schema_spec.specs.TableGrammar.{stands_alone, indexed_column, indexed
 use Rattle.grammar_laws.specs.Lexemes.{is_whole}
 use Rattle.grammar_laws.specs.TestsLaws.{none, is_wordy, ends-respects, wordy-whole, ends-not_wordy, not_sql-not_wordy, ends-not_name}
 use Rattle.grammar_laws.specs.ProductionsLaws.{Alikes, Same, Next, next-same, same-next, same-behind, alikes-front, alikes-back, Outcome, Part, tests-one, chosen-first, chosen-second}
-use Rattle.misfit_laws.proofs.Fillers.{Filler, Capitals, Opening, Closing, AreFillers}
-use Rattle.misfit_laws.proofs.Continuing.{Ends, Closes, Apart, Passed, Mended, Continues, longer, behind-same, bind-passed, closes-apart, continues-then, continues-before, continues-fewer, continues-nothing, continues-made}
+use Rattle.misfit_laws.proofs.Fillers.{Filler, Capitals, Opening, Closing}
+use Rattle.misfit_laws.proofs.Continuing.{Ends, Closes, Apart, Passed, Mended, Continues, longer, behind-same, bind-passed, closes-apart, continues-then, continues-before, continues-made}
 use Rattle.misfit_laws.proofs.Choosing.{continues-maybe, continues-maybe_then, continues-ended}
 use Rattle.misfit_laws.proofs.Following.{apart-words, ends-free}
 use Rattle.misfit_laws.proofs.Skips.{some_to_end-continues}

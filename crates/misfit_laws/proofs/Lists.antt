@@ -6,7 +6,7 @@ use Rattle.schema_spec.specs.declared.token.TokenKind.{TokenKind}
 use Rattle.schema_spec.specs.declared.token.Token.{Token}
 use Rattle.schema_spec.specs.Words.{is_keyword, is_word_of, is_sign, is_name}
 use Rattle.schema_spec.specs.Fronts.{Front, Behind, Stops, ◌>>=◌, begins, one, nothing, many}
-use Rattle.schema_spec.specs.ColumnGrammar.{word, sign, name, at_sign, listed, list_in_brackets, collation, order, listed_column, on_conflict, collate}
+use Rattle.schema_spec.specs.ColumnGrammar.{word, sign, name, at_sign, listed, list_in_brackets, collation, order, listed_column, on_conflict}
 use Rattle.grammar_laws.specs.Lexemes.{is_whole}
 use Rattle.grammar_laws.specs.TestsLaws.{Respects, none, is_wordy, word-respects, sign-respects, name-respects, word-wordy, name-wordy, wordy-whole, sign-whole, sign-other}
 use Rattle.grammar_laws.specs.ProductionsLaws.{none-first, Alikes, Next, Outcome, Part, tests-one, chosen-first, chosen-second}

@@ -5,12 +5,12 @@ use Rattle.std.proofs.Math.Bool.{and-false}
 use Rattle.schema_spec.specs.declared.token.Token.{Token}
 use Rattle.schema_spec.specs.Words.{is_keyword, is_word_of, is_sign}
 use Rattle.schema_spec.specs.Fronts.{Front, Behind, ◌>>=◌, begins, one, either, nothing, optional, many}
-use Rattle.schema_spec.specs.ColumnGrammar.{word, at_word, at_words, foreign_action, foreign_clause, at_deferral, deferral, references, column}
+use Rattle.schema_spec.specs.ColumnGrammar.{word, at_word, at_words, foreign_action, foreign_clause, at_deferral, deferral, references}
 use Rattle.grammar_laws.specs.Lexemes.{is_whole}
 use Rattle.grammar_laws.specs.TestsLaws.{none, sign-respects, words-more, words-first, words-others, keyword-words}
 use Rattle.grammar_laws.specs.ProductionsLaws.{none-first, Same, Next, next-same, same-next, Tests, tests-one, chosen-first}
 use Rattle.misfit_laws.proofs.Fillers.{Filler, Capitals}
-use Rattle.misfit_laws.proofs.Continuing.{Anything, Bounded, Apart, OneTaken, Continues, taken, first-none, first-stop, continues-fewer, bounded-apart, one-passes, continues-nothing, continues-then, continues-before, continues-made}
+use Rattle.misfit_laws.proofs.Continuing.{Anything, Bounded, Apart, OneTaken, Continues, first-none, first-stop, continues-fewer, bounded-apart, one-passes, continues-nothing, continues-then, continues-before, continues-made}
 use Rattle.misfit_laws.proofs.Choosing.{continues-either, continues-or_nothing, continues-maybe, continues-maybe_then}
 use Rattle.misfit_laws.proofs.Repeating.{continues-many}
 use Rattle.misfit_laws.proofs.Following.{bounded-words, apart-words, apart-sign}

@@ -1,14 +1,14 @@
 -- One thing behind the other, as long as one begins.
-use Rattle.std.proofs.Common.{◌≡◌, ℕ, zero, suc, ◌+◌, ◌<◌, ◌≤◌, Bool, true, false, ◌||◌, ◌⊎◌, List, [], ◌∷◌, ◌++◌, length, refl, sym, ap, ◌∙◌, subst, inl, inr, arith, length-append}
+use Rattle.std.proofs.Common.{◌≡◌, ℕ, zero, suc, ◌<◌, ◌≤◌, Bool, true, false, ◌||◌, ◌⊎◌, List, [], ◌∷◌, ◌++◌, length, refl, sym, ap, ◌∙◌, subst, inl, inr, arith, length-append}
 use Rattle.std.proofs.lemmas.List.{append_assoc}
 use Rattle.std.specs.Prelude.{IsFalse}
 use Rattle.schema_spec.specs.declared.token.TokenKind.{TokenKind}
 use Rattle.schema_spec.specs.declared.token.Token.{Token}
-use Rattle.schema_spec.specs.Fronts.{Front, Behind, Stops, ◌>>=◌, begins, either, nothing, many}
+use Rattle.schema_spec.specs.Fronts.{Front, Behind, Stops, ◌>>=◌, begins, nothing, many}
 use Rattle.grammar_laws.specs.TestsLaws.{Alike}
-use Rattle.grammar_laws.specs.ProductionsLaws.{Alikes, alikes-front, alikes-back, Next, Part, Tests, chosen-first, chosen-second, shorter, many-step, part-many}
+use Rattle.grammar_laws.specs.ProductionsLaws.{Alikes, alikes-front, alikes-back, Part, Tests, chosen-first, chosen-second, shorter, many-step, part-many}
 use Rattle.misfit_laws.proofs.Fillers.{Filler, AreFillers}
-use Rattle.misfit_laws.proofs.Continuing.{Passed, OneTaken, Mended, Continues, longer, nothing-left, parted, taken, taken-stop, taken-again, first-stop, behind-same, bind-passed, bind-stopped}
+use Rattle.misfit_laws.proofs.Continuing.{Passed, OneTaken, Mended, Continues, nothing-left, parted, taken, taken-stop, taken-again, first-stop, behind-same, bind-passed, bind-stopped}
 
 or-first : (a b : Bool) → a ≡ true → (a || b) ≡ true
 or-first a b e = ap (λ x. x || b) e

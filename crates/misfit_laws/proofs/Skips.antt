@@ -1,7 +1,7 @@
 -- What is skipped: texts in brackets, tokens to an end, and words of a type.
-use Rattle.std.proofs.Common.{◌≡◌, ℕ, zero, suc, ◌+◌, ◌-◌, ◌<◌, ◌≤◌, Bool, true, false, List, [], ◌∷◌, ◌++◌, length, refl, sym, ap, ◌∙◌, inl, inr, arith, length-append}
+use Rattle.std.proofs.Common.{◌≡◌, ℕ, zero, suc, ◌+◌, ◌-◌, ◌≤◌, Bool, true, false, List, [], ◌∷◌, ◌++◌, length, refl, sym, ap, ◌∙◌, inl, inr, arith, length-append}
 use Rattle.std.proofs.lemmas.List.{append-nil}
-use Rattle.std.specs.Prelude.{IsTrue, if◌then◌else◌, ⊤, codes}
+use Rattle.std.specs.Prelude.{IsTrue, if◌then◌else◌, codes}
 use Rattle.schema_spec.specs.declared.token.Token.{Token}
 use Rattle.schema_spec.specs.Words.{is_sign, is_sql, is_type_word}
 use Rattle.schema_spec.specs.Fronts.{Front, Behind, Stops, begins}
@@ -11,7 +11,7 @@ use Rattle.grammar_laws.specs.Lexemes.{is_whole}
 use Rattle.grammar_laws.specs.TestsLaws.{Alike, none, sql-respects, sign-respects, type-respects, open-respects, sign-whole, sql-whole, type-whole}
 use Rattle.grammar_laws.specs.ProductionsLaws.{Alikes, Same, Next, Outcome, Part}
 use Rattle.misfit_laws.proofs.Fillers.{Filler, Capitals, Opening, Closing, lexeme, token_of, IsFiller, AreFillers}
-use Rattle.misfit_laws.proofs.Continuing.{Anything, Ends, Apart, Passed, OneTaken, Mended, Continues, longer, nothing-left, taken, behind-same, continues-one, continues-then}
+use Rattle.misfit_laws.proofs.Continuing.{Anything, Ends, Apart, Passed, OneTaken, Continues, longer, nothing-left, taken, behind-same, continues-one, continues-then}
 use Rattle.misfit_laws.proofs.Following.{apart-type}
 
 -- a token, and what a production takes behind it

@@ -5,10 +5,10 @@ use Rattle.schema_spec.specs.declared.token.Token.{Token}
 use Rattle.schema_spec.specs.declared.schema.Table.{Table}
 use Rattle.schema_spec.specs.declared.schema.SqlFault.TheVariants.{SqlSyntax}
 use Rattle.schema_spec.specs.declared.syntax.TableStatement.TheVariants.{Table as TableStatementOf}
-use Rattle.schema_spec.specs.Tokens.{AreTokens, tokens_of}
+use Rattle.schema_spec.specs.Tokens.{tokens_of}
 use Rattle.schema_spec.specs.TokensLaws.{tokens-one, tokens-are}
 use Rattle.schema_spec.specs.Words.{is_keyword}
-use Rattle.schema_spec.specs.Fronts.{Front, Behind, Stops, ◌>>=◌, either, nothing, optional}
+use Rattle.schema_spec.specs.Fronts.{Behind, Stops, ◌>>=◌, either, nothing, optional}
 use Rattle.schema_spec.specs.Brackets.{some_to_end}
 use Rattle.schema_spec.specs.ColumnGrammar.{word, name, at_word, list_in_brackets}
 use Rattle.schema_spec.specs.TableGrammar.{virtual_table, view, table, table_statement, indexed_part, index_statement}

@@ -6,11 +6,11 @@ use Rattle.schema_spec.specs.declared.token.TokenKind.{TokenKind}
 use Rattle.schema_spec.specs.declared.token.Token.{Token}
 use Rattle.schema_spec.specs.declared.syntax.ListedColumn.{ListedColumn}
 use Rattle.schema_spec.specs.Words.{is_name, is_keyword, is_word_of}
-use Rattle.schema_spec.specs.Fronts.{Front, Behind, Stops, ◌>>=◌, begins, one, either, nothing}
+use Rattle.schema_spec.specs.Fronts.{Front, Behind, Stops, ◌>>=◌, begins, nothing}
 use Rattle.schema_spec.specs.ColumnGrammar.{word, name, at_word, collation, order, listed_column}
 use Rattle.grammar_laws.specs.Lexemes.{is_whole}
-use Rattle.grammar_laws.specs.TestsLaws.{Respects, none, wordy-whole}
-use Rattle.grammar_laws.specs.ProductionsLaws.{Alikes, alikes-front, alikes-back, Part, chosen-first, chosen-second}
+use Rattle.grammar_laws.specs.TestsLaws.{none, wordy-whole}
+use Rattle.grammar_laws.specs.ProductionsLaws.{Alikes, alikes-front, alikes-back, Part, chosen-first}
 use Rattle.misfit_laws.proofs.Fillers.{Filler}
 use Rattle.misfit_laws.proofs.Continuing.{Anything, Apart, Continues, nothing-left, parted, taken-stop, first-stop, bind-stopped, one-stopped, one-passes, one-stops, continues-nothing, continues-then, continues-before, continues-made}
 use Rattle.misfit_laws.proofs.Lists.{word-continues, keyword-respects, name-continues, collations-continues, orders-continues, order-goes}

@@ -1,28 +1,27 @@
 -- The productions of tables, virtual tables and views.
-use Rattle.std.proofs.Common.{◌≡◌, ℕ, ◌<◌, ◌≤◌, Bool, true, false, ◌&&◌, ◌||◌, ◌⊎◌, List, [], ◌∷◌, ◌++◌, length, refl, sym, ap, ◌∙◌, inl, inr, arith, length-append}
-use Rattle.std.specs.Prelude.{not, Some, None, codes}
+use Rattle.std.proofs.Common.{◌≡◌, ℕ, ◌<◌, Bool, true, false, ◌&&◌, ◌||◌, ◌⊎◌, List, [], ◌∷◌, ◌++◌, length, refl, sym, ap, ◌∙◌, inl, inr, arith, length-append}
+use Rattle.std.specs.Prelude.{not, None, codes}
 use Rattle.schema_spec.specs.declared.token.Token.{Token}
 use Rattle.schema_spec.specs.declared.syntax.ColumnText.{ColumnText}
-use Rattle.schema_spec.specs.declared.syntax.ListedColumn.{ListedColumn}
 use Rattle.schema_spec.specs.declared.syntax.TableConstraint.{TableConstraint}
 use Rattle.schema_spec.specs.declared.syntax.TableRule.TheVariants.{PrimaryKey, Unique, Check, ForeignKey}
 use Rattle.schema_spec.specs.declared.syntax.TableOption.TheVariants.{WithoutRowid, Strict}
 use Rattle.schema_spec.specs.declared.syntax.TableStatement.{TableStatement}
 use Rattle.schema_spec.specs.declared.syntax.TableStatement.TheVariants.{Table, Virtual, View}
 use Rattle.schema_spec.specs.Words.{table_constraint_words, is_keyword, is_word_of, is_sign}
-use Rattle.schema_spec.specs.Fronts.{Front, Behind, Stops, ◌>>=◌, begins, either, nothing, many}
+use Rattle.schema_spec.specs.Fronts.{Front, Behind, Stops, ◌>>=◌, begins, many}
 use Rattle.schema_spec.specs.ColumnGrammar.{sign, name, at_sign, column}
 use Rattle.schema_spec.specs.TableGrammar.{key_columns, table_primary_key, table_unique, table_check, foreign_key, table_rule, table_constraint, at_column, table_option, table_options, table, virtual_table, view, table_statement}
 use Rattle.grammar_laws.specs.Lexemes.{is_whole}
 use Rattle.grammar_laws.specs.TestsLaws.{Alike, none, word-respects, sign-respects, words-more, sign-not_word, sign-other}
-use Rattle.grammar_laws.specs.ProductionsLaws.{Same, Next, same-next, Part, Tests, tests-one}
+use Rattle.grammar_laws.specs.ProductionsLaws.{Same, same-next, Tests, tests-one}
 use Rattle.misfit_laws.proofs.Fillers.{Filler, Capitals, Opening, Closing, Comma, lexeme, token_of, AreFillers}
-use Rattle.misfit_laws.proofs.Continuing.{Anything, Ends, Closes, Bounded, Apart, Passed, OneTaken, Continues, taken, taken-stop, first-none, first-stop, behind-same, bind-passed, bind-stopped, continues-fewer, closes-bounded, closes-apart, bounded-apart, ends-apart, one-passes, continues-both, continues-nothing, continues-then, continues-before, closing-before, continues-closed, continues-made}
+use Rattle.misfit_laws.proofs.Continuing.{Anything, Ends, Closes, Bounded, Apart, Passed, OneTaken, Continues, taken, taken-stop, bind-passed, bind-stopped, continues-fewer, closes-bounded, closes-apart, bounded-apart, one-passes, continues-both, continues-nothing, continues-then, continues-before, closing-before, continues-closed, continues-made}
 use Rattle.misfit_laws.proofs.Choosing.{continues-either, continues-maybe, continues-maybe_then, continues-ended}
 use Rattle.misfit_laws.proofs.Repeating.{continues-many, items-left}
 use Rattle.misfit_laws.proofs.Following.{apart-words, closes-free, ends-free}
 use Rattle.misfit_laws.proofs.Skips.{bracketed-continues, some_to_end-continues}
-use Rattle.misfit_laws.proofs.Lists.{never-none, a_name, both_orders, word-continues, words-whole, keyword-respects, opening-continues, closing-continues, comma-continues, name-continues, many_commas-continues, commas-short, listed-continues, list_in_brackets-continues, listed_column-continues, named-continues, on_conflict-continues, closes-no_comma}
+use Rattle.misfit_laws.proofs.Lists.{never-none, a_name, both_orders, word-continues, keyword-respects, opening-continues, closing-continues, comma-continues, name-continues, many_commas-continues, commas-short, listed-continues, list_in_brackets-continues, listed_column-continues, named-continues, on_conflict-continues, closes-no_comma}
 use Rattle.misfit_laws.proofs.References.{references_in_table-continues}
 use Rattle.misfit_laws.proofs.Columns.{column-continues}
 

@@ -10,7 +10,7 @@ use Rattle.grammar_laws.specs.Lexemes.{is_whole}
 use Rattle.grammar_laws.specs.TestsLaws.{Respects, none, or_test, sign-respects, number-respects, type-respects, literal-respects, or-respects, blob-respects, sign-whole, number-whole, type-whole, literal-whole, x-literal, hex-whole, sign-not_hex, keyword-not_hex}
 use Rattle.grammar_laws.specs.ProductionsLaws.{none-first, Alikes, Same, Part, Tests, chosen-first, chosen-second, part-same, part-one, part-then, choice-part}
 use Rattle.misfit_laws.proofs.Fillers.{Capitals, Opening, Closing, Plus, Digit, lexeme, token_of, AreFillers}
-use Rattle.misfit_laws.proofs.Continuing.{Anything, Apart, Passed, Continues, longer, nothing-left, taken, behind-same, continues-fewer, one-taken, one-stopped, one-passes, continues-one, continues-then, continues-before, continues-made}
+use Rattle.misfit_laws.proofs.Continuing.{Anything, Apart, Passed, Continues, longer, nothing-left, behind-same, continues-fewer, one-taken, one-stopped, one-passes, continues-one, continues-then, continues-before, continues-made}
 use Rattle.misfit_laws.proofs.Choosing.{continues-either, continues-maybe, continues-maybe_then}
 use Rattle.misfit_laws.proofs.Following.{apart-sign, apart-type}
 use Rattle.misfit_laws.proofs.Skips.{bracketed-continues, last_type_word-continues}

@@ -1,4 +1,4 @@
-use Rattle.std.proofs.Common.{◌≡◌, ℕ, List, ◌∷◌, refl, inl}
+use Rattle.std.proofs.Common.{◌∷◌, refl, inl}
 use Rattle.schema_spec.specs.Tokens.{tokens_of}
 use Rattle.schema_spec.specs.TokensLaws.{tokens-are}
 use Rattle.misfit_laws.proofs.Statements.{same-table_stop, same-index_stop}

@@ -1,5 +1,5 @@
 -- What a text may go on with behind one of its tokens.
-use Rattle.std.specs.Prelude.{◌≡◌, ℕ, not, Bool, true, false, IsTrue, List, [], ◌∷◌, ◌++◌, ⊤}
+use Rattle.std.specs.Prelude.{◌≡◌, ℕ, ◌+◌, not, Bool, true, false, IsTrue, List, [], ◌∷◌, ◌++◌, length, ⊤}
 use Rattle.std.specs.List.{AllZip}
 use Rattle.schema_spec.specs.declared.token.TokenKind.{TokenKind}
 use Rattle.schema_spec.specs.declared.token.TokenKind.TheVariants.{Unclosed}
@@ -37,9 +37,9 @@ is_whole _ = true
 abbrev pub IsClosed : Token → Type 0
 IsClosed token = IsTrue (is_whole token.kind)
 
--- a token of a text is this one
+-- a token of a text is this one, byte for byte
 abbrev pub IsSpelled : List ℕ → Lexeme → Token → Type 0
-IsSpelled text lexeme token = (token.kind ≡ lexeme.kind) × (spelling text token ≡ lexeme.bytes)
+IsSpelled text lexeme token = (token.kind ≡ lexeme.kind) × (spelling text token ≡ lexeme.bytes) × (token.end ≡ token.start + length lexeme.bytes)
 
 -- another text begins alike, and goes on with these tokens, to its end
 pub record GoesOn (text : List ℕ) (front behind : List Token) (lexemes : List Lexeme) : Type 0 where

@@ -64,7 +64,7 @@ fn texts_are_cut_into_tokens(rt: HostRuntime) -> Result<(), Fail> {
 }
 
 // Texts of tables, with what they mean: the name; each column's name, with the letters of its affinity and its collation, and ! where NOT NULL is said; the place of the rowid column; those of the PRIMARY KEY; and those of each automatic index, with collations.
-const TABLES: [(&str, &str); 16] = [
+const TABLES: [(&str, &str); 17] = [
     (
         "CREATE TABLE t1(a INTEGER PRIMARY KEY, b TEXT, c UNIQUE)",
         "t1|a:Ib,b:Tb,c:Bb|0|0|2b",
@@ -100,6 +100,10 @@ const TABLES: [(&str, &str); 16] = [
     (
         "CREATE TABLE t(a, b, CONSTRAINT m FOREIGN KEY (a, b) REFERENCES v ON DELETE CASCADE DEFERRABLE, CHECK (b))",
         "t|a:Bb,b:Bb|-||",
+    ),
+    (
+        "CREATE TABLE t(a DEFAULT +1 REFERENCES u ON DELETE RESTRICT ON UPDATE SET DEFAULT ON INSERT CASCADE DEFERRABLE INITIALLY IMMEDIATE, FOREIGN KEY (a COLLATE NOCASE ASC) REFERENCES u (a) MATCH f NOT DEFERRABLE)",
+        "t|a:Bb|-||",
     ),
     ("CrEaTe/* c */TABLE t(a--x\n,b)", "t|a:Bb,b:Bb|-||"),
     (
@@ -149,6 +153,54 @@ const NO_TABLES: [(&str, u64); 22] = [
     ("CREATE TABLE t(a, FOREIGN KEY (z) REFERENCES u)", 31),
     ("CREATE TABLE t(a PRIMARY KEY, b PRIMARY KEY)", 32),
     ("CREATE TABLE t1(a INTEGER PRIMARY KEY,)", 38),
+];
+
+// Texts of tables, virtual tables and views that leave the grammar within each of its parts, with the offset of the first token that does not fit: names and types, constraints of a column, REFERENCES and its clauses, constraints of the table, what stands behind it, and the other statements.
+const STOPS: [(&str, u64); 41] = [
+    ("CREATE TABLE (a)", 13),
+    ("CREATE TABLE t AS SELECT 1", 15),
+    ("CREATE TABLE t(a VARCHAR(1 2))", 27),
+    ("CREATE TABLE t(a VARCHAR(-b))", 26),
+    ("CREATE TABLE t(a VARCHAR(1, 2, 3))", 29),
+    ("CREATE TABLE t(a PRIMARY UNIQUE)", 25),
+    ("CREATE TABLE t(a PRIMARY KEY ON DELETE)", 32),
+    ("CREATE TABLE t(a UNIQUE ON CONFLICT STOP)", 36),
+    ("CREATE TABLE t(a CONSTRAINT 12 NULL)", 28),
+    ("CREATE TABLE t(a CONSTRAINT n, b)", 29),
+    ("CREATE TABLE t(a COLLATE )", 25),
+    ("CREATE TABLE t(a DEFAULT +b)", 26),
+    ("CREATE TABLE t(a CHECK b)", 23),
+    ("CREATE TABLE t(a REFERENCES (b))", 28),
+    ("CREATE TABLE t(a REFERENCES u (x + 1))", 32),
+    ("CREATE TABLE t(a REFERENCES u ON x)", 33),
+    ("CREATE TABLE t(a REFERENCES u ON DELETE SET x)", 44),
+    ("CREATE TABLE t(a REFERENCES u ON UPDATE NO x)", 43),
+    ("CREATE TABLE t(a REFERENCES u ON INSERT x)", 40),
+    ("CREATE TABLE t(a REFERENCES u MATCH 1)", 36),
+    ("CREATE TABLE t(a REFERENCES u NOT x)", 34),
+    ("CREATE TABLE t(a REFERENCES u DEFERRABLE INITIALLY x)", 51),
+    ("CREATE TABLE t(a GENERATED AS (1))", 27),
+    ("CREATE TABLE t(a GENERATED ALWAYS (1))", 34),
+    ("CREATE TABLE t(a AS 1)", 20),
+    ("CREATE TABLE t(a, CONSTRAINT n b)", 31),
+    ("CREATE TABLE t(a, UNIQUE (a COLLATE ))", 36),
+    ("CREATE TABLE t(a, UNIQUE (a b))", 28),
+    ("CREATE TABLE t(a, FOREIGN (a) REFERENCES u)", 26),
+    ("CREATE TABLE t(a, FOREIGN KEY (a DESC) REFERENCES u)", 33),
+    ("CREATE TABLE t(a, FOREIGN KEY (a) ON DELETE CASCADE)", 34),
+    (
+        "CREATE TABLE t(a, FOREIGN KEY (a) REFERENCES u NOT NULL)",
+        51,
+    ),
+    ("CREATE TABLE t(a) WITHOUT x", 26),
+    ("CREATE TABLE t(a) STRICT, x", 26),
+    ("CREATE TABLE t(a) STRICT WITHOUT ROWID", 25),
+    ("CREATE VIEW v (a b) AS SELECT 1", 17),
+    ("CREATE VIEW v SELECT 1", 14),
+    ("CREATE VIEW v AS SELECT '1", 24),
+    ("CREATE VIRTUAL VIEW v USING x", 15),
+    ("CREATE VIRTUAL TABLE v", 22),
+    ("CREATE VIRTUAL TABLE v USING x(a", 32),
 ];
 
 // Texts of tables outside the profile, with the clause that is answered.
@@ -220,7 +272,7 @@ const INDEXES: [(&str, &str); 3] = [
     ("create index i on [t1](\"B\" collate binary)", "i|t1||1b"),
 ];
 
-const NO_INDEXES: [(&str, u64); 8] = [
+const NO_INDEXES: [(&str, u64); 15] = [
     ("CREATE TABLE t(a)", 7),
     ("CREATE UNIQUE TABLE t(a)", 14),
     ("CREATE INDEX i ON t1()", 21),
@@ -229,6 +281,13 @@ const NO_INDEXES: [(&str, u64); 8] = [
     ("CREATE INDEX i ON t1(a, z, y)", 24),
     ("CREATE INDEX i ON t1(a) x", 24),
     ("CREATE INDEX i ON t1(a) WHERE", 29),
+    ("CREATE INDEX ON t1(a)", 13),
+    ("CREATE INDEX i t1(a)", 15),
+    ("CREATE INDEX i ON t1 USING x(a)", 21),
+    ("CREATE INDEX i ON t1(a", 22),
+    ("CREATE INDEX i ON t1((a + b", 27),
+    ("CREATE INDEX i ON t1(a + 'b)", 25),
+    ("CREATE INDEX i ON t1(a) WITH x", 24),
 ];
 
 const OUTSIDE_INDEXES: [(&str, Clause); 5] = [
@@ -382,6 +441,14 @@ fn texts_of_tables_are_read(rt: HostRuntime) -> Result<(), Fail> {
     }
     for (text, clause) in OUTSIDE {
         table_has_fault(rt.alloc(), text, SqlFault::OutsideProfile { clause })?;
+    }
+    Ok(())
+}
+
+#[test]
+fn texts_stop_within_each_part(rt: HostRuntime) -> Result<(), Fail> {
+    for (text, offset) in STOPS {
+        table_has_fault(rt.alloc(), text, SqlFault::SqlSyntax { offset })?;
     }
     Ok(())
 }

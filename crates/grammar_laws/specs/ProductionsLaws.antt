@@ -1,12 +1,12 @@
 -- What a production takes and where it stops depends on the tokens that it took and on the next one.
 use Rattle.std.proofs.Common.{◌≡◌, ℕ, zero, suc, ◌<◌, ◌≤◌, Bool, true, false, ◌⊎◌, List, [], ◌∷◌, ◌++◌, length, refl, sym, ap, ◌∙◌, subst, inl, inr, arith, length-append}
-use Rattle.std.specs.Prelude.{IsTrue, IsFalse, Some, None, ⊤}
+use Rattle.std.specs.Prelude.{IsTrue, IsFalse, ⊤}
 use Rattle.std.specs.List.{AllByRecursion}
 use Rattle.std.proofs.lemmas.List.{append_assoc}
 use Rattle.schema_spec.specs.declared.token.TokenKind.{TokenKind}
 use Rattle.schema_spec.specs.declared.token.Token.{Token}
-use Rattle.schema_spec.specs.Fronts.{Front, Behind, Stops, ◌>>=◌, begins, one, either, nothing, optional, many, at_most, ended}
-use Rattle.grammar_laws.proofs.Tests.{Alike, Respects, none}
+use Rattle.schema_spec.specs.Fronts.{Front, Behind, Stops, ◌>>=◌, begins, one, either, nothing, many, at_most, ended}
+use Rattle.grammar_laws.specs.TestsLaws.{Alike, Respects, none}
 
 -- these tokens are spelled alike in both texts
 abbrev pub Alikes : List ℕ → List ℕ → List Token → Type 0
@@ -103,19 +103,6 @@ part-same {A} {K} {looks} {at} {P} {Q} same part =
     as_other text tokens (Behind a rest) p = record { front = p.front; parted = p.parted; kinds = p.kinds; first = p.first; local = λ other others alikes next. same other (p.front ++ others) ∙ p.local other others alikes next }
     as_other text tokens (Stops rest) p = record { front = p.front; parted = p.parted; kinds = p.kinds; first = p.first; local = λ other others alikes next. same other (p.front ++ others) ∙ p.local other others alikes next }
 
--- more kinds
-pub part-wider : {A : Type 0} {K L : TokenKind → Bool} {looks at : List ℕ → Token → Bool} {P : List ℕ → List Token → Front A}
-    → ((kind : TokenKind) → IsTrue (K kind) → IsTrue (L kind)) → Part K looks at P → Part L looks at P
-part-wider {A} {K} {L} {looks} {at} {P} wider part = record { run = λ text tokens. widened text tokens (P text tokens) (part.run text tokens) }
-  where
-    all : (front : List Token) → AllByRecursion (λ c. IsTrue (K c.kind)) front → AllByRecursion (λ c. IsTrue (L c.kind)) front
-    all [] h = tt
-    all (c ∷ front) h = (wider c.kind h.0, all front h.1)
-
-    widened : (text : List ℕ) (tokens : List Token) (x : Front A) → Outcome K looks at P text tokens x → Outcome L looks at P text tokens x
-    widened text tokens (Behind a rest) p = record { front = p.front; parted = p.parted; kinds = all p.front p.kinds; first = p.first; local = p.local }
-    widened text tokens (Stops rest) p = record { front = p.front; parted = p.parted; kinds = all p.front p.kinds; first = p.first; local = p.local }
-
 -- more tokens before which the one behind is looked at
 pub part-looks : {A : Type 0} {K : TokenKind → Bool} (looks : List ℕ → Token → Bool) {at : List ℕ → Token → Bool} {P : List ℕ → List Token → Front A} → Part K none at P → Part K looks at P
 part-looks {A} {K} looks {at} {P} part = record { run = λ text tokens. looked text tokens (P text tokens) (part.run text tokens) }
@@ -161,7 +148,7 @@ part-one {K} t respects kind = record { run = run_one }
     run_one text [] = record { front = []; parted = refl; kinds = tt; first = λ e. refl; local = λ other others alikes same. absurd same }
     run_one text (c ∷ tokens) = tested text c tokens (t text c) refl
 
-none-first : (text : List ℕ) (tokens : List Token) → begins (none text) tokens ≡ false
+pub none-first : (text : List ℕ) (tokens : List Token) → begins (none text) tokens ≡ false
 none-first text [] = refl
 none-first text (c ∷ tokens) = refl
 
@@ -406,34 +393,6 @@ part-or_nothing {A} {K} {at1} {P} looks at test a tests begun always p = record 
       local = λ other others alikes next. chosen-second (test other) (P other) (nothing a) others (sym (tests text other tokens others next) ∙ e);
     }
 
-pub part-maybe : {A : Type 0} {K : TokenKind → Bool} {at1 : List ℕ → Token → Bool} {P : List ℕ → List Token → Front A} (t : List ℕ → Token → Bool) (a : A) → Respects t
-    → ((text : List ℕ) (c : Token) → t text c ≡ true → at1 text c ≡ true) → Part K none at1 P → Part K none t (λ text. either (begins (t text)) (P text) (nothing a))
-part-maybe {A} {K} {at1} {P} t a respects begun p = part-or_nothing none t (λ text. begins (t text)) a (tests-one t respects) begun_at (λ text tokens e. e) p
-  where
-    begun_at : (text : List ℕ) (tokens : List Token) → begins (t text) tokens ≡ true → begins (at1 text) tokens ≡ true
-    begun_at text [] e = e
-    begun_at text (c ∷ tokens) e = begun text c e
-
--- a thing or nothing, and the next behind it
-pub part-maybe_then : {A B : Type 0} {K : TokenKind → Bool} {looks at1 at2 : List ℕ → Token → Bool} {P : List ℕ → List Token → Front A} {Q : A → List ℕ → List Token → Front B} (at t : List ℕ → Token → Bool) (a : A) → Respects t
-    → ((text : List ℕ) (c : Token) → t text c ≡ true → at1 text c ≡ true) → ((text : List ℕ) (c : Token) → t text c ≡ false → at2 text c ≡ false → at text c ≡ false)
-    → Part K none at1 P → ((a : A) → Part K looks at2 (Q a)) → Part K looks at (λ text tokens. either (begins (t text)) (P text) (nothing a) tokens >>= λ a rest. Q a text rest)
-part-maybe_then {A} {B} {K} {looks} {at1} {at2} {P} {Q} at t a respects begun fewer p q =
-    part-same spread (part-either at t respects begun fewer (part-then p q) (q a))
-  where
-    spread_by : (text : List ℕ) (tokens : List Token) (b : Bool)
-        → ((elim b as (λ _. Front A) [ true ↦ P text tokens | false ↦ Behind a tokens ]) >>= λ a rest. Q a text rest)
-        ≡ (elim b as (λ _. Front B) [ true ↦ (P text tokens >>= λ a rest. Q a text rest) | false ↦ Q a text tokens ])
-    spread_by text tokens true = refl
-    spread_by text tokens false = refl
-
-    spread : (text : List ℕ) (tokens : List Token) → (either (begins (t text)) (P text) (nothing a) tokens >>= λ a rest. Q a text rest) ≡ either (begins (t text)) (λ all. P text all >>= λ a rest. Q a text rest) (Q a text) tokens
-    spread text tokens = spread_by text tokens (begins (t text) tokens)
-
--- a token or none
-pub part-optional : {K : TokenKind → Bool} (t : List ℕ → Token → Bool) → Respects t → ((text : List ℕ) (c : Token) → t text c ≡ true → IsTrue (K c.kind)) → Part K none t (λ text. optional (t text))
-part-optional t respects kind = part-maybe t None respects (λ text c e. e) (part-made Some (part-one t respects kind))
-
 -- the end of the text
 pub part-ended : {A : Type 0} {K : TokenKind → Bool} (a : A) → Part K none none (λ text. ended a)
 part-ended {A} {K} a = record { run = run_ended }
@@ -456,7 +415,7 @@ module _ {A : Type 0} (K : TokenKind → Bool) (looks looks1 at at1 : List ℕ �
   abbrev others_behind : A → List ℕ → List Token → Front (List A)
   others_behind a text rest = many (test text) (item text) rest >>= λ others behind. Behind (a ∷ others) behind
 
-  shorter : (text : List ℕ) (tokens : List Token) → test text tokens ≡ true → (a : A) (rest : List Token) → item text tokens ≡ Behind a rest → length rest < length tokens
+  pub shorter : (text : List ℕ) (tokens : List Token) → test text tokens ≡ true → (a : A) (rest : List Token) → item text tokens ≡ Behind a rest → length rest < length tokens
   shorter text tokens e a rest is = taken (subst (λ x. Outcome K looks1 at1 item text tokens x) is (part.run text tokens))
     where
       longer : (front : List Token) → tokens ≡ front ++ rest → (front ≡ [] → begins (at1 text) tokens ≡ false) → length rest < length tokens
@@ -518,7 +477,7 @@ module _ {A : Type 0} (K : TokenKind → Bool) (looks looks1 at at1 : List ℕ �
   abbrev all_items : List ℕ → List Token → Front (List A)
   all_items text = many (test text) (item text)
 
-  many-step : (text : List ℕ) (tokens : List Token) → all_items text tokens ≡ either (test text) (λ all. item text all >>= λ a rest. others_behind a text rest) (nothing []) tokens
+  pub many-step : (text : List ℕ) (tokens : List Token) → all_items text tokens ≡ either (test text) (λ all. item text all >>= λ a rest. others_behind a text rest) (nothing []) tokens
   many-step text tokens = step text (length tokens) tokens (omega arith)
 
   abbrev item_first : List ℕ → List Token → Front (List A)

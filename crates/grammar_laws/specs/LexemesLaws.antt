@@ -541,7 +541,7 @@ filled before (f ∷ w) lexemes = joined (filled (before ++ (32 ∷ f.bytes)) w 
       spelled = subst⁻¹ (AllZip (IsSpelled (before ++ (32 ∷ (f.bytes ++ text_of w)))) (f ∷ w))
           (filter-no (record { kind = Space; start = length before; end = length before + 1 }) (record { kind = f.kind; start = length before + 1; end = length before + 1 + length f.bytes } ∷ rest.parts) refl
           ∙ filter-yes (record { kind = f.kind; start = length before + 1; end = length before + 1 + length f.bytes }) rest.parts lexemes.0.token)
-          ((refl, bytes), subst (λ x. AllZip (IsSpelled x) w (tokens_in rest.parts)) whole rest.spelled);
+          ((refl, bytes, refl), subst (λ x. AllZip (IsSpelled x) w (tokens_in rest.parts)) whole rest.spelled);
     }
       where
         own : first_part (f.bytes ++ text_of w) ≡ (f.kind, text_of w)

@@ -1,7 +1,7 @@
 -- Tokens are spelled alike in texts with the same bytes up to their end.
 use Rattle.std.proofs.Common.{◌≡◌, ℕ, zero, suc, ◌+◌, ◌-◌, ◌<◌, ◌≤◌, Bool, true, false, List, [], ◌∷◌, ◌++◌, length, get_or, take, drop, refl, sym, ap, ◌∙◌, subst, inl, inr, arith, length-append, ◌⊎◌}
 use Rattle.std.specs.Prelude.{Option, Some, None, if◌then◌else◌, filter, slice_range}
-use Rattle.std.proofs.lemmas.List.{drop-take, take-take, get_or-take}
+use Rattle.std.proofs.lemmas.List.{append_assoc, drop-take, take-take, get_or-take}
 use Rattle.schema_spec.specs.declared.token.TokenKind.{TokenKind}
 use Rattle.schema_spec.specs.declared.token.TokenKind.TheVariants.{Space, LineComment, BlockComment, Word, Number, Quoted, Bracketed, Unclosed, Sign}
 use Rattle.schema_spec.specs.declared.token.Token.{Token}
@@ -9,11 +9,11 @@ use Rattle.schema_spec.specs.Parts.{doubled, IsClosedOrNot}
 use Rattle.schema_spec.specs.Tokens.{past, past_quoted, goes_on, behind_first, behind_close, closed, part_of, first_part, opening, AreParts, is_token, tokens_of}
 use Rattle.schema_spec.specs.TokensLaws.{past-closed, past-unclosed, quoted-closed_or_not, tokens-are}
 use Rattle.grammar_laws.specs.Misfits.{end_of, BeginAlike}
-use Rattle.grammar_laws.proofs.Tests.{Alike}
-use Rattle.grammar_laws.proofs.Productions.{Alikes}
+use Rattle.grammar_laws.specs.TestsLaws.{Alike}
+use Rattle.grammar_laws.specs.ProductionsLaws.{Alikes}
 
 -- a part of a text is a part of its first bytes
-range-front : (text : List ℕ) (a b e : ℕ) → b ≤ e → slice_range text a b ≡ slice_range (take e text) a b
+pub range-front : (text : List ℕ) (a b e : ℕ) → b ≤ e → slice_range text a b ≡ slice_range (take e text) a b
 range-front text a b e less = by_order (order a b)
   where
     order : (a b : ℕ) → (a ≤ b) ⊎ (b ≤ a)
@@ -138,3 +138,19 @@ tokens-rise text =
 pub begun-alike : (text other : List ℕ) (front behind others : List Token) → BeginAlike text other front behind others → Alikes text other front
 begun-alike text other front behind others begin =
     alikes-rise text other (end_of front) 0 front begin.bytes (omega arith) (rise-front 0 front behind (subst (Rise 0) begin.tokens (tokens-rise text)))
+
+-- further tokens end later
+rise-longer : (n : ℕ) (front more : List Token) → Rise n (front ++ more) → end_of front ≤ end_of (front ++ more)
+rise-longer n [] more h = omega arith
+rise-longer n (c ∷ []) more h = rise-end c more h.2
+rise-longer n (c ∷ d ∷ front) more h = rise-longer c.end (d ∷ front) more h.2
+
+-- texts that begin alike begin alike up to each earlier token
+pub begun-fewer : (text other : List ℕ) (front more behind others : List Token) → BeginAlike text other (front ++ more) behind others → BeginAlike text other front (more ++ behind) (more ++ others)
+begun-fewer text other front more behind others begin =
+    let less = rise-longer 0 front more (rise-front 0 (front ++ more) behind (subst (Rise 0) begin.tokens (tokens-rise text))) in
+    record {
+      tokens = begin.tokens ∙ append_assoc front more behind;
+      other_tokens = begin.other_tokens ∙ append_assoc front more others;
+      bytes = sym (take-take (end_of front) (end_of (front ++ more)) text less) ∙ ap (take (end_of front)) begin.bytes ∙ take-take (end_of front) (end_of (front ++ more)) other less;
+    }

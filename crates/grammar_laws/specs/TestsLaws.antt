@@ -1,6 +1,7 @@
 -- Tests of tokens look at their kind and bytes alone.
 use Rattle.std.proofs.Common.{◌≡◌, ℕ, ◌+◌, ◌-◌, ◌%◌, ◌==◌, ◌&&◌, ◌||◌, Bool, true, false, List, [], ◌∷◌, length, refl, sym, ap, ◌∙◌}
 use Rattle.std.proofs.Math.Bool.{or-false, or-true}
+use Rattle.std.proofs.lemmas.Bool.{eqb-true}
 use Rattle.std.proofs.lemmas.Slice.Eq.{bytes_eq-Decides}
 use Rattle.std.specs.Str.{bytes_eq, str_to_ascii_lowercase}
 use Rattle.std.specs.Prelude.{IsTrue, not, if◌then◌else◌, slice_index, codes}
@@ -9,8 +10,9 @@ use Rattle.std.specs.Char.{is_ascii_hexdigit}
 use Rattle.schema_spec.specs.declared.token.TokenKind.{TokenKind}
 use Rattle.schema_spec.specs.declared.token.TokenKind.TheVariants.{Word, Number, Quoted, Bracketed, Unclosed, Sign}
 use Rattle.schema_spec.specs.declared.token.Token.{Token}
-use Rattle.schema_spec.specs.Words.{reserved_words, constraint_words, is_one_of, spelling, inner, is_word_of, is_keyword, is_sign, is_name, is_number, is_number_token, is_sql, is_blob, is_type_word, is_literal, same_name}
+use Rattle.schema_spec.specs.Words.{reserved_words, constraint_words, is_one_of, spelling, inner, is_word_of, is_keyword, is_sign, is_name, is_number, is_number_token, is_sql, is_hex_content, is_blob, is_type_word, is_literal, same_name}
 use Rattle.schema_spec.specs.Brackets.{ends_part, open_behind}
+use Rattle.grammar_laws.specs.Lexemes.{is_whole}
 
 -- a token of one text is spelled as one of another
 pub record Alike (text : List ℕ) (token : Token) (other : List ℕ) (same : Token) : Type 0 where
@@ -134,10 +136,6 @@ is_wordy Quoted = true
 is_wordy Bracketed = true
 is_wordy _ = false
 
--- any token
-abbrev pub is_any : TokenKind → Bool
-is_any kind = true
-
 pub word-wordy : (words : List (List ℕ)) (text : List ℕ) (c : Token) → is_word_of words text c ≡ true → IsTrue (is_wordy c.kind)
 word-wordy words text c p = wordy c.kind p
   where
@@ -155,6 +153,37 @@ name-wordy text c p = wordy c.kind p
     wordy Quoted p = refl
     wordy Bracketed p = refl
     wordy _ p = absurd (cc)
+
+-- a word or what is quoted is whole, and so is each token that the grammar takes
+pub wordy-whole : (kind : TokenKind) → IsTrue (is_wordy kind) → IsTrue (is_whole kind)
+wordy-whole Word h = refl
+wordy-whole Quoted h = refl
+wordy-whole Bracketed h = refl
+wordy-whole Unclosed h = absurd (cc)
+wordy-whole _ h = refl
+
+-- a test by the kind that no open quote passes
+whole-by : (f : TokenKind → Bool) → f Unclosed ≡ false → (kind : TokenKind) → f kind ≡ true → IsTrue (is_whole kind)
+whole-by f e Unclosed p = let wrong = sym p ∙ e in absurd (cc)
+whole-by f e _ p = refl
+
+pub sign-whole : (sign : ℕ) (text : List ℕ) (c : Token) → is_sign sign text c ≡ true → IsTrue (is_whole c.kind)
+sign-whole sign text c p = whole-by (λ kind. by_sign sign kind (slice_index text c.start)) refl c.kind p
+
+pub number-whole : (text : List ℕ) (c : Token) → is_number_token text c ≡ true → IsTrue (is_whole c.kind)
+number-whole text c p = whole-by (λ kind. by_number kind (spelling text c)) refl c.kind p
+
+pub sql-whole : (text : List ℕ) (c : Token) → is_sql text c ≡ true → IsTrue (is_whole c.kind)
+sql-whole text c p = whole-by (λ kind. by_sql kind (spelling text c)) refl c.kind p
+
+pub type-whole : (text : List ℕ) (c : Token) → is_type_word text c ≡ true → IsTrue (is_whole c.kind)
+type-whole text c p = whole-by (λ kind. by_type kind (spelling text c)) refl c.kind p
+
+pub literal-whole : (text : List ℕ) (c : Token) → is_literal text c ≡ true → IsTrue (is_whole c.kind)
+literal-whole text c p = whole-by (λ kind. by_number kind (spelling text c) || by_word (codes "NULL" ∷ []) kind (spelling text c) || by_name kind (spelling text c)) refl c.kind p
+
+pub hex-whole : (text : List ℕ) (c : Token) → is_hex_content text c ≡ true → IsTrue (is_whole c.kind)
+hex-whole text c p = whole-by (λ kind. by_hex kind (inner text c)) refl c.kind p
 
 -- what ends a part is no word, and what is no token of SQL neither
 pub ends-not_wordy : (text : List ℕ) (c : Token) → ends_part text c ≡ true → is_wordy c.kind ≡ false
@@ -190,3 +219,84 @@ x-literal text c e = literal c.kind e
         let free : not (is_one_of reserved_words (spelling text c)) ≡ true = ap not (same-any (spelling text c) (codes "X") reserved_words same) in
         ap (λ b. by_word (codes "NULL" ∷ []) Word (spelling text c) || b) free ∙ or-true (by_word (codes "NULL" ∷ []) Word (spelling text c))
     literal _ p = absurd (cc)
+
+-- a sign is no word and no other sign
+at-sign : (sign byte : ℕ) (f : TokenKind → Bool) → f Sign ≡ false → (kind : TokenKind) → by_sign sign kind byte ≡ true → f kind ≡ false
+at-sign sign byte f e Sign p = e
+at-sign sign byte f e _ p = absurd (cc)
+
+pub sign-not_word : (sign : ℕ) (words : List (List ℕ)) (text : List ℕ) (c : Token) → is_sign sign text c ≡ true → is_word_of words text c ≡ false
+sign-not_word sign words text c p = at-sign sign (slice_index text c.start) (λ kind. by_word words kind (spelling text c)) refl c.kind p
+
+pub sign-not_type : (sign : ℕ) (text : List ℕ) (c : Token) → is_sign sign text c ≡ true → is_type_word text c ≡ false
+sign-not_type sign text c p = at-sign sign (slice_index text c.start) (λ kind. by_type kind (spelling text c)) refl c.kind p
+
+pub sign-not_name : (sign : ℕ) (text : List ℕ) (c : Token) → is_sign sign text c ≡ true → is_name text c ≡ false
+sign-not_name sign text c p = at-sign sign (slice_index text c.start) (λ kind. by_name kind (spelling text c)) refl c.kind p
+
+pub sign-not_hex : (sign : ℕ) (text : List ℕ) (c : Token) → is_sign sign text c ≡ true → is_hex_content text c ≡ false
+sign-not_hex sign text c p = at-sign sign (slice_index text c.start) (λ kind. by_hex kind (inner text c)) refl c.kind p
+
+pub sign-other : (sign another : ℕ) → (sign == another) ≡ false → (text : List ℕ) (c : Token) → is_sign sign text c ≡ true → is_sign another text c ≡ false
+sign-other sign another differ text c p = other c.kind p
+  where
+    other : (kind : TokenKind) → by_sign sign kind (slice_index text c.start) ≡ true → by_sign another kind (slice_index text c.start) ≡ false
+    other Sign p = ap (λ n. n == another) (eqb-true (slice_index text c.start) sign p) ∙ differ
+    other _ p = absurd (cc)
+
+-- a token that is one word is among other words where this one is
+pub keyword-words : (w : List ℕ) (words : List (List ℕ)) (text : List ℕ) (c : Token) → is_keyword w text c ≡ true → is_word_of words text c ≡ is_one_of words w
+keyword-words w words text c p = same c.kind p
+  where
+    same : (kind : TokenKind) → by_word (w ∷ []) kind (spelling text c) ≡ true → by_word words kind (spelling text c) ≡ is_one_of words w
+    same Word p = same-any (spelling text c) w words (sym (or-false (same_name (spelling text c) w)) ∙ p)
+    same _ p = absurd (cc)
+
+pub keyword-type : (w : List ℕ) (text : List ℕ) (c : Token) → is_keyword w text c ≡ true → is_type_word text c ≡ not (is_one_of constraint_words w)
+keyword-type w text c p = same c.kind p
+  where
+    same : (kind : TokenKind) → by_word (w ∷ []) kind (spelling text c) ≡ true → by_type kind (spelling text c) ≡ not (is_one_of constraint_words w)
+    same Word p = ap not (same-any (spelling text c) w constraint_words (sym (or-false (same_name (spelling text c) w)) ∙ p))
+    same _ p = absurd (cc)
+
+at-word : (w bytes : List ℕ) (f : TokenKind → Bool) → f Word ≡ false → (kind : TokenKind) → by_word (w ∷ []) kind bytes ≡ true → f kind ≡ false
+at-word w bytes f e Word p = e
+at-word w bytes f e _ p = absurd (cc)
+
+pub keyword-not_sign : (w : List ℕ) (sign : ℕ) (text : List ℕ) (c : Token) → is_keyword w text c ≡ true → is_sign sign text c ≡ false
+keyword-not_sign w sign text c p = at-word w (spelling text c) (λ kind. by_sign sign kind (slice_index text c.start)) refl c.kind p
+
+pub keyword-not_hex : (w : List ℕ) (text : List ℕ) (c : Token) → is_keyword w text c ≡ true → is_hex_content text c ≡ false
+keyword-not_hex w text c p = at-word w (spelling text c) (λ kind. by_hex kind (inner text c)) refl c.kind p
+
+-- what ends a part is no name, and a word or what is quoted ends none, is of SQL, and opens and closes no bracket
+pub ends-not_name : (text : List ℕ) (c : Token) → ends_part text c ≡ true → is_name text c ≡ false
+ends-not_name text c e = by_comma (is_sign 44 text c) refl
+  where
+    by_comma : (b : Bool) → is_sign 44 text c ≡ b → is_name text c ≡ false
+    by_comma true f = sign-not_name 44 text c f
+    by_comma false f = sign-not_name 41 text c (sym (ap (λ b. b || is_sign 41 text c) f) ∙ e)
+
+wordy-not_sign : (sign : ℕ) (text : List ℕ) (c : Token) → IsTrue (is_wordy c.kind) → is_sign sign text c ≡ false
+wordy-not_sign sign text c p = not_sign c.kind p
+  where
+    not_sign : (kind : TokenKind) → is_wordy kind ≡ true → by_sign sign kind (slice_index text c.start) ≡ false
+    not_sign Sign p = absurd (cc)
+    not_sign _ p = refl
+
+pub wordy-not_end : (text : List ℕ) (c : Token) → IsTrue (is_wordy c.kind) → ends_part text c ≡ false
+wordy-not_end text c p = ap (λ b. b || is_sign 41 text c) (wordy-not_sign 44 text c p) ∙ wordy-not_sign 41 text c p
+
+pub wordy-sql : (text : List ℕ) (c : Token) → IsTrue (is_wordy c.kind) → is_sql text c ≡ true
+wordy-sql text c p = sql c.kind p
+  where
+    sql : (kind : TokenKind) → is_wordy kind ≡ true → by_sql kind (spelling text c) ≡ true
+    sql Word p = refl
+    sql Quoted p = refl
+    sql Bracketed p = refl
+    sql _ p = absurd (cc)
+
+pub wordy-open : (text : List ℕ) (depth : ℕ) (c : Token) → IsTrue (is_wordy c.kind) → open_behind text depth c ≡ depth
+wordy-open text depth c p =
+    ap (λ b. if b then depth + 1 else (if is_sign 41 text c then depth - 1 else depth)) (wordy-not_sign 40 text c p)
+    ∙ ap (λ b. if b then depth - 1 else depth) (wordy-not_sign 41 text c p)

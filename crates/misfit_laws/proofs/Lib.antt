@@ -1,0 +1,16 @@
+pub mod Fillers
+pub mod Continuing
+pub mod Choosing
+pub mod Repeating
+pub mod Following
+pub mod Skips
+pub mod Separators
+pub mod Lists
+pub mod Values
+pub mod References
+pub mod Columns
+pub mod Stopping
+pub mod Tables
+pub mod Indexes
+pub mod Leaving
+pub mod Statements

@@ -3,7 +3,8 @@ use Rattle.std.proofs.Common.{◌≡◌, ◌⊎◌, ℕ, refl, ◌∷◌, ◌+�
 use Rattle.index_delete.specs.declared.levels.Left.{Left}
 use Rattle.index_delete.specs.declared.levels.Left.TheVariants.{Cells, NoCell}
 use Rattle.index_delete.specs.declared.levels.Opened.{Opened}
-use Rattle.index_delete.specs.Deletes.{Brings, HasCell, IsStill, below_most, closed_most, opened_most, passed_most, root_most}
+use Rattle.index_delete.specs.Deletes.{Brings, HasCell, IsStill, closed_most, opened_most, passed_most, root_most}
+use Rattle.index_delete.specs.Needs.{short_most}
 
 pub passed-within : (below left : Left) (opened : Opened) → length opened.comes.items ≤ 2 → HasCell left ⊎ (length opened.comes.items ≡ 0) → opened_most below opened + closed_most left ≤ passed_most below left
 passed-within (Cells dividers) (Cells others) opened few none = omega arith
@@ -22,12 +23,6 @@ replaced-within (NoCell emptied) (Cells dividers) opened came (inr few) none = o
 replaced-within (NoCell emptied) (NoCell also) opened came few (inl cell) = absurd cell
 replaced-within (NoCell emptied) (NoCell also) opened came few (inr none) = omega (arith, none)
 
-pub below-within : (levels : ℕ) (below left : Left) → 0 < levels → (HasCell below → HasCell left) → below_most (levels - 1) below + passed_most below left ≤ below_most levels left
-below-within levels (Cells dividers) (Cells others) deep filled = omega (arith, deep)
-below-within levels (Cells dividers) (NoCell emptied) deep filled = absurd (filled tt)
-below-within levels (NoCell emptied) (Cells dividers) deep filled = omega (arith, deep)
-below-within levels (NoCell emptied) (NoCell also) deep filled = omega arith
-
 pub root-within : (below : Left) (opened : Opened) → HasCell below ⊎ (length opened.comes.items ≤ 2) → opened_most below opened + 3 ≤ root_most below
 root-within (Cells dividers) opened few = omega arith
 root-within (NoCell emptied) opened (inl cell) = absurd cell
@@ -36,6 +31,16 @@ root-within (NoCell emptied) opened (inr few) = omega (arith, few)
 pub root-least : (below : Left) → 3 ≤ root_most below
 root-least (Cells dividers) = omega arith
 root-least (NoCell emptied) = omega arith
+
+-- what has to be left where a page is opened, and where it is closed
+pub short-least : (below : Left) → 2 ≤ short_most below
+short-least (Cells dividers) = omega arith
+short-least (NoCell emptied) = omega arith
+
+pub short-opened : (below : Left) (opened : Opened) → HasCell below ⊎ (length opened.comes.items ≤ 2) → opened_most below opened + 2 ≤ short_most below
+short-opened (Cells dividers) opened few = omega arith
+short-opened (NoCell emptied) opened (inl cell) = absurd cell
+short-opened (NoCell emptied) opened (inr few) = omega (arith, few)
 
 -- cells that go up come to a page
 pub some-come : (below : Left) (opened : Opened) → (IsStill below → ⊥) → Brings below opened → HasCell below → 0 < length opened.comes.items

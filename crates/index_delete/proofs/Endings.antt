@@ -14,6 +14,10 @@ pub if-ok_both : {T E : Type 0} {P Q R : T → Type 0} (result : Result T E) →
 if-ok_both (Ok x) both one two = both x one two
 if-ok_both (Err e) both one two = tt
 
+pub if-ok_also : {T E : Type 0} {P : Type 0} {R : T → Type 0} (result : Result T E) → ((x : T) → P → R x) → OnOk result P → IfOk result R
+if-ok_also (Ok x) also one = also x one
+if-ok_also (Err e) also one = tt
+
 pub on-ok_all : {T E P : Type 0} (result : Result T E) → P → OnOk result P
 on-ok_all (Ok x) holds = holds
 on-ok_all (Err e) holds = tt

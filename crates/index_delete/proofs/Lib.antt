@@ -4,3 +4,4 @@ mod Openings
 mod Readings
 mod Rootings
 mod Counts
+mod Refused

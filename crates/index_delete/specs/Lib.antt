@@ -1,1 +1,4 @@
 pub mod Deletes
+pub mod Needs
+pub mod UsesLaws
+pub mod NeighboursLaws

@@ -8,6 +8,7 @@ ghost use Rattle.tree_walk.specs.Pages.{IsDecoded};
 ghost use Rattle.tree_walk.specs.Places.{child_or};
 ghost use Rattle.index_cells.specs.Respelling.{respelled};
 ghost use Rattle.index_delete.specs.Deletes.{IsChildAt};
+ghost use Rattle.index_delete.specs.Needs.{RefusesOther};
 
 use cell_codec::PageKind;
 use index_cells::{Taken, spell};
@@ -39,6 +40,7 @@ pub fn child_number<S: PageRead>(
     ensures child { IfOk result (IsChildAt page.now at) }
     ensures in_range { IfOk result (IsNumber S.PageRead store.now) }
     ensures out { IfErr result (λ _. ¬ IsNumber S.PageRead store.now (child_or page.now.right (slice_get page.now.views at))) }
+    ensures named { IfOk result (λ child. child ≡ child_or page.now.right (slice_get page.now.views at)) }
     ensures cause { IfErr result (λ fault. fault_in fault ≡ None) }
 {
     let child = child_of(page, at);
@@ -65,6 +67,8 @@ pub fn read_beside<S: PageRead>(
     ensures whole { IfOk result (λ beside. length beside.bytes ≡ S.size store.old) }
     ensures same { S.pages store.new ≡ S.pages store.old }
     ensures count { S.count store.new ≡ S.count store.old }
+    ensures named { IfOk result (λ beside. beside.number ≡ child_or page.now.right (slice_get page.now.views at)) }
+    ensures refuses { RefusesOther S.PageRead kind (child_or page.now.right (slice_get page.now.views at)) store.old result }
     ensures owes { OwesBy S.PageRead fault_in store.old store.new result }
 {
     let number = child_number(store, page, at)?;

@@ -6,12 +6,13 @@ ghost use Rattle.page_spec.specs.Rooms.{IsOneCell};
 ghost use Rattle.page_store.specs.Store.{HasSizes, IsNumber, OwesBy};
 ghost use Rattle.index_delete_spec.specs.Steps.{IsOfIndex};
 ghost use Rattle.tree_level.specs.Changes.{WritesChange, behind};
-ghost use Rattle.tree_pages.specs.Takes.{RefusesShort, RisesBy};
+ghost use Rattle.tree_pages.specs.Takes.{RefusesShort, RisesBy, UsesBy};
 ghost use Rattle.tree_pages.specs.Writers.{Becomes, sizes_of};
 ghost use Rattle.tree_spec.specs.Faults.{IsOther, fault_in};
 ghost use Rattle.tree_walk.specs.Pages.{IsDecoded};
 ghost use Rattle.index_cells.specs.Respelling.{IsCellAt, IsWhole};
 ghost use Rattle.index_delete.specs.Deletes.{Closes, HasCell, IsChildAt, IsFit, Passes, Replaces, Shrinks, closed_most, passed_most};
+ghost use Rattle.index_delete.specs.Needs.{ClosesBy, PassesBy, RefusesBeside, Whenever, short_most};
 
 use crate::levels::{Emptied, Left, Opened, Step, is_emptied, is_still};
 use crate::opening::{open_page, replace_cell};
@@ -53,6 +54,7 @@ fn close_page<S: PageWrite>(
     ensures filled { IfOk result (λ left. 0 < length opened.comes.items → HasCell left) }
     ensures none { IfOk result (λ left. HasCell left ⊎ (length opened.comes.items ≡ 0)) }
     ensures rises { IfOk result (λ left. RisesBy S.PageRead (closed_most left) store.old store.new) }
+    ensures uses { IfOk result (λ left. ClosesBy S.PageRead (closed_most left) store.old store.new) }
     ensures refuses { RefusesShort S.PageRead 2 limit store.old store.new result }
     ensures owes { OwesBy S.PageRead fault_in store.old store.new result }
 {
@@ -91,6 +93,8 @@ pub fn pass_on<S: PageWrite>(
     ensures most { OnOk result (S.count store.new ≤ max limit (S.count store.old)) }
     ensures filled { IfOk result (λ left. HasCell below → HasCell left) }
     ensures rises { IfOk result (λ left. RisesBy S.PageRead (passed_most below left) store.old store.new) }
+    ensures uses { IfOk result (λ left. PassesBy S.PageRead (passed_most below left) page step.at step.child below store.old store.new) }
+    ensures refuses { RefusesBeside S.PageRead (short_most below) limit page step.at step.child below store.old store.new result }
     ensures owes { OwesBy S.PageRead fault_in store.old store.new result }
 {
     if is_still(&below) {
@@ -127,6 +131,8 @@ pub fn pass_replaced<S: PageWrite>(
     ensures most { OnOk result (S.count store.new ≤ max limit (S.count store.old)) }
     ensures filled { IfOk result (λ left. HasCell below → HasCell left) }
     ensures rises { IfOk result (λ left. RisesBy S.PageRead (passed_most below left) store.old store.new) }
+    ensures uses { IfOk result (λ left. PassesBy S.PageRead (passed_most below left) page step.at step.child below store.old store.new) }
+    ensures refuses { RefusesBeside S.PageRead (short_most below) limit page step.at step.child below store.old store.new result }
     ensures owes { OwesBy S.PageRead fault_in store.old store.new result }
 {
     let opened = replace_cell(alloc, store, &page, step, up, below, limit)?;
@@ -149,6 +155,7 @@ pub fn write_without<S: PageWrite>(
     ensures written { OnOk result (Becomes S.PageRead store.old store.new (WritesChange (sizes_of S.PageRead store.old) page (record { at = at; goes = true; right = page.right }) [])) }
     ensures count { S.count store.new ≡ S.count store.old }
     ensures other { IfErr result IsOther }
+    ensures uses { OnOk result (Whenever S.PageRead store.old store.new (UsesBy (sizes_of S.PageRead store.old) 0)) }
     ensures owes { OwesBy S.PageRead fault_in store.old store.new result }
 {
     let change = Change {
@@ -177,6 +184,7 @@ fn shrink_leaf<S: PageWrite>(
     ensures fit { IfOk result (IsFit (S.usable store.old)) }
     ensures count { S.count store.new ≡ S.count store.old }
     ensures other { IfErr result IsOther }
+    ensures uses { OnOk result (Whenever S.PageRead store.old store.new (UsesBy (sizes_of S.PageRead store.old) 0)) }
     ensures owes { OwesBy S.PageRead fault_in store.old store.new result }
 {
     if page.views.as_slice().len() == 1 {
@@ -210,6 +218,7 @@ pub fn take_from_leaf<S: PageWrite>(
     ensures fit { IfOk result (λ removed. IsFit (S.usable store.old) removed.left) }
     ensures count { S.count store.new ≡ S.count store.old }
     ensures other { IfErr result IsOther }
+    ensures uses { OnOk result (Whenever S.PageRead store.old store.new (UsesBy (sizes_of S.PageRead store.old) 0)) }
     ensures owes { OwesBy S.PageRead fault_in store.old store.new result }
 {
     let row = take_cell(alloc, &page, at)?;

@@ -3,12 +3,14 @@ ghost use Rattle.std.specs.Prelude.{◌≡◌, ◌*◌, ◌+◌, ◌≤◌, ◌<
 ghost use Rattle.format_spec.specs.declared.PageKind.TheVariants.{IndexLeaf};
 ghost use Rattle.page_store.specs.Store.{HasSizes, IsNumber, OwesBy};
 ghost use Rattle.index_delete_spec.specs.Steps.{IsOfIndex};
-ghost use Rattle.tree_pages.specs.Takes.{RisesBy};
+ghost use Rattle.tree_pages.specs.Takes.{RisesBy, UsesBy};
 ghost use Rattle.tree_pages.specs.Writers.{Becomes, sizes_of};
-ghost use Rattle.tree_spec.specs.Faults.{fault_in};
+ghost use Rattle.tree_spec.specs.Faults.{IsOther, fault_in};
+ghost use Rattle.tree_spec.specs.Trees.{IsFull};
 ghost use Rattle.tree_walk.specs.Pages.{IsDecoded};
 ghost use Rattle.index_cells.specs.Respelling.{IsWhole};
 ghost use Rattle.index_delete.specs.Deletes.{IsFit, Leaves, below_most};
+ghost use Rattle.index_delete.specs.Needs.{RefusesWhere, UsesBelow, Whenever};
 
 use crate::beside::child_number;
 use crate::closing::{Removed, pass_on, take_from_leaf};
@@ -66,6 +68,8 @@ fn take_last_of_leaf<S: PageWrite>(
     ensures left { IfOk result (λ removed. Becomes S.PageRead store.old store.new (λ a b. a.pages page.number ≡ page.bytes → Leaves (sizes_of S.PageRead store.old) true removed.row page.number removed.left a b)) }
     ensures fit { IfOk result (λ removed. IsFit (S.usable store.old) removed.left) }
     ensures count { S.count store.new ≡ S.count store.old }
+    ensures uses { OnOk result (Whenever S.PageRead store.old store.new (UsesBy (sizes_of S.PageRead store.old) 0)) }
+    ensures refuses { IfErr result (λ fault. IsOther fault ⊎ (length page.views ≡ 0)) }
     ensures owes { OwesBy S.PageRead fault_in store.old store.new result }
 {
     check_some(&page)?;
@@ -90,6 +94,8 @@ pub fn take_last<S: PageWrite>(
     ensures count { OnOk result (S.count store.old ≤ S.count store.new) }
     ensures most { OnOk result (S.count store.new ≤ max limit (S.count store.old)) }
     ensures rises { IfOk result (λ removed. RisesBy S.PageRead (below_most levels removed.left) store.old store.new) }
+    ensures uses { IfOk result (λ removed. Whenever S.PageRead store.old store.new (UsesBelow (sizes_of S.PageRead store.old) number removed.left)) }
+    ensures refuses { RefusesWhere S.PageRead IsFull levels 2 limit number store.old store.new result }
     ensures owes { OwesBy S.PageRead fault_in store.old store.new result }
 {
     let page = read_page(alloc, store, number)?;

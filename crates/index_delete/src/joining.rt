@@ -12,6 +12,7 @@ ghost use Rattle.tree_spec.specs.Faults.{fault_in};
 ghost use Rattle.tree_walk.specs.Pages.{IsDecoded};
 ghost use Rattle.index_cells.specs.Respelling.{IsCellAt, IsWhole};
 ghost use Rattle.index_delete.specs.Deletes.{IsChildAt, OpensOver, ReplacesOver};
+ghost use Rattle.index_delete.specs.Needs.{OpensBy, RefusesBeside};
 ghost use Rattle.index_delete.specs.declared.levels.Left.TheVariants.{NoCell};
 
 use crate::beside::{read_beside, spell_once};
@@ -52,6 +53,8 @@ pub fn join_next<S: PageWrite>(
     ensures count { OnOk result (S.count store.old ≤ S.count store.new) }
     ensures most { OnOk result (S.count store.new ≤ max limit (S.count store.old)) }
     ensures rises { IfOk result (λ opened. RisesBy S.PageRead (length opened.comes.items) store.old store.new) }
+    ensures uses { IfOk result (λ opened. OpensBy S.PageRead (length opened.comes.items) page.now step.at step.child (NoCell emptied) store.old store.new) }
+    ensures refuses { RefusesBeside S.PageRead 2 limit page.now step.at step.child (NoCell emptied) store.old store.new result }
     ensures owes { OwesBy S.PageRead fault_in store.old store.new result }
 {
     let beside = read_beside(alloc, store, page, step.at + 1, emptied.kind)?;
@@ -100,6 +103,8 @@ pub fn join_last<S: PageWrite>(
     ensures count { OnOk result (S.count store.old ≤ S.count store.new) }
     ensures most { OnOk result (S.count store.new ≤ max limit (S.count store.old)) }
     ensures rises { IfOk result (λ opened. RisesBy S.PageRead (length opened.comes.items) store.old store.new) }
+    ensures uses { IfOk result (λ opened. OpensBy S.PageRead (length opened.comes.items) page.now step.at step.child (NoCell emptied) store.old store.new) }
+    ensures refuses { RefusesBeside S.PageRead 2 limit page.now step.at step.child (NoCell emptied) store.old store.new result }
     ensures owes { OwesBy S.PageRead fault_in store.old store.new result }
 {
     let end = step.at - 1;

@@ -13,6 +13,7 @@ ghost use Rattle.tree_spec.specs.Faults.{fault_in};
 ghost use Rattle.tree_walk.specs.Pages.{IsDecoded};
 ghost use Rattle.index_cells.specs.Respelling.{IsWhole, respelled};
 ghost use Rattle.index_delete.specs.Deletes.{Brings, HasCell, IsChildAt, IsFit, OpensOver, ReplacesOver, opened_most};
+ghost use Rattle.index_delete.specs.Needs.{OpensBy, RefusesBeside};
 ghost use Rattle.index_delete.specs.declared.levels.Left.TheVariants.{NoCell};
 
 use crate::joining::{join_last, join_next};
@@ -70,6 +71,8 @@ fn join_page<S: PageWrite>(
     ensures count { OnOk result (S.count store.old ≤ S.count store.new) }
     ensures most { OnOk result (S.count store.new ≤ max limit (S.count store.old)) }
     ensures rises { IfOk result (λ opened. RisesBy S.PageRead (length opened.comes.items) store.old store.new) }
+    ensures uses { IfOk result (λ opened. OpensBy S.PageRead (length opened.comes.items) page.now step.at step.child (NoCell emptied) store.old store.new) }
+    ensures refuses { RefusesBeside S.PageRead 2 limit page.now step.at step.child (NoCell emptied) store.old store.new result }
     ensures owes { OwesBy S.PageRead fault_in store.old store.new result }
 {
     if step.at < page.views.as_slice().len() {
@@ -106,6 +109,8 @@ pub fn open_page<S: PageWrite>(
     ensures most { OnOk result (S.count store.new ≤ max limit (S.count store.old)) }
     ensures came { IfOk result (Brings below) }
     ensures rises { IfOk result (λ opened. RisesBy S.PageRead (opened_most below opened) store.old store.new) }
+    ensures uses { IfOk result (λ opened. OpensBy S.PageRead (opened_most below opened) page.now step.at step.child below store.old store.new) }
+    ensures refuses { RefusesBeside S.PageRead 2 limit page.now step.at step.child below store.old store.new result }
     ensures owes { OwesBy S.PageRead fault_in store.old store.new result }
 {
     match below {
@@ -150,6 +155,8 @@ pub fn replace_cell<S: PageWrite>(
     ensures came { IfOk result (λ opened. HasCell below → 0 < length opened.comes.items) }
     ensures joined { IfOk result (λ opened. HasCell below ⊎ (length opened.comes.items ≤ 2)) }
     ensures rises { IfOk result (λ opened. RisesBy S.PageRead (opened_most below opened) store.old store.new) }
+    ensures uses { IfOk result (λ opened. OpensBy S.PageRead (opened_most below opened) page.now step.at step.child below store.old store.new) }
+    ensures refuses { RefusesBeside S.PageRead 2 limit page.now step.at step.child below store.old store.new result }
     ensures owes { OwesBy S.PageRead fault_in store.old store.new result }
 {
     match below {

@@ -1,6 +1,7 @@
 // What a delete below a root leaves of the root.
-ghost use Rattle.std.specs.Prelude.{◌≡◌, ◌≢◌, ◌≤◌, ◌<◌, [], IfErr, IfOk, OnOk, Some, length, max};
+ghost use Rattle.std.specs.Prelude.{◌≡◌, ◌≢◌, ◌≤◌, ◌<◌, [], IfErr, IfOk, OnOk, Some, false, length, max, true};
 ghost use Rattle.std.specs.List.{All};
+ghost use Rattle.format_spec.specs.declared.PageKind.{PageKind};
 ghost use Rattle.format_spec.specs.declared.PageKind.TheVariants.{IndexInterior, IndexLeaf};
 ghost use Rattle.page_spec.specs.Pages.{Pages};
 ghost use Rattle.page_spec.specs.Rooms.{IsOneCell};
@@ -13,7 +14,9 @@ ghost use Rattle.tree_pages.specs.Writers.{Becomes, sizes_of};
 ghost use Rattle.tree_spec.specs.Faults.{IsOther, fault_in};
 ghost use Rattle.tree_walk.specs.Pages.{IsDecoded};
 ghost use Rattle.index_cells.specs.Respelling.{IsCellAt, IsWhole};
-ghost use Rattle.index_delete.specs.Deletes.{ClosesRoot, IsChildAt, IsEmptied, IsFit, PassesRoot, ReplacesRoot, ShrinksRoot, root_most};
+ghost use Rattle.index_cells.specs.declared.cells.Taken.{Taken};
+ghost use Rattle.index_delete.specs.Deletes.{ClosesRoot, IsChildAt, IsEmptied, IsFit, Leaves, PassesRoot, ReplacesRoot, ShrinksRoot, root_most};
+ghost use Rattle.index_delete.specs.Needs.{HasOnly, RefusesBeside, RefusesOther, RefusesOver, RefusesPassed};
 
 use crate::closing::write_without;
 use crate::levels::{Left, Opened, Step, is_emptied, is_still};
@@ -77,6 +80,7 @@ fn pass_to_first<S: PageWrite>(
     ensures count { OnOk result (S.count store.old ≤ S.count store.new) }
     ensures most { OnOk result (S.count store.new ≤ max limit (S.count store.old)) }
     ensures rises { OnOk result (RisesBy S.PageRead 3 store.old store.new) }
+    ensures refuses { RefusesBeside S.PageRead 3 limit page 0 child below store.old store.new result }
     ensures owes { OwesBy S.PageRead fault_in store.old store.new result }
 {
     match below {
@@ -111,6 +115,7 @@ fn read_only<S: PageRead>(
     ensures whole { IfOk result (λ child. length child.bytes ≡ S.size store.old) }
     ensures same { S.pages store.new ≡ S.pages store.old }
     ensures count { S.count store.new ≡ S.count store.old }
+    ensures refuses { (kind : PageKind) → RefusesOther S.PageRead kind only store.old result }
     ensures owes { OwesBy S.PageRead fault_in store.old store.new result }
 {
     if !is_in_range(store.page_size(), store.count(), only) {
@@ -144,6 +149,7 @@ fn take_only_child<S: PageWrite>(
     ensures count { OnOk result (S.count store.old ≤ S.count store.new) }
     ensures most { OnOk result (S.count store.new ≤ max limit (S.count store.old)) }
     ensures rises { OnOk result (RisesBy S.PageRead 3 store.old store.new) }
+    ensures refuses { RefusesOver S.PageRead 3 limit (HasOnly (sizes_of S.PageRead store.old) page.number opened.change.right) store.old store.new result }
     ensures owes { OwesBy S.PageRead fault_in store.old store.new result }
 {
     let only = opened.change.right;
@@ -176,6 +182,7 @@ fn close_root<S: PageWrite>(
     ensures count { OnOk result (S.count store.old ≤ S.count store.new) }
     ensures most { OnOk result (S.count store.new ≤ max limit (S.count store.old)) }
     ensures rises { OnOk result (RisesBy S.PageRead 3 store.old store.new) }
+    ensures refuses { RefusesOver S.PageRead 3 limit (HasOnly (sizes_of S.PageRead store.old) page.number opened.change.right) store.old store.new result }
     ensures owes { OwesBy S.PageRead fault_in store.old store.new result }
 {
     if is_emptied(&page, &opened) {
@@ -208,6 +215,7 @@ pub fn pass_to_root<S: PageWrite>(
     ensures count { OnOk result (S.count store.old ≤ S.count store.new) }
     ensures most { OnOk result (S.count store.new ≤ max limit (S.count store.old)) }
     ensures rises { OnOk result (RisesBy S.PageRead (root_most below) store.old store.new) }
+    ensures refuses { (row : Taken) → RefusesPassed S.PageRead (root_most below) limit page step.at step.child below (Leaves (sizes_of S.PageRead store.old) false row step.child below) store.old store.new result }
     ensures owes { OwesBy S.PageRead fault_in store.old store.new result }
 {
     if is_still(&below) {
@@ -246,6 +254,7 @@ pub fn replace_in_root<S: PageWrite>(
     ensures count { OnOk result (S.count store.old ≤ S.count store.new) }
     ensures most { OnOk result (S.count store.new ≤ max limit (S.count store.old)) }
     ensures rises { OnOk result (RisesBy S.PageRead (root_most below) store.old store.new) }
+    ensures refuses { (gone : Taken) → IsCellAt page step.at gone → RefusesPassed S.PageRead (root_most below) limit page step.at step.child below (Leaves (sizes_of S.PageRead store.old) true up.now step.child below) store.old store.new result }
     ensures owes { OwesBy S.PageRead fault_in store.old store.new result }
 {
     let opened = replace_cell(alloc, store, &page, step, up, below, limit)?;

@@ -1,3 +1,4 @@
 pub mod Orders
 pub mod OrdersLaws
 pub mod Fields
+pub mod ProjectionsLaws

@@ -75,6 +75,11 @@ module _ (order : KeyOrder) where
   greater-then : (x y z : List ℕ) → IsEntry order x → IsEntry order y → IsEntry order z → Compares order Less x y → Compares order Greater x z → Compares order Greater y z
   greater-then x y z ex ey ez one two = compares-turn Less z y ez ey (less-then z x y ez ex ey (compares-turn Greater x z ex ez two) one)
 
+  -- what is equal compares alike with what is behind
+  pub equal-alike : (found : Ordering) (x y z : List ℕ) → IsEntry order x → IsEntry order y → IsEntry order z → Compares order Equal x y → Compares order found x z → Compares order found y z
+  equal-alike found x y z ex ey ez same one =
+      back found y z ey ez (sym ((whole-total order.rowid_last order.columns).congr ex.values ey.values ez.values (there Equal x y ex ey same)) ∙ there found x z ex ez one)
+
   -- Lists that rise.
 
   abbrev Stands : List ℕ → Member → Type 0
@@ -91,6 +96,14 @@ module _ (order : KeyOrder) where
   pub rising-back : (xs ys : List Member) → IsRising order (xs ++ ys) → IsRising order ys
   rising-back [] ys rises = rises
   rising-back (x ∷ xs) ys rises = rising-back xs ys rises.2
+
+  -- a list without one of its members
+  pub rising-without : (gone : Member) (xs ys : List Member) → IsRising order (xs ++ gone ∷ ys) → IsRising order (xs ++ ys)
+  rising-without gone [] ys rises = rises.2
+  rising-without gone (x ∷ xs) ys rises =
+      let front = all-front (Stands x.payload) xs (gone ∷ ys) rises.1 in
+      let behind = all-back (Stands x.payload) xs (gone ∷ ys) rises.1 in
+      (rises.0, all-join (Stands x.payload) xs ys front behind.1, rising-without gone xs ys rises.2)
 
   module _ (payload : List ℕ) (entry : IsEntry order payload) where
     -- where an entry of a list that rises stands before another, so do those before it
@@ -137,3 +150,24 @@ module _ (order : KeyOrder) where
         (λ equal. let no : Greater ≡ Equal = none-equal Greater y.payload rises.0 high.0 equal in let bad : ⊥ = cc in bad, place-alone [] ys rises.2 tt high.1)
     place-alone (x ∷ xs) ys rises low high =
         (λ equal. let no : Less ≡ Equal = none-equal Less x.payload rises.0 low.0 equal in let bad : ⊥ = cc in bad, place-alone xs ys rises.2 low.1 high)
+
+    -- where one of its members is equal, those before it are less
+    equal-low : (gone : Member) (xs ys : List Member) → IsRising order (xs ++ gone ∷ ys) → IsEqual order payload gone → AllByRecursion (IsLow order payload) xs
+    equal-low gone [] ys rises equal = tt
+    equal-low gone (x ∷ xs) ys rises equal =
+        let behind = all-back (Stands x.payload) xs (gone ∷ ys) rises.1 in
+        let rest = rising-back xs (gone ∷ ys) rises.2 in
+        let turned = compares-turn Less x.payload gone.payload rises.0 rest.0 behind.0 in
+        (compares-turn Greater payload x.payload entry rises.0 (equal-alike Greater gone.payload payload x.payload rest.0 entry rises.0 equal turned), equal-low gone xs ys rises.2 equal)
+
+    -- and those behind it greater
+    equal-high : (gone : Member) (ys : List Member) → IsEntry order gone.payload → IsEqual order payload gone → AllByRecursion (Stands gone.payload) ys → AllByRecursion (λ (n : Member). IsEntry order n.payload) ys → AllByRecursion (IsHigh order payload) ys
+    equal-high gone [] its equal all entries = tt
+    equal-high gone (y ∷ ys) its equal all entries =
+        (compares-turn Less payload y.payload entry entries.0 (equal-alike Less gone.payload payload y.payload its entry entries.0 equal all.0), equal-high gone ys its equal all.1 entries.1)
+
+    -- so no other is equal
+    pub equal-alone : (gone : Member) (xs ys : List Member) → IsRising order (xs ++ gone ∷ ys) → IsEqual order payload gone → AllByRecursion (λ (m : Member). ¬ IsEqual order payload m) (xs ++ ys)
+    equal-alone gone xs ys rises equal =
+        let rest = rising-back xs (gone ∷ ys) rises in
+        place-alone xs ys (rising-without gone xs ys rises) (equal-low gone xs ys rises equal) (equal-high gone ys rest.0 equal rest.1 (rising-entries ys rest.2))

@@ -44,8 +44,8 @@ use Rattle.tree_index.specs.declared.putting.Inserted.TheVariants as inserted
 use Rattle.tree_index.specs.declared.searching.Sought.TheVariants as sought
 use Rattle.tree_index.specs.Puts.{EntersInto, EntersUnder, Finds, IsEntered, MakesCell, OfTrees, PassesOn, PassesToRoot, PutsBelow, PutsRoot, Raises, RaisesRoot, entry_before, inserting}
 use Rattle.tree_index.specs.Searches.{IsSought}
-use Rattle.tree_index.proofs.Lists.{contains-inside}
-use Rattle.tree_index.proofs.Places.{child-rises, has-cells, has-spelled, kind-is, leaf-equal, leaf-high, leaf-list, leaf-low, page-equal, page-high, page-low, read_cells, sought-at, sought-equal, told, cells-many}
+use Rattle.tree_index.specs.ListsLaws.{contains-inside}
+use Rattle.tree_index.specs.PlacesLaws.{child-rises, has-cells, has-spelled, kind-is, leaf-equal, leaf-high, leaf-list, leaf-low, page-equal, page-high, page-low, read_cells, sought-at, sought-equal, told, cells-many}
 
 -- Once the chain of a cell is written, a put of it may begin below a tree whose pages are in hand.
 pub ready-after : (sizes : Sizes) (a b : Paged) (levels : ℕ) (tree : TreeOf levels) (trunks rest : List Trunk) (cell : TreeCell) → Within sizes a (pages_of levels tree) trunks → Stands sizes a Index levels tree
@@ -79,9 +79,6 @@ spelled-all kind usable (x ∷ xs) all =
     let cell : Spelled = record { bytes = x; view = one.0 } in
     (cell ∷ rest.0, record { bytes_are = ap (λ (l : List (List ℕ)). x ∷ l) rest.1.bytes_are; are_cells = (one.1, rest.1.are_cells) })
 
-pub read-there : (number usable : ℕ) (page : TreePage) (pages : Pages) → IsDecoded (pages number) number usable page → pages page.number ≡ page.bytes
-read-there number usable page pages decoded = ap pages decoded.number_is ∙ sym decoded.bytes_are
-
 none-kind : {A : Type 0} → IndexInterior ≡ IndexLeaf → A
 none-kind same = absurd (let h : ⊥ = cc in h)
 
@@ -92,13 +89,13 @@ module _ (sizes : Sizes) (order : KeyOrder) (payload : List ℕ) (entry : IsEntr
   -- A leaf.
 
   module _ (kind : page.kind ≡ IndexLeaf) where
-    pub leaf-finds : IsSought a.pages sizes.size sizes.usable a.count page order payload sought.Present → Finds sizes order payload page.number a a
-    leaf-finds found = (refl, of_trees)
+    pub leaf-finds : (k : ℕ) → IsSought a.pages sizes.size sizes.usable a.count page order payload (sought.Present k) → Finds sizes order payload page.number a a
+    leaf-finds k found = (refl, of_trees)
       where
         of_trees : OfTrees sizes order payload page.number a (λ levels tree trunks. HasEqual order payload (list_of Index levels tree))
         of_trees zero tree trunks is stands free within rises =
-            let equal = sought-equal sizes a zero tree page is stands there decoded order payload found in
-            leaf-equal order payload entry tree.cells equal.0 equal.1 equal.2
+            let equal = sought-equal sizes a zero tree page is stands there decoded order payload k found in
+            leaf-equal order payload entry tree.cells k equal.0 equal.1
         of_trees (suc levels) tree trunks is stands free within rises = none-kind (kind-is sizes a (suc levels) tree page is stands there decoded ∙ kind)
 
     module _ (at : ℕ) (found : IsSought a.pages sizes.size sizes.usable a.count page order payload (sought.At at)) (bytes : List ℕ) (mid b : Paged) (makes : MakesCell sizes payload bytes a mid) where
@@ -162,14 +159,14 @@ module _ (sizes : Sizes) (order : KeyOrder) (payload : List ℕ) (entry : IsEntr
   -- An interior page.
 
   module _ (kind : page.kind ≡ IndexInterior) where
-    pub page-finds : IsSought a.pages sizes.size sizes.usable a.count page order payload sought.Present → Finds sizes order payload page.number a a
-    page-finds found = (refl, of_trees)
+    pub page-finds : (k : ℕ) → IsSought a.pages sizes.size sizes.usable a.count page order payload (sought.Present k) → Finds sizes order payload page.number a a
+    page-finds k found = (refl, of_trees)
       where
         of_trees : OfTrees sizes order payload page.number a (λ levels tree trunks. HasEqual order payload (list_of Index levels tree))
         of_trees zero tree trunks is stands free within rises = none-kind_leaf (kind-is sizes a zero tree page is stands there decoded ∙ kind)
         of_trees (suc levels) tree trunks is stands free within rises =
-            let equal = sought-equal sizes a (suc levels) tree page is stands there decoded order payload found in
-            page-equal order payload entry levels equal.0 tree.children tree.last equal.1 equal.2
+            let equal = sought-equal sizes a (suc levels) tree page is stands there decoded order payload k found in
+            page-equal order payload entry levels k tree.children tree.last equal.0 equal.1
 
     module _ (at : ℕ) (found : IsSought a.pages sizes.size sizes.usable a.count page order payload (sought.At at)) (child : ℕ)
         (child_is : (usable : ℕ) (cells : List Spelled) → HasSpelled usable page cells → child ≡ child_page at cells page.right) where

@@ -1,6 +1,4 @@
-mod Lists
 mod Halves
-mod Places
 mod Entering
 mod Spelling
 mod Needed

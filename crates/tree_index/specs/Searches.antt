@@ -25,9 +25,9 @@ abbrev pub Judges : {F : Type 0} → KeyOrder → ℕ → List ℕ → List ℕ 
 Judges order number entry payload (Ok found) = Compares order found entry payload
 Judges order number entry payload (Err fault) = IsDamage (IsNoEntry order number entry) fault
 
--- an index of a page's cells, or the one behind them
+-- the index of a cell, or of the place behind them
 abbrev pub IsWithin : TreePage → Sought → Type 0
-IsWithin page Present = Unit {0}
+IsWithin page (Present at) = at < length page.views
 IsWithin page (At at) = at ≤ length page.views
 
 module _ (pages : Pages) (size usable count : ℕ) (page : TreePage) where
@@ -48,9 +48,9 @@ module _ (pages : Pages) (size usable count : ℕ) (page : TreePage) where
     ComparesAt at (Ok found) = ComparesSo found at
     ComparesAt at (Err fault) = IsDamageOrOther (IsBadEntry order at) fault
 
-    -- the entry of some cell is equal; or the one before an index is less, and the one at it greater
+    -- the entry of the cell at an index is equal; or the one before an index is less, and the one at it greater
     abbrev pub IsSought : Sought → Type 0
-    IsSought Present = (at : ℕ) × (at < length page.views) × ComparesSo Equal at
+    IsSought (Present at) = (at < length page.views) × ComparesSo Equal at
     IsSought (At at) = (at ≤ length page.views) × ((before : ℕ) → suc before ≡ at → ComparesSo Less before) × (at < length page.views → ComparesSo Greater at)
 
     abbrev pub Searches : {F : Type 0} → Result Sought (TreeFault F) → Type 0

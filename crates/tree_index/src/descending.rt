@@ -143,7 +143,7 @@ fn put_in_leaf<S: PageWrite>(
 {
     let sought = search(alloc, store, &page, payload, order)?;
     match sought {
-        Sought::Present => Ok(Below::Present),
+        Sought::Present(_) => Ok(Below::Present),
         Sought::At(at) => {
             let dividers = enter_leaf(alloc, store, page, at, payload, limit)?;
             Ok(Below::Grown(dividers))
@@ -258,7 +258,7 @@ pub fn put_below<S: PageWrite>(
             }
             let sought = search(alloc, store, &page, payload, order)?;
             match sought {
-                Sought::Present => Ok(Below::Present),
+                Sought::Present(_) => Ok(Below::Present),
                 Sought::At(at) => {
                     let child = child_number(store, &page, at)?;
                     let below = put_below(alloc, store, child, levels - 1, payload, order, limit)?;

@@ -10,4 +10,5 @@ mod searching;
 
 pub use key_order::KeyOrder;
 pub use putting::{Inserted, put};
+pub use searching::{Sought, search};
 pub use tree_spec::TreeFault;

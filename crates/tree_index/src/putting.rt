@@ -99,7 +99,7 @@ fn put_in_root<S: PageWrite>(
 {
     let sought = search(alloc, store, &page, payload, order)?;
     match sought {
-        Sought::Present => Ok(Inserted::Present),
+        Sought::Present(_) => Ok(Inserted::Present),
         Sought::At(at) => {
             enter_leaf_root(alloc, store, page, at, payload, limit)?;
             Ok(Inserted::New)
@@ -204,7 +204,7 @@ fn put_root<S: PageWrite>(
         PageKind::IndexInterior => {
             let sought = search(alloc, store, &page, payload, order)?;
             match sought {
-                Sought::Present => Ok(Inserted::Present),
+                Sought::Present(_) => Ok(Inserted::Present),
                 Sought::At(at) => {
                     let child = child_number(store, &page, at)?;
                     let below = put_below(alloc, store, child, LEVELS - 1, payload, order, limit)?;

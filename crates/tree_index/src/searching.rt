@@ -16,8 +16,8 @@ use tree_walk::{TreePage, read_payload};
 /// Where an entry stands among the cells of a page, or belongs.
 #[derive(Clone, Copy)]
 pub enum Sought {
-    /// A cell has an equal entry.
-    Present,
+    /// The cell at this index has an equal entry.
+    Present(usize),
     /// It belongs in front of the cell at this index, or behind all others.
     At(usize),
 }
@@ -85,7 +85,7 @@ pub fn search<S: PageRead>(
         match compare_at(alloc, store, page, middle, payload, order) {
             Ok(Ordering::Less) => low = middle + 1,
             Ok(Ordering::Greater) => high = middle,
-            Ok(Ordering::Equal) => return Ok(Sought::Present),
+            Ok(Ordering::Equal) => return Ok(Sought::Present(middle)),
             Err(fault) => return Err(fault),
         }
     }

@@ -1,3 +1,8 @@
+use Rattle.std.proofs.Common.{sym}
+use Rattle.tree_pages.specs.UsesLaws.{uses-more}
+use Rattle.tree_level.specs.Changes.{Changes}
+use Rattle.index_delete.specs.UsesLaws.{always, whenever-none, changes-use}
+use Rattle.index_delete.proofs.Readings.{spelled-all}
 use Rattle.std.proofs.Common.{inr, length, refl, ap, subst, arith}
 use Rattle.std.proofs.Math.Path.{subst⁻¹}
 use Rattle.std.specs.List.{All}
@@ -76,3 +81,26 @@ pub returns-then-is_emptied-clause-none : goal.returns-then-is_emptied-clause-no
 returns-then-is_emptied-clause-none g c =
     let none : IsEmptied c.args.page c.args.opened = c.is_emptied.ensures.0 c.if-is_emptied.true in
     inr (ap length none.0)
+
+pub returns-then-is_emptied-clause-uses : goal.returns-then-is_emptied-clause-uses
+returns-then-is_emptied-clause-uses g c = λ old told new later trunks free.
+    let S = g.S.PageRead in
+    let a = c.args.store.now in
+    let none = whenever-none S (sizes_of S a) a a refl refl old told new later in
+    omega (arith, none)
+
+pub returns-clause-uses : goal.returns-clause-uses
+returns-clause-uses g c = λ old told new later trunks free.
+    let S = g.S.PageRead in
+    let a = c.args.store.now in
+    let z = sizes_of S a in
+    let b = c.change_page.new.store in
+    let page = c.args.page in
+    let comes = c.args.opened.comes.items in
+    let dividers = c.in_ok-dividers.dividers.items in
+    let here = subst⁻¹ (λ (k : PageKind). All (IsOneCell k z.usable) comes) c.requires.kind c.requires.comes in
+    let few = c.in_ok-dividers.ensures.few (cells-fit page.kind z.usable comes (inr c.requires.kind) c.requires.sizes.usable here c.requires.few) in
+    let changes = always S (Changes z page c.args.opened.change comes dividers) a b c.in_ok-dividers.ensures.changed old told new later in
+    let x = paged S a old in
+    let y = paged S b new in
+    uses-more z x y (length dividers) 2 few (changes-use z page page.number 1 c.args.opened.change comes dividers x y c.requires.page (sym c.requires.kind) (spelled-all page.kind z.usable comes here) changes trunks free)

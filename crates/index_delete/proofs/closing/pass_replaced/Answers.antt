@@ -1,3 +1,12 @@
+use Rattle.std.proofs.Common.{◌+◌}
+use Rattle.std.proofs.lemmas.Result.{err_from_is_err_and, IfErr-weaker}
+use Rattle.tree_spec.specs.Worlds.{IsFree}
+use Rattle.tree_pages.specs.Takes.{IsShort, UsesBy}
+use Rattle.tree_pages.specs.TakesLaws.{short-more}
+use Rattle.tree_pages.specs.UsesLaws.{short-used, uses-then, uses-more}
+use Rattle.index_delete.specs.Deletes.{passed_most}
+use Rattle.index_delete.specs.Needs.{short_most}
+use Rattle.index_delete.proofs.Counts.{short-least, short-opened}
 use Rattle.std.proofs.Common.{◌≡◌, ℕ, false, subst, arith}
 use Rattle.std.proofs.Math.Path.{subst⁻¹}
 use Rattle.std.proofs.lemmas.Result.{IfOk-weaker}
@@ -51,3 +60,57 @@ returns-clause-rises g c =
 
 pub close_page-requires-clause-comes : goal.close_page-requires-clause-comes
 close_page-requires-clause-comes g c = subst⁻¹ (λ (n : ℕ). All (IsOneCell IndexInterior n) c.in_ok-opened.opened.comes.items) c.in_ok-opened.ensures.owes.stays.usable c.in_ok-opened.ensures.comes
+
+pub returns-clause-uses : goal.returns-clause-uses
+returns-clause-uses g c =
+    let S = g.S.PageRead in
+    let a = c.args.store.now in
+    let z = sizes_of S a in
+    let s = c.replace_cell.new.store in
+    let v = c.close_page.new.store in
+    let op = c.in_ok-opened.ensures in
+    let opened = c.in_ok-opened.opened in
+    let below = c.args.below in
+    let one : sizes_of S s ≡ z = sizes-same S a s op.owes.stays in
+    if-ok_both c.close_page.result (λ left closes none. λ old told new later trunks near.
+    let most = replaced-within below left opened op.came op.joined none in
+    let n = op.opened old told in
+    let o = op.uses old told n.0 n.1 trunks near in
+    let x = paged S a old in
+    let y = paged S s n.0 in
+    let w = paged S v new in
+    let two : UsesBy z (closed_most left) y w = subst (λ (q : Sizes). UsesBy q (closed_most left) y w) one (closes n.0 n.1 new later o.0 (subst⁻¹ (λ (q : Sizes). IsFree q y o.0) one o.1)) in
+    uses-more z x w (opened_most below opened + closed_most left) (passed_most below left) most (uses-then z x y w (opened_most below opened) (closed_most left) o.2 two)) c.close_page.ensures.uses c.close_page.ensures.none
+
+pub returns-in_err-opened-clause-refuses : goal.returns-in_err-opened-clause-refuses
+returns-in_err-opened-clause-refuses g c = λ m trunks told near.
+    let S = g.S.PageRead in
+    let a = c.args.store.now in
+    let z = sizes_of S a in
+    let limit = c.args.limit in
+    let fault = c.in_err-opened.field-0.0 in
+    let count = S.count c.replace_cell.new.store in
+    let p = err_from_is_err_and c.from_residual.result c.from_residual.ensures.1 in
+    rw (p.1, p.2) (short-more z limit count fault (paged S a m) trunks 2 (short_most c.args.below) (short-least c.args.below) (c.in_err-opened.ensures.refuses m trunks told near))
+
+pub returns-clause-refuses : goal.returns-clause-refuses
+returns-clause-refuses g c = λ m trunks told near.
+    let S = g.S.PageRead in
+    let a = c.args.store.now in
+    let z = sizes_of S a in
+    let s = c.replace_cell.new.store in
+    let limit = c.args.limit in
+    let op = c.in_ok-opened.ensures in
+    let opened = c.in_ok-opened.opened in
+    let below = c.args.below in
+    let one : sizes_of S s ≡ z = sizes-same S a s op.owes.stays in
+    let n = op.opened m told in
+    let o = op.uses m told n.0 n.1 trunks near in
+    let x = paged S a m in
+    let y = paged S s n.0 in
+    let count = S.count c.close_page.new.store in
+    let later : IsFree (sizes_of S s) y o.0 = subst⁻¹ (λ (q : Sizes). IsFree q y o.0) one o.1 in
+    IfErr-weaker c.close_page.result _ _ (λ fault short.
+    short-more z limit count fault x trunks (opened_most below opened + 2) (short_most below) (short-opened below opened op.joined)
+    (short-used z limit count fault x y trunks o.0 (opened_most below opened) 2 near.free o.1 op.count op.most o.2 (subst (λ (q : Sizes). IsShort q 2 limit y o.0 count fault) one short)))
+    (c.close_page.ensures.refuses n.0 o.0 n.1 later)

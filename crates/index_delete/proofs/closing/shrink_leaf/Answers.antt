@@ -1,3 +1,4 @@
+use Rattle.index_delete.specs.UsesLaws.{whenever-none}
 use Rattle.std.proofs.Common.{ℕ, List, inl, length, refl, ap, subst, arith}
 use Rattle.format_spec.specs.declared.PageKind.TheVariants.{IndexInterior}
 use Rattle.tree_pages.specs.Writers.{paged, sizes_of}
@@ -30,3 +31,6 @@ returns-clause-left g c = λ old told.
           (λ one. c.if-as_slice-eq1.false (omega (arith, one, ap length c.as_slice.ensures))) c.args.page.right (paged S c.write_without.new.store n.0) n.2 up
           (subst (λ (l : List (List ℕ)). AreSpelled IndexInterior (S.usable a) up l) c.new.ensures.items are),
     )
+
+pub returns-then-as_slice-eq1-clause-uses : goal.returns-then-as_slice-eq1-clause-uses
+returns-then-as_slice-eq1-clause-uses g c = whenever-none g.S.PageRead (sizes_of g.S.PageRead c.args.store.now) c.args.store.now c.args.store.now refl refl

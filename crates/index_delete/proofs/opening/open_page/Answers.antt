@@ -1,3 +1,10 @@
+use Rattle.std.proofs.Common.{◌≡◌, ap}
+use Rattle.tree_spec.specs.Standing.{Paged}
+use Rattle.tree_spec.specs.Worlds.{IsFree}
+use Rattle.tree_pages.specs.Takes.{UsesBy}
+use Rattle.tree_pages.specs.UsesLaws.{uses-more}
+use Rattle.index_delete.specs.Needs.{OpensBy, RefusesBeside}
+use Rattle.index_delete.specs.UsesLaws.{same-told}
 use Rattle.std.proofs.Common.{false, refl, subst, arith}
 use Rattle.std.proofs.Math.Path.{subst⁻¹}
 use Rattle.std.proofs.lemmas.Result.{IfOk-weaker}
@@ -56,3 +63,27 @@ returns-in-NoCell-clause-rises g c =
     let a = c.args.store.now in
     let b = c.join_page.new.store in
     IfOk-weaker c.join_page.result _ _ (λ opened rises. subst⁻¹ (λ (l : Left). RisesBy S (opened_most l opened) a b) c.in-NoCell.is rises) c.join_page.ensures.rises
+
+pub returns-in-Cells-clause-uses : goal.returns-in-Cells-clause-uses
+returns-in-Cells-clause-uses g c = λ old told new later trunks near.
+    let S = g.S.PageRead in
+    let a = c.args.store.now in
+    let z = sizes_of S a in
+    let same : paged S a old ≡ paged S a new = ap (paged S a) (same-told S a old new told later) in
+    let none : UsesBy z 0 (paged S a old) (paged S a new) = subst (UsesBy z 0 (paged S a old)) same (omega arith) in
+    (trunks, subst (λ (p : Paged). IsFree z p trunks) same near.free, uses-more z (paged S a old) (paged S a new) 0 _ (omega arith) none)
+
+pub returns-in-NoCell-clause-uses : goal.returns-in-NoCell-clause-uses
+returns-in-NoCell-clause-uses g c =
+    let S = g.S.PageRead in
+    let a = c.args.store.now in
+    let b = c.join_page.new.store in
+    let step = c.args.step in
+    let page = c.args.page.now in
+    IfOk-weaker c.join_page.result _ _ (λ opened uses. subst⁻¹ (λ (l : Left). OpensBy S (opened_most l opened) page step.at step.child l a b) c.in-NoCell.is uses) c.join_page.ensures.uses
+
+pub returns-in-NoCell-clause-refuses : goal.returns-in-NoCell-clause-refuses
+returns-in-NoCell-clause-refuses g c =
+    let S = g.S.PageRead in
+    let step = c.args.step in
+    subst⁻¹ (λ (l : Left). RefusesBeside S 2 c.args.limit c.args.page.now step.at step.child l c.args.store.now c.join_page.new.store c.join_page.result) c.in-NoCell.is c.join_page.ensures.refuses

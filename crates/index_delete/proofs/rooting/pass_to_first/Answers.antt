@@ -1,3 +1,8 @@
+use Rattle.std.proofs.Common.{ℕ, inl}
+use Rattle.std.proofs.lemmas.Result.{IfErr-weaker}
+use Rattle.tree_spec.specs.Worlds.{IsFree}
+use Rattle.tree_spec.specs.Changes.{Writes}
+use Rattle.index_delete.proofs.Refused.{first-written}
 use Rattle.std.proofs.Common.{◌≡◌, false, inr, ap, ◌∙◌, subst, arith}
 use Rattle.std.proofs.Math.Path.{subst⁻¹}
 use Rattle.std.proofs.lemmas.Result.{on_ok_weaker}
@@ -77,3 +82,17 @@ returns-in_ok-write_empty-in-NoCell-clause-passes g c =
 pub returns-in_ok-write_empty-in-NoCell-clause-rises : goal.returns-in_ok-write_empty-in-NoCell-clause-rises
 returns-in_ok-write_empty-in-NoCell-clause-rises g c =
     on_ok_weaker c.give_page.result (λ same. omega (arith, ap (due_pages (g.S.PageRead.size c.args.store.now)) (same ∙ c.in_ok-write_empty-in-NoCell.ensures.count))) c.give_page.ensures.count
+
+pub returns-in_ok-write_empty-in-NoCell-clause-refuses : goal.returns-in_ok-write_empty-in-NoCell-clause-refuses
+returns-in_ok-write_empty-in-NoCell-clause-refuses g c = λ old trunks told near.
+    let S = g.S.PageRead in
+    let a = c.args.store.now in
+    let s = c.write_empty.new.store in
+    let z = sizes_of S a in
+    let one : sizes_of S s ≡ z = sizes-same S a s c.in_ok-write_empty-in-NoCell.ensures.owes.stays in
+    let n = c.in_ok-write_empty-in-NoCell.ensures.written old told in
+    let x = paged S a old in
+    let y = paged S s n.0 in
+    let writes : Writes 1 x y = subst (λ (p : ℕ). Writes p x y) c.requires.first n.2.writes in
+    let here : IsFree (sizes_of S s) y trunks = subst⁻¹ (λ (q : Sizes). IsFree q y trunks) one (first-written z x y trunks writes near.free) in
+    IfErr-weaker c.give_page.result _ _ (λ fault other. inl other) (c.give_page.ensures.sound n.0 trunks n.1 here)

@@ -1,3 +1,9 @@
+use Rattle.std.proofs.Common.{refl, inl}
+use Rattle.std.proofs.Math.Path.{subst⁻¹}
+use Rattle.std.proofs.lemmas.Result.{err_from_is_err_and, IfErr-weaker}
+use Rattle.tree_spec.specs.Worlds.{IsFree}
+use Rattle.tree_level.specs.ChangesLaws.{spelled-read}
+use Rattle.index_delete.proofs.Refused.{hand-written}
 use Rattle.std.proofs.Common.{◌≡◌, ℕ, Bool, true, ap, ◌∙◌, subst, arith}
 use Rattle.std.proofs.lemmas.Result.{on_ok_weaker}
 use Rattle.page_spec.specs.FreePages.{due_pages}
@@ -78,3 +84,31 @@ returns-clause-rises g c =
     let ch = c.in_ok-child.ensures in
     let mv = c.in_ok-moved.ensures in
     on_ok_weaker c.change_root.result (rises-read g.S.PageRead 3 c.args.store.now c.move_cells.new.store c.change_root.new.store (mv.owes.stays.size ∙ ch.owes.stays.size) (mv.count ∙ ch.count)) c.change_root.ensures.rises
+
+pub returns-in_err-child-clause-refuses : goal.returns-in_err-child-clause-refuses
+returns-in_err-child-clause-refuses g c = λ old trunks told free has.
+    let p = err_from_is_err_and c.from_residual.result c.from_residual.ensures.1 in
+    rw (p.1, p.2) (inl (c.in_err-child.ensures.refuses _ old told has.levels has.tree has.page_is refl has.stands has.in_range))
+
+pub returns-then-moved-clause-refuses : goal.returns-then-moved-clause-refuses
+returns-then-moved-clause-refuses g c = λ old trunks told free has.
+    let S = g.S.PageRead in
+    let a = c.args.store.now in
+    let s = c.read_only.new.store in
+    let t = c.move_cells.new.store in
+    let z = sizes_of S a in
+    let page = c.args.page in
+    let ch = c.in_ok-child.ensures in
+    let child = c.in_ok-child.child in
+    let one : sizes_of S s ≡ z = sizes-same S a s ch.owes.stays in
+    let two : sizes_of S t ≡ z = sizes-same S s t c.in_ok-moved.ensures.owes.stays ∙ one in
+    let n = c.in_ok-moved.ensures.moved old (ch.same ∙ told) in
+    let x = paged S a old in
+    let y = paged S t n.0 in
+    let moves : MovesTo z child page.number true x y =
+    subst (λ (b : Bool). MovesTo z child page.number b x y) c.if-moved.true
+    (subst (λ (n : ℕ). MovesTo z child page.number c.in_ok-moved.moved (record { count = n; pages = old }) y) ch.count (subst (λ (m : Sizes). MovesTo m child page.number c.in_ok-moved.moved (paged S s old) y) one n.2)) in
+    let read = spelled-read z.usable child ch.read in
+    let later : IsFree z y trunks = hand-written z x y trunks page.number has.within (moves read.0 read.1).writes free in
+    let here : IsFree (sizes_of S t) y trunks = subst⁻¹ (λ (q : Sizes). IsFree q y trunks) two later in
+    IfErr-weaker c.give_page.result _ _ (λ fault other. inl other) (c.give_page.ensures.sound n.0 trunks n.1 here)

@@ -1,5 +1,5 @@
 use Rattle.std.proofs.Common.{◌∙◌, ℕ}
-use Rattle.tree_index.proofs.Needed.{child-named}
+use Rattle.tree_index.specs.ReadsLaws.{child-named}
 use Rattle.page_spec.specs.Pages.{IsInRange}
 use Rattle.std.proofs.Math.Path.{subst⁻¹}
 use Rattle.tree_index.proofs.descending.child_number.Goals as goal

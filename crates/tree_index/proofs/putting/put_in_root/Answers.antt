@@ -13,7 +13,8 @@ use Rattle.tree_index.specs.Needs.{overflow_pages}
 use Rattle.tree_index.specs.Puts.{EntersLeafRoot, Finds}
 use Rattle.tree_index.specs.Searches.{IsBadEntry, IsSought}
 use Rattle.tree_index.proofs.Entering.{leaf-enters_root, leaf-finds}
-use Rattle.tree_index.proofs.Needed.{leaf-short, same-paged, searched-other, trunks-same}
+use Rattle.tree_index.proofs.Needed.{leaf-short, same-paged, trunks-same}
+use Rattle.tree_index.specs.ReadsLaws.{searched-other}
 use Rattle.tree_index.proofs.putting.put_in_root.Goals as goal
 
 pub returns-in_err-sought-clause-refuses : goal.returns-in_err-sought-clause-refuses
@@ -43,11 +44,11 @@ returns-in-Present-clause-enters g c = λ old told.
     let count : S.count q ≡ S.count a = se.pages.count in
     let usable : S.usable q ≡ S.usable a = se.owes.stays.usable in
     let sought = IfSome-told (λ p. IsSought p (S.size a) (S.usable a) (S.count a) page order payload c.in_ok-sought.sought) old told se.pages.answer in
-    let found : IsSought old (S.size a) (S.usable a) (S.count a) page order payload sought_of.Present = subst (IsSought old (S.size a) (S.usable a) (S.count a) page order payload) c.in-Present.is sought in
+    let found = subst (IsSought old (S.size a) (S.usable a) (S.count a) page order payload) c.in-Present.is sought in
     let x = paged S a old in (
       old,
       se.pages.same ∙ told,
-      λ there. subst⁻¹ (λ (y : Paged). Finds z order payload page.number x y) (same-paged S a q old count) (leaf-finds z order payload c.requires.entry page x there c.requires.page c.requires.kind found),
+      λ there. subst⁻¹ (λ (y : Paged). Finds z order payload page.number x y) (same-paged S a q old count) (leaf-finds z order payload c.requires.entry page x there c.requires.page c.requires.kind _ found),
     )
 
 pub returns-in-Present-clause-rises : goal.returns-in-Present-clause-rises

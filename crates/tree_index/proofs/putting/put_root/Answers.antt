@@ -19,9 +19,11 @@ use Rattle.tree_index.specs.declared.searching.Sought.TheVariants as sought_of
 use Rattle.tree_index.specs.Needs.{IsShortLeaf, IsShortUnder, TakesUnder, overflow_pages}
 use Rattle.tree_index.specs.Puts.{EntersInto, Finds, PassesToRoot, risen_cells}
 use Rattle.tree_index.specs.Searches.{IsBadEntry, IsSought}
-use Rattle.tree_index.proofs.Entering.{enters-same, into-same, page-finds, passed-to_root, read-there}
-use Rattle.tree_index.proofs.Needed.{index-read, leaf-same, own-result, same-paged, searched-other, short-same, under-child, under-named, under-other, under-result, under-same}
-use Rattle.tree_index.proofs.Places.{decoded-own}
+use Rattle.tree_index.proofs.Entering.{enters-same, into-same, page-finds, passed-to_root}
+use Rattle.tree_index.specs.ReadsLaws.{read-there}
+use Rattle.tree_index.proofs.Needed.{leaf-same, own-result, same-paged, short-same, under-child, under-named, under-other, under-result, under-same}
+use Rattle.tree_index.specs.ReadsLaws.{index-read, searched-other}
+use Rattle.tree_index.specs.PlacesLaws.{decoded-own}
 use Rattle.tree_index.proofs.putting.put_root.Goals as goal
 
 pub returns-in-IndexLeaf-clause-enters : goal.returns-in-IndexLeaf-clause-enters
@@ -151,8 +153,8 @@ returns-in-Present-clause-enters g c = λ old told.
     let count : S.count q ≡ S.count a = se.pages.count ∙ rd.pages.count in
     let sought = at-sizes S rd.owes.stays rd.pages.count (λ size usable n. IsSought old size usable n page order payload c.in_ok-sought-in-IndexInterior.sought)
     (IfSome-told (λ p. IsSought p (S.size s) (S.usable s) (S.count s) page order payload c.in_ok-sought-in-IndexInterior.sought) old (rd.pages.same ∙ told) se.pages.answer) in
-    let found : IsSought old (S.size a) (S.usable a) (S.count a) page order payload sought_of.Present = subst (IsSought old (S.size a) (S.usable a) (S.count a) page order payload) c.in-Present.is sought in
-    let finds = page-finds z order payload c.requires.entry page x there own c.in-IndexInterior.is found in (
+    let found = subst (IsSought old (S.size a) (S.usable a) (S.count a) page order payload) c.in-Present.is sought in
+    let finds = page-finds z order payload c.requires.entry page x there own c.in-IndexInterior.is _ found in (
       old,
       se.pages.same ∙ (rd.pages.same ∙ told),
       subst (λ (n : ℕ). Finds z order payload n x (paged S q old)) decoded.number_is (subst⁻¹ (λ (y : Paged). Finds z order payload page.number x y) (same-paged S a q old count) finds),

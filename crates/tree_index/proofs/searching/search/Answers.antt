@@ -77,7 +77,6 @@ returns-in-Ok-Equal-clause-pages g c =
       same = step.pages.same ∙ inv.same;
       count = step.pages.count ∙ inv.count;
       answer = told-both (S.pages a) inv.same inv.halved step.pages.answer (λ m h is. (
-        middle,
         omega (arith, inside, inv.few),
         subst (λ (o : Ordering). ComparesSo m (S.size a) (S.usable a) (S.count a) page order payload o middle) c.in-Ok-Equal.field-0-is
             (at-sizes S inv.stays inv.count (λ s u n. ComparesSo m s u n page order payload c.in-Ok-Equal.field-0 middle) is),

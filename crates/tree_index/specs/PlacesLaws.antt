@@ -1,4 +1,4 @@
--- The place of an entry in an index that stands at a page which was read.
+-- The place of an entry in an index that stands at a page which was read: crates above cite these facts in their proofs.
 use Rattle.std.proofs.Common.{◌≡◌, ℕ, zero, suc, ◌+◌, ◌-◌, ◌<◌, ◌≤◌, List, [], ◌∷◌, ◌++◌, length, map, take, drop, slice_index_or, refl, sym, ap, ◌∙◌, subst, inl, inr, arith, append_assoc}
 use Rattle.std.proofs.Math.Path.{subst⁻¹}
 use Rattle.std.proofs.lemmas.Bool.{cases_lt}
@@ -34,7 +34,7 @@ use Rattle.tree_walk.specs.Payloads.{IsPayload, part_at}
 use Rattle.tree_walk.specs.PayloadsLaws.{local_part, no_view, payload-one, payload-not_broken}
 use Rattle.tree_index.specs.declared.searching.Sought.TheVariants as sought
 use Rattle.tree_index.specs.Searches.{IsBadEntry, IsSought, PayloadAt}
-use Rattle.tree_index.proofs.Lists.{all-index, around-item, contains-middle, drop-here, index-any, take-more}
+use Rattle.tree_index.specs.ListsLaws.{all-index, around-item, contains-middle, drop-here, index-any, take-more}
 
 -- any cell
 abbrev no_cell : TreeCell
@@ -56,6 +56,34 @@ held-own sizes base (suc levels) tree below = held-behind sizes base levels tree
 -- a page that was read from pages is that of its own bytes
 pub decoded-own : (number usable : ℕ) (page : TreePage) → IsDecoded page.bytes number usable page → IsDecoded page.bytes page.number usable page
 decoded-own number usable page decoded = subst⁻¹ (λ (n : ℕ). IsDecoded page.bytes n usable page) decoded.number_is decoded
+
+-- The payload of a cell that is held is read of a page that has it at an index.
+module _ (sizes : Sizes) (base : Paged) (page : TreePage) (cells : List Spelled) (has : HasSpelled sizes.usable page cells) (k : ℕ) (low : k < length cells) (cell : TreeCell) (same : slice_index_or cells k (spelled cell) ≡ spelled cell)
+    (page_kind : PageKind) (held : IsHeld sizes base page_kind cell) where
+  view-at : (d : CellView) → slice_index_or page.views k d ≡ cell.view
+  view-at d = ap (λ (l : List CellView). slice_index_or l k d) (sym has.views_are) ∙ index-any (λ (c : Spelled). c.view) cells k d (spelled cell) low ∙ ap (λ (c : Spelled). c.view) same
+
+  abbrev start : ℕ
+  start = cell_place page.bytes page.number page.kind k
+
+  bytes-at : part_of page.bytes start (length cell.bytes) ≡ cell.bytes
+  bytes-at =
+      let bytes : slice_index_or (bytes_in cells) k [] ≡ cell.bytes = index-any (λ (c : Spelled). c.bytes) cells k [] (spelled cell) low ∙ ap (λ (c : Spelled). c.bytes) same in
+      let place = has.is_page.each k (omega (arith, low, length-of (λ (c : Spelled). c.bytes) cells)) in
+      subst (λ (b : List ℕ). part_of page.bytes start (length b) ≡ b) bytes place.stands
+
+  part-is : part_at (view_of page) k cell.view ≡ part_of cell.bytes cell.view.local_at cell.view.local
+  part-is =
+      let view = cell.view in
+      let inside : view.local_at + view.local ≤ length cell.bytes = omega (arith, local_part page_kind sizes.usable cell.bytes view held.is_cell, view-size page_kind sizes.usable cell.bytes view held.is_cell) in
+      sym (part_of-part_of page.bytes start (length cell.bytes) view.local_at view.local inside) ∙ ap (λ (b : List ℕ). part_of b view.local_at view.local) bytes-at
+
+  pub payload-held : PayloadAt base.pages sizes.size sizes.usable base.count page k cell.payload
+  payload-held d =
+      let view = cell.view in
+      let rest = chain_bytes base.pages sizes.usable cell.chain (view.payload - view.local) in
+      subst⁻¹ (λ (v : CellView). IsPayload base.pages sizes.size sizes.usable base.count (view_of page) k v cell.payload) (view-at d)
+      (inr (rest, (cell.chain, held.is_chain, refl), held.whole ∙ ap (λ (part : List ℕ). part ++ rest) (sym part-is)))
 
 -- The page that was read is that of an index.
 module _ (sizes : Sizes) (base : Paged) (levels : ℕ) (tree : TreeOf levels) (page : TreePage) (is : page_of levels tree ≡ page.number) (stands : Stands sizes base Index levels tree) (there : base.pages page.number ≡ page.bytes)
@@ -101,35 +129,11 @@ module _ (sizes : Sizes) (base : Paged) (levels : ℕ) (tree : TreeOf levels) (p
     held : IsHeld sizes base (kind_at Index levels) here
     held = all-index (IsHeld sizes base (kind_at Index levels)) (own_cells levels tree) k no_cell low (held-own sizes base levels tree stands.1)
 
-    view-here : (d : CellView) → slice_index_or page.views k d ≡ here.view
-    view-here d = ap (λ (l : List CellView). slice_index_or l k d) views-are ∙ index-any (λ (c : TreeCell). c.view) (own_cells levels tree) k d no_cell low
-
-    abbrev start : ℕ
-    start = cell_place page.bytes page.number page.kind k
-
-    its-bytes : part_of page.bytes start (length here.bytes) ≡ here.bytes
-    its-bytes =
-        let bytes : slice_index_or (bytes_in read_cells) k [] ≡ here.bytes =
-        ap (λ (l : List Spelled). slice_index_or (bytes_in l) k []) told.0
-        ∙ ap (λ (l : List (List ℕ)). slice_index_or l k []) (map-map (λ (c : Spelled). c.bytes) spelled (own_cells levels tree))
-        ∙ index-any (λ (c : TreeCell). c.bytes) (own_cells levels tree) k [] no_cell low in
-        let place = has-spelled.is_page.each k (omega (arith, low, cells-many, length-of (λ (c : Spelled). c.bytes) read_cells)) in
-        subst (λ (b : List ℕ). part_of page.bytes start (length b) ≡ b) bytes place.stands
-
-    part-is : part_at (view_of page) k here.view ≡ part_of here.bytes here.view.local_at here.view.local
-    part-is =
-        let view = here.view in
-        let inside : view.local_at + view.local ≤ length here.bytes =
-        omega (arith, local_part (kind_at Index levels) sizes.usable here.bytes view held.is_cell, view-size (kind_at Index levels) sizes.usable here.bytes view held.is_cell) in
-        sym (part_of-part_of page.bytes start (length here.bytes) view.local_at view.local inside) ∙ ap (λ (b : List ℕ). part_of b view.local_at view.local) its-bytes
-
     -- the payload of its cell is read of the page
     pub payload-there : PayloadAt base.pages sizes.size sizes.usable base.count page k here.payload
-    payload-there d =
-        let view = here.view in
-        let rest = chain_bytes base.pages sizes.usable here.chain (view.payload - view.local) in
-        subst⁻¹ (λ (v : CellView). IsPayload base.pages sizes.size sizes.usable base.count (view_of page) k v here.payload) (view-here d)
-        (inr (rest, (here.chain, held.is_chain, refl), held.whole ∙ ap (λ (part : List ℕ). part ++ rest) (sym part-is)))
+    payload-there =
+        let same = ap (λ (l : List Spelled). slice_index_or l k (spelled here)) told.0 ∙ index-any spelled (own_cells levels tree) k (spelled here) no_cell low in
+        payload-held sizes base page read_cells has-spelled k (omega (arith, low, cells-many)) here same (kind_at Index levels) held
 
   -- no entry of an index of entries is refused
   pub none-bad : (order : KeyOrder) → AllByRecursion (λ (c : TreeCell). IsEntry order c.payload) (own_cells levels tree) → (k number : ℕ) (rule : Rule) → k < length page.views
@@ -158,11 +162,11 @@ module _ (sizes : Sizes) (base : Paged) (levels : ℕ) (tree : TreeOf levels) (p
       greater = λ low. is_sought.2 (omega (arith, low, views-many)) (here at low).payload (payload-there at low);
     }
 
-    pub sought-equal : IsSought base.pages sizes.size sizes.usable base.count page order payload sought.Present
-        → (k : ℕ) × (k < length (own_cells levels tree)) × IsEqual order payload (member (cell_at (own_cells levels tree) k))
-    sought-equal (k, low, equal) =
+    pub sought-equal : (k : ℕ) → IsSought base.pages sizes.size sizes.usable base.count page order payload (sought.Present k)
+        → (k < length (own_cells levels tree)) × IsEqual order payload (member (cell_at (own_cells levels tree) k))
+    sought-equal k (low, equal) =
         let inside : k < length (own_cells levels tree) = omega (arith, low, views-many) in
-        (k, inside, equal (here k inside).payload (payload-there k inside))
+        (inside, equal (here k inside).payload (payload-there k inside))
 
 -- Members before a place, and behind it.
 

@@ -1,0 +1,38 @@
+use Rattle.std.proofs.Common.{refl, subst}
+use Rattle.tree_pages.specs.Writers.{paged, sizes_of}
+use Rattle.tree_index.specs.ReadsLaws.{read-there}
+use Rattle.index_removal.proofs.Entries.{leaf-misses, cell-equal}
+use Rattle.tree_index.specs.Searches.{IsSought}
+use Rattle.index_removal.proofs.deleting.delete_in_leaf.Goals as goal
+
+pub returns-in-At-clause-deleted : goal.returns-in-At-clause-deleted
+returns-in-At-clause-deleted g c = λ old told. (
+  old,
+  told,
+  λ order payload entry found.
+      let S = g.S.PageRead in
+      let a = c.args.store.now in
+      let z = sizes_of S a in
+      let page = c.args.found.page in
+      let x = paged S a old in
+      (refl, leaf-misses z order payload entry page x (read-there page.number z.usable page old found.decoded) c.requires.page c.requires.kind _ (subst (IsSought old z.size z.usable x.count page order payload) c.in-At.is found.sought)),
+)
+
+pub returns-in_ok-taken-in-Present-clause-deleted : goal.returns-in_ok-taken-in-Present-clause-deleted
+returns-in_ok-taken-in-Present-clause-deleted g c = λ old told.
+    let S = g.S.PageRead in
+    let a = c.args.store.now in
+    let z = sizes_of S a in
+    let page = c.args.found.page in
+    let x = paged S a old in
+    let taken = c.in_ok-taken-in-Present.taken in
+    let is_row = c.in_ok-taken-in-Present.ensures.row in
+    let n = c.in_ok-taken-in-Present.ensures.shrinks old told in (
+      n.0,
+      n.1,
+      λ order payload entry found.
+          let there = read-there page.number z.usable page old found.decoded in (
+            n.2 taken there is_row,
+            cell-equal z order payload entry page x there c.requires.page c.in-Present.at (subst (IsSought old z.size z.usable x.count page order payload) c.in-Present.is found.sought) taken is_row,
+          ),
+    )

@@ -87,7 +87,8 @@ fn replace_below<S: PageWrite>(
     let child = child_number(store, &page, at)?;
     let below = take_last(alloc, store, child, LEVELS - 1, limit)?;
     let step = Step { at, child };
-    replace_in_root(alloc, store, page, step, &below.row, below.left, limit)?;
+    let lower = below.left;
+    replace_in_root(alloc, store, page, step, &below.row, lower, limit)?;
     Ok(row)
 }
 
@@ -176,7 +177,7 @@ pub fn delete<S: PageWrite>(
         None => Ok(false),
         Some(row) => {
             let view = row.view;
-            let behind = view.payload.saturating_sub(u64::from(view.local));
+            let behind = view.payload.saturating_sub(view.local as u64);
             give_back(alloc, store, view.overflow, behind)?;
             Ok(true)
         }

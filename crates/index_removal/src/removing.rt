@@ -89,7 +89,8 @@ fn replace_below<S: PageWrite>(
     let child = child_number(store, &page, at)?;
     let below = take_last(alloc, store, child, levels - 1, limit)?;
     let step = Step { at, child };
-    let left = pass_replaced(alloc, store, page, step, &below.row, below.left, limit)?;
+    let lower = below.left;
+    let left = pass_replaced(alloc, store, page, step, &below.row, lower, limit)?;
     Ok(Removed { row, left })
 }
 

@@ -21,8 +21,8 @@ take_cell-requires-clause-page g c =
     let read = spelled-read u c.args.page c.requires.page in
     record { usable = u; cells = read.0; has = read.1; within = omega (arith, c.requires.sizes.within, c.requires.whole) }
 
-pub returns-in_ok-left-clause-left : goal.returns-in_ok-left-clause-left
-returns-in_ok-left-clause-left g c = λ old told.
+pub returns-clause-left : goal.returns-clause-left
+returns-clause-left g c = λ old told.
     let S = g.S.PageRead in
     let a = c.args.store.now in
     let b = c.take_last.new.store in
@@ -43,8 +43,8 @@ returns-in_ok-left-clause-left g c = λ old told.
     let replaces : Replaces z page c.args.at below.row child below.left left y w = subst (λ (m : Sizes). Replaces m page c.args.at below.row child below.left left y w) two k.2 in
     (k.0, k.1, λ there. replaces row x there c.in_ok-row.ensures.cell n.2)
 
-pub returns-in_ok-left-clause-rises : goal.returns-in_ok-left-clause-rises
-returns-in_ok-left-clause-rises g c =
+pub returns-clause-rises : goal.returns-clause-rises
+returns-clause-rises g c =
     let S = g.S.PageRead in
     let a = c.args.store.now in
     let gr = c.in_ok-below.ensures in
@@ -54,8 +54,8 @@ returns-in_ok-left-clause-rises g c =
     let both = rises-then S a c.take_last.new.store c.pass_replaced.new.store (below_most (c.args.levels - 1) under) (passed_most under left) gr.owes.stays.size gr.rises ps.rises in
     omega (arith, both, level-within c.args.levels under left c.in_ok-check_inner.ensures.deep ps.filled)
 
-pub returns-in_ok-left-clause-uses : goal.returns-in_ok-left-clause-uses
-returns-in_ok-left-clause-uses g c = λ old told new later there.
+pub returns-clause-uses : goal.returns-clause-uses
+returns-clause-uses g c = λ old told new later there.
     let S = g.S.PageRead in
     let a = c.args.store.now in
     let b = c.take_last.new.store in

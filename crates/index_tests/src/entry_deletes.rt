@@ -99,8 +99,9 @@ fn stands_in_root(store: &mut PlainStore, number: u32) -> Result<bool, Fail> {
     let mut page = [0; 512];
     store.page(2, &mut page)?;
     for at in 0..507 {
-        let here = &page[at..at + 5];
-        if here[..4] == digits && here[4] == b'x' {
+        let front = page[at] == digits[0] && page[at + 1] == digits[1];
+        let back = page[at + 2] == digits[2] && page[at + 3] == digits[3];
+        if front && back && page[at + 4] == b'x' {
             return Ok(true);
         }
     }

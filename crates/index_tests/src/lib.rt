@@ -1,6 +1,10 @@
-//! Tests of the order of index entries, and of entries that are put into index trees, over pages in memory.
+//! Tests of the order of index entries, and of entries that are put into index trees and deleted from them, over pages in memory.
 #![tactic(auto)]
 
+#[cfg(test)]
+mod entries;
+#[cfg(test)]
+mod entry_deletes;
 #[cfg(test)]
 mod entry_puts;
 #[cfg(test)]

@@ -59,6 +59,16 @@ pub fn field(store: &mut PlainStore, at: usize) -> Result<u32, Fail> {
     Ok(u32_at(&page, at))
 }
 
+/// A byte of a page.
+pub fn byte(store: &mut PlainStore, number: u32, at: usize) -> Result<u8, Fail> {
+    if at >= 512 || number < 1 || number > store.count() || store.page_size() != 512 {
+        return Err(Fail::new("no such byte"));
+    }
+    let mut page = [0; 512];
+    store.page(number, &mut page)?;
+    Ok(page[at])
+}
+
 /// The order of an index of one column.
 pub fn order_of(
     alloc: Global,

@@ -171,7 +171,7 @@ const STOPS: [(&str, u64); 41] = [
     ("CREATE TABLE t(a DEFAULT +b)", 26),
     ("CREATE TABLE t(a CHECK b)", 23),
     ("CREATE TABLE t(a REFERENCES (b))", 28),
-    ("CREATE TABLE t(a REFERENCES u (x + 1))", 32),
+    ("CREATE TABLE t(a REFERENCES u (x + 1))", 33),
     ("CREATE TABLE t(a REFERENCES u ON x)", 33),
     ("CREATE TABLE t(a REFERENCES u ON DELETE SET x)", 44),
     ("CREATE TABLE t(a REFERENCES u ON UPDATE NO x)", 43),

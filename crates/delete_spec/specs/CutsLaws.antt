@@ -17,7 +17,8 @@ use Rattle.tree_spec.specs.Changes.{Within, Writes}
 use Rattle.put_spec.specs.Children.{child_at, children_with}
 use Rattle.put_spec.specs.Puts.{After, IsInteriorCut, cut_after, moved, deeper}
 use Rattle.put_spec.specs.Steps.{Spelled, spelled, bytes_in, HasCells, child_page, with_dividers, IsSpread, IsSettled, IsMovedOut, IsRooted}
-use Rattle.put_spec.specs.StepsLaws.{page-tells, own-written, settled-spread, siblings-cells}
+use Rattle.put_spec.specs.SpelledLaws.{page-tells}
+use Rattle.put_spec.specs.SettledLaws.{own-written, settled-spread, siblings-cells}
 use Rattle.delete_spec.specs.Deletes.{Before, alone, became, parent_with, IsOpened, IsDeleted}
 use Rattle.delete_spec.specs.NeighboursLaws.{alone-among}
 use Rattle.delete_spec.specs.DeletesLaws.{divider-chain, last-same, delete-cut, delete-settled, group-above, root-stays, root-rises}

@@ -22,7 +22,7 @@ use Rattle.put_spec.specs.ChildrenLaws.{beside-first, child-stands}
 use Rattle.put_spec.specs.Puts.{After, hand_after, IsInteriorCut}
 use Rattle.put_spec.specs.PutsLaws.{pages-parts}
 use Rattle.put_spec.specs.Steps.{Spelled, spelled, HasCells, child_page, with_dividers, IsSettled, Releases}
-use Rattle.put_spec.specs.StepsLaws.{page-tells}
+use Rattle.put_spec.specs.SpelledLaws.{page-tells}
 use Rattle.delete_spec.specs.Deletes.{hand_of, alone, pair, became, parent_with, IsOpened}
 use Rattle.delete_spec.specs.NeighboursLaws.{alone-among, pair-among, group-count}
 use Rattle.delete_spec.specs.DeletesLaws.{last-same, left-loose, right-loose, pair-joined, group-above, divider-chain}

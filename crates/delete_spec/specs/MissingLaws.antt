@@ -18,7 +18,7 @@ use Rattle.tree_spec.specs.WorldsLaws.{all-join, world-root}
 use Rattle.put_spec.specs.Children.{Belongs, Meets, views_of, child_at}
 use Rattle.put_spec.specs.ChildrenLaws.{child-stands, list-join}
 use Rattle.put_spec.specs.Steps.{Spelled, spelled, views_in, HasCells, child_page}
-use Rattle.put_spec.specs.StepsLaws.{page-tells}
+use Rattle.put_spec.specs.SpelledLaws.{page-tells}
 use Rattle.delete_spec.specs.Steps.{HasNone, MissingBelow, MissingUnder}
 use Rattle.delete_spec.specs.StepsLaws.{child-page}
 

@@ -26,7 +26,8 @@ use Rattle.put_spec.specs.ChildrenLaws.{beside-first, child-within, child-stands
 use Rattle.put_spec.specs.Puts.{After, hand_after, moved}
 use Rattle.put_spec.specs.PutsLaws.{pages-parts, moved-page}
 use Rattle.put_spec.specs.Steps.{Spelled, spelled, bytes_in, HasCells, child_page, GivesBack, Releases}
-use Rattle.put_spec.specs.StepsLaws.{page-tells, own-written, moved-cells, moved-right}
+use Rattle.put_spec.specs.SpelledLaws.{page-tells}
+use Rattle.put_spec.specs.SettledLaws.{own-written, moved-cells, moved-right}
 use Rattle.delete_spec.specs.Deletes.{Before, hand_of, alone, pair, parent_with, IsOpened, IsDeleted, IsSunk, IsWorldDeleted}
 use Rattle.delete_spec.specs.NeighboursLaws.{alone-among, pair-among, end-among, group-count}
 use Rattle.delete_spec.specs.DeletesLaws.{cells-same, leaf-taken, left-loose, right-loose, left-leaf-gone, right-leaf-gone, group-above, parent-untouched, root-stays, sunk-child, sunk-root, root-sinks}

@@ -12,7 +12,7 @@ use Rattle.tree_spec.specs.Changes.{Writes}
 use Rattle.put_spec.specs.Children.{Belongs, Meets, child_at}
 use Rattle.put_spec.specs.ChildrenLaws.{child-stands}
 use Rattle.put_spec.specs.Steps.{Spelled, spelled, bytes_in, views_in, HasCells, child_page, with_dividers, IsSettled, IsRooted, Releases}
-use Rattle.put_spec.specs.StepsLaws.{page-tells}
+use Rattle.put_spec.specs.SpelledLaws.{page-tells}
 use Rattle.delete_spec.specs.Steps.{IsPayload, MissingUnder, OpensBelow, OpensUnder, GrowsUnder, DeleteInto, EmptiesPage}
 use Rattle.delete_spec.specs.StepsLaws.{child-page, leaf-opens, parent-stays, root-unwritten, leaf-goes, last-leaf-goes, root-only-child, root-takes}
 use Rattle.delete_spec.specs.CutsLaws.{page-settled, page-written, root-written, root-rooted, parent-grown}

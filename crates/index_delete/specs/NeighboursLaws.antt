@@ -33,7 +33,8 @@ use Rattle.put_spec.specs.ChildrenLaws.{beside-first, child-stands, child-within
 use Rattle.put_spec.specs.ImagesLaws.{length-of}
 use Rattle.put_spec.specs.PutsLaws.{pages-parts}
 use Rattle.put_spec.specs.Steps.{HasCells, Spelled, bytes_in, child_page, spelled, views_in}
-use Rattle.put_spec.specs.StepsLaws.{child-page, page-tells}
+use Rattle.put_spec.specs.SpelledLaws.{page-tells}
+use Rattle.put_spec.specs.ParentsLaws.{child-page}
 use Rattle.index_delete_spec.specs.Deletes.{After, hand_after}
 use Rattle.index_delete_spec.specs.PartsLaws.{child-number}
 use Rattle.index_delete_spec.specs.Steps.{EmptiesPage, IsReady, cell_of as held_of}

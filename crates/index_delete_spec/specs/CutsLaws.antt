@@ -19,7 +19,8 @@ use Rattle.put_spec.specs.ChildrenLaws.{keeps-fewer}
 use Rattle.put_spec.specs.Puts.{moved}
 use Rattle.put_spec.specs.PutsLaws.{pages-parts, cut-count, moved-page}
 use Rattle.put_spec.specs.Steps.{Spelled, spelled, bytes_in, HasCells, child_page, with_dividers, AreParts, IsFronted, IsSpread, IsSettled, IsMovedOut, IsRooted}
-use Rattle.put_spec.specs.StepsLaws.{page-tells, own-written, moved-cells, moved-right, settled-spread, siblings-cells}
+use Rattle.put_spec.specs.SpelledLaws.{page-tells}
+use Rattle.put_spec.specs.SettledLaws.{own-written, moved-cells, moved-right, settled-spread, siblings-cells}
 use Rattle.delete_spec.specs.Deletes.{Before, hand_of, alone, parent_with}
 use Rattle.delete_spec.specs.NeighboursLaws.{alone-among}
 use Rattle.delete_spec.specs.DeletesLaws.{last-same}

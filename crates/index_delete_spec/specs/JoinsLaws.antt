@@ -21,7 +21,8 @@ use Rattle.put_spec.specs.Children.{child_at}
 use Rattle.put_spec.specs.ChildrenLaws.{beside-first, child-stands}
 use Rattle.put_spec.specs.PutsLaws.{pages-parts}
 use Rattle.put_spec.specs.Steps.{Spelled, spelled, HasCells, child_page, with_dividers, IsRaised, IsSettled, Releases}
-use Rattle.put_spec.specs.StepsLaws.{child-page, page-tells}
+use Rattle.put_spec.specs.SpelledLaws.{page-tells}
+use Rattle.put_spec.specs.ParentsLaws.{child-page}
 use Rattle.delete_spec.specs.Deletes.{hand_of, alone, pair, parent_with}
 use Rattle.delete_spec.specs.NeighboursLaws.{alone-among, pair-among, group-count}
 use Rattle.delete_spec.specs.DeletesLaws.{last-same}

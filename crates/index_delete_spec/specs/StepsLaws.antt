@@ -20,7 +20,9 @@ use Rattle.put_spec.specs.ChildrenLaws.{child-within, child-stands}
 use Rattle.put_spec.specs.Puts.{moved}
 use Rattle.put_spec.specs.PutsLaws.{pages-parts, moved-page}
 use Rattle.put_spec.specs.Steps.{Spelled, spelled, bytes_in, HasCells, child_page, Releases}
-use Rattle.put_spec.specs.StepsLaws.{child-page, page-tells, own-written, moved-cells, moved-right}
+use Rattle.put_spec.specs.SpelledLaws.{page-tells}
+use Rattle.put_spec.specs.SettledLaws.{own-written, moved-cells, moved-right}
+use Rattle.put_spec.specs.ParentsLaws.{child-page}
 use Rattle.delete_spec.specs.Deletes.{Before, hand_of, alone, parent_with}
 use Rattle.delete_spec.specs.NeighboursLaws.{alone-among}
 use Rattle.delete_spec.specs.DeletesLaws.{cells-same}

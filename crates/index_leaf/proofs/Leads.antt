@@ -14,7 +14,7 @@ use Rattle.page_shape.specs.Shapes.{AreCells}
 use Rattle.put_spec.specs.Children.{child_at}
 use Rattle.put_spec.specs.ChildrenLaws.{child-stands}
 use Rattle.put_spec.specs.Steps.{Spelled, bytes_in, spelled}
-use Rattle.put_spec.specs.StepsLaws.{child-page}
+use Rattle.put_spec.specs.ParentsLaws.{child-page}
 use Rattle.tree_spec.specs.declared.TreeKind.TheVariants.{Index}
 use Rattle.tree_spec.specs.Trees.{TreeCell, TreeOf, cells_behind, kind_at, list_of, own_cells, own_right, page_of}
 use Rattle.tree_spec.specs.Standing.{Paged, Sizes, Stands}

@@ -15,7 +15,7 @@ use Rattle.tree_spec.specs.WorldsLaws.{all-back, all-front, all-join}
 use Rattle.put_spec.specs.Children.{child_at}
 use Rattle.put_spec.specs.ChildrenLaws.{child-stands}
 use Rattle.put_spec.specs.Steps.{Spelled, child_page, spelled}
-use Rattle.put_spec.specs.StepsLaws.{child-page}
+use Rattle.put_spec.specs.ParentsLaws.{child-page}
 use Rattle.index_delete_spec.specs.Steps.{cell_of as held_of}
 use Rattle.tree_walk.specs.declared.page.TreePage.{TreePage}
 use Rattle.tree_walk.specs.Pages.{IsDecoded}

@@ -5,6 +5,9 @@ pub mod ImagesLaws
 pub mod ChildrenLaws
 pub mod LeavesLaws
 pub mod PutsLaws
+pub mod SpelledLaws
+pub mod SettledLaws
+pub mod ParentsLaws
 pub mod StepsLaws
 pub mod WorldsLaws
 pub mod MembersLaws

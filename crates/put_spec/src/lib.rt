@@ -6,7 +6,7 @@
 //! - `Puts`: what stands before and after a put below a page, a cut of a page, and what a put has made of a root;
 //! - `Steps`: what a writer does page by page, as cells that stand in their page and in new pages before it, and that this is a put of whatever tree stands there.
 //!
-//! `ChildrenLaws`, `LeavesLaws`, `PutsLaws`, `StepsLaws` and `WorldsLaws` say what follows, each level from the one below, and in the end that a world holds again.
+//! `ChildrenLaws`, `LeavesLaws` and `PutsLaws` say what follows of trees, `SpelledLaws`, `SettledLaws`, `ParentsLaws` and `StepsLaws` what follows page by page, each level from the one below, and `WorldsLaws` that in the end a world holds again.
 #![tactic(auto)]
 
 mod laws;

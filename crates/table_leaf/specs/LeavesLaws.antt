@@ -20,7 +20,8 @@ use Rattle.put_spec.specs.ChildrenLaws.{all-child, child-stands}
 use Rattle.put_spec.specs.ImagesLaws.{length-of, map-map}
 use Rattle.put_spec.specs.LeavesLaws.{belongs-within}
 use Rattle.put_spec.specs.Steps.{HasCells, IsLeafEdit, IsSettled, PutBelow, Spelled, bytes_in, child_page, spelled, views_in}
-use Rattle.put_spec.specs.StepsLaws.{child-page, insert-map, interior-untouched, leaf-step}
+use Rattle.put_spec.specs.ParentsLaws.{child-page, interior-untouched}
+use Rattle.put_spec.specs.StepsLaws.{insert-map, leaf-step}
 use Rattle.delete_spec.specs.Steps.{DeleteAt, GrowsBelow}
 use Rattle.delete_spec.specs.StepsLaws.{parent-stays, root-unwritten}
 use Rattle.page_shape.specs.OwnCellsLaws.{own-are, own-has, own-kind, views-spelled}

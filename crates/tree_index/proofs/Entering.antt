@@ -32,7 +32,7 @@ use Rattle.tree_index.specs.EntriesLaws.{entry-in_leaf, entry-in_leaf_root, entr
 use Rattle.put_spec.specs.ImagesLaws.{length-of, map-map, none-map}
 use Rattle.put_spec.specs.Puts.{Before, IsReady}
 use Rattle.put_spec.specs.Steps.{HasCells, IsRooted, IsSettled, Spelled, bytes_in, child_page, spelled, with_dividers}
-use Rattle.put_spec.specs.StepsLaws.{HasChildAt, child-told}
+use Rattle.put_spec.specs.ParentsLaws.{HasChildAt, child-told}
 use Rattle.tree_level.specs.Changes.{Changes, ChangesRoot, HasSpelled, changed}
 use Rattle.tree_level.specs.Levels.{AreSpelled}
 use Rattle.tree_walk.specs.declared.page.TreePage.{TreePage}

@@ -15,7 +15,9 @@ use Rattle.put_spec.specs.ChildrenLaws.{child-stands, child-within}
 use Rattle.put_spec.specs.ImagesLaws.{length-of}
 use Rattle.put_spec.specs.Puts.{Before}
 use Rattle.put_spec.specs.Steps.{Spelled, bytes_in, spelled}
-use Rattle.put_spec.specs.StepsLaws.{HasChildAt, child-told, insert-map, root-done}
+use Rattle.put_spec.specs.SettledLaws.{root-done}
+use Rattle.put_spec.specs.ParentsLaws.{HasChildAt, child-told}
+use Rattle.put_spec.specs.StepsLaws.{insert-map}
 use Rattle.tree_spec.specs.declared.TreeKind.TheVariants.{Index}
 use Rattle.tree_spec.specs.Trees.{Member, TreeCell, TreeOf, cells_behind, list_of, member, page_of, pages_of}
 use Rattle.tree_spec.specs.Standing.{Paged, Sizes, Stands}

@@ -10,7 +10,9 @@ use Rattle.put_spec.specs.Children.{child_at, children_with, last_with}
 use Rattle.put_spec.specs.ChildrenLaws.{list-join}
 use Rattle.put_spec.specs.Puts.{Before, IsReady, child_before}
 use Rattle.put_spec.specs.Steps.{Spelled, spelled, HasCells, IsSettled, IsRooted, with_dividers}
-use Rattle.put_spec.specs.StepsLaws.{HasChildAt, ListedPut, child-opened, child-untouched, entry-opens, opened-rooted, opened-settled, root-done}
+use Rattle.put_spec.specs.SettledLaws.{ListedPut, opened-rooted, opened-settled, root-done}
+use Rattle.put_spec.specs.ParentsLaws.{HasChildAt, child-opened, child-untouched}
+use Rattle.put_spec.specs.StepsLaws.{entry-opens}
 use Rattle.tree_index.specs.Entries.{EntryDone, EntryRooted, members_before, members_behind}
 
 -- the members of a leaf with one more

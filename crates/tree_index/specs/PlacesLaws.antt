@@ -25,7 +25,7 @@ use Rattle.put_spec.specs.ImagesLaws.{length-of, map-append, map-map}
 use Rattle.tree_index.specs.Entries.{members_before, members_behind}
 use Rattle.tree_index.specs.EntriesLaws.{members-around}
 use Rattle.put_spec.specs.Steps.{HasCells, Spelled, bytes_in, spelled, views_in}
-use Rattle.put_spec.specs.StepsLaws.{page-tells}
+use Rattle.put_spec.specs.SpelledLaws.{page-tells}
 use Rattle.tree_level.specs.Changes.{HasSpelled}
 use Rattle.tree_level.specs.ChangesLaws.{spelled-read}
 use Rattle.tree_walk.specs.declared.page.TreePage.{TreePage}

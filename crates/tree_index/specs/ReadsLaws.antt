@@ -27,7 +27,7 @@ use Rattle.put_spec.specs.ChildrenLaws.{child-stands, child-within}
 use Rattle.tree_index.specs.Entries.{members_before, members_behind}
 use Rattle.tree_index.specs.EntriesLaws.{members-around}
 use Rattle.put_spec.specs.Steps.{Spelled, child_page, spelled, views_in}
-use Rattle.put_spec.specs.StepsLaws.{child-page}
+use Rattle.put_spec.specs.ParentsLaws.{child-page}
 use Rattle.tree_walk.specs.declared.page.TreePage.{TreePage}
 use Rattle.tree_walk.specs.Pages.{IsDecoded, IsReadFault}
 use Rattle.tree_walk.specs.Places.{child_or}

@@ -21,7 +21,7 @@ use Rattle.std.proofs.lemmas.Bool.Decides.{nat_tests}
 use Rattle.format_spec.specs.Sizes.{IsUsable}
 use Rattle.tree_spec.specs.declared.TreeKind.TheVariants.{Table, Index}
 use Rattle.put_spec.specs.Steps.{Spelled, bytes_in, Took, IsFronted}
-use Rattle.put_spec.specs.StepsLaws.{took-written}
+use Rattle.put_spec.specs.SpelledLaws.{took-written}
 use Rattle.put_spec.specs.SpreadsLaws.{spread-then, spread-settled}
 use Rattle.page_spec.specs.Freelists.{Trunk}
 use Rattle.tree_spec.specs.declared.fault.TreeFault.{TreeFault}

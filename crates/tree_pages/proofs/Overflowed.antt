@@ -22,7 +22,7 @@ use Rattle.tree_spec.specs.Worlds.{IsFree}
 use Rattle.tree_spec.specs.Changes.{Turns, Writes}
 use Rattle.tree_spec.specs.ChangesLaws.{Turns-then, Turns-wide, Turns-same, Turns-within, Turns-keeps, free-within, slack-kept}
 use Rattle.put_spec.specs.Steps.{Took}
-use Rattle.put_spec.specs.StepsLaws.{took-written}
+use Rattle.put_spec.specs.SpelledLaws.{took-written}
 use Rattle.tree_pages.specs.Takes.{IsShort}
 use Rattle.tree_pages.specs.TakesLaws.{short-more, short-then}
 use Rattle.tree_pages.specs.Writers.{HasOverflow}

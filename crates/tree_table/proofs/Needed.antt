@@ -28,7 +28,8 @@ use Rattle.put_spec.specs.ChildrenLaws.{all-child, child-stands, child-within}
 use Rattle.put_spec.specs.ImagesLaws.{length-of}
 use Rattle.put_spec.specs.PutsLaws.{pages-parts}
 use Rattle.put_spec.specs.Steps.{Spelled, child_page, spelled}
-use Rattle.put_spec.specs.StepsLaws.{child-page, page-tells}
+use Rattle.put_spec.specs.SpelledLaws.{page-tells}
+use Rattle.put_spec.specs.ParentsLaws.{child-page}
 use Rattle.tree_pages.specs.Takes.{IsShort}
 use Rattle.tree_pages.specs.TakesLaws.{due_pages-least, settled-takes, short-more, short-then, slack-taken, takes-more, takes-then, takes-within}
 use Rattle.tree_walk.specs.declared.page.TreePage.{TreePage}

@@ -26,7 +26,8 @@ use Rattle.put_spec.specs.ImagesLaws.{length-of}
 use Rattle.put_spec.specs.Puts.{After, hand_after}
 use Rattle.put_spec.specs.PutsLaws.{hand-parts, pages-parts}
 use Rattle.put_spec.specs.Steps.{Spelled, child_page, spelled}
-use Rattle.put_spec.specs.StepsLaws.{child-page, page-tells}
+use Rattle.put_spec.specs.SpelledLaws.{page-tells}
+use Rattle.put_spec.specs.ParentsLaws.{child-page}
 use Rattle.delete_spec.specs.Steps.{EmptiesPage, IsReady}
 use Rattle.tree_walk.specs.declared.page.TreePage.{TreePage}
 use Rattle.tree_walk.specs.Pages.{IsDecoded}

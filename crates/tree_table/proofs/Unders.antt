@@ -19,7 +19,8 @@ use Rattle.tree_spec.specs.Standing.{Sizes, Paged}
 use Rattle.put_spec.specs.Children.{Belongs}
 use Rattle.put_spec.specs.ImagesLaws.{length-of, none-map}
 use Rattle.put_spec.specs.Steps.{Spelled, bytes_in, views_in, HasCells, IsLeafEdit, IsRooted, IsSettled, PutInto, PutUnder, child_page, with_dividers}
-use Rattle.put_spec.specs.StepsLaws.{leaf-step, leaf-under, interior-step, interior-untouched, interior-under, leaf-rooted, interior-rooted, interior-stays}
+use Rattle.put_spec.specs.ParentsLaws.{leaf-under, interior-step, interior-untouched, interior-under}
+use Rattle.put_spec.specs.StepsLaws.{leaf-step, leaf-rooted, interior-rooted, interior-stays}
 use Rattle.tree_walk.specs.declared.page.TreePage.{TreePage}
 use Rattle.tree_walk.specs.Pages.{IsDecoded}
 use Rattle.tree_walk.specs.Places.{rowids}

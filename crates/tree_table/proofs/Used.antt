@@ -27,7 +27,7 @@ use Rattle.tree_spec.specs.ChangesLaws.{Turns-wide, Turns-within}
 use Rattle.tree_spec.specs.Worlds.{IsFree}
 use Rattle.put_spec.specs.ImagesLaws.{length-of}
 use Rattle.put_spec.specs.Steps.{Releases, Spelled, spelled, views_in}
-use Rattle.put_spec.specs.StepsLaws.{page-tells}
+use Rattle.put_spec.specs.SpelledLaws.{page-tells}
 use Rattle.delete_spec.specs.Steps.{IsReady}
 use Rattle.tree_pages.specs.Takes.{IsShort, UsesBy}
 use Rattle.tree_pages.specs.TakesLaws.{settled-takes, short-more}

@@ -1,4 +1,4 @@
-use Rattle.put_spec.specs.StepsLaws.{leaf-under, interior-under, leaf-deepens, interior-deepens}
+use Rattle.put_spec.specs.ParentsLaws.{leaf-under, interior-under, leaf-deepens, interior-deepens}
 use Rattle.put_spec.proofs.laws.depth_need_not_be_known.Goals as goal
 
 pub returns-clause-leaf : goal.returns-clause-leaf

@@ -1,4 +1,4 @@
-use Rattle.put_spec.specs.StepsLaws.{page-tells}
+use Rattle.put_spec.specs.SpelledLaws.{page-tells}
 use Rattle.put_spec.proofs.laws.page_tells_its_tree.Goals as goal
 
 pub returns : goal.returns

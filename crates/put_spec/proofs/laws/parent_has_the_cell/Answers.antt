@@ -1,4 +1,4 @@
-use Rattle.put_spec.specs.StepsLaws.{interior-step, interior-untouched}
+use Rattle.put_spec.specs.ParentsLaws.{interior-step, interior-untouched}
 use Rattle.put_spec.proofs.laws.parent_has_the_cell.Goals as goal
 
 pub returns-clause-settled : goal.returns-clause-settled

@@ -1,4 +1,4 @@
-use Rattle.put_spec.specs.StepsLaws.{root-step, root-deepens}
+use Rattle.put_spec.specs.ParentsLaws.{root-step, root-deepens}
 use Rattle.put_spec.proofs.laws.root_has_the_cell.Goals as goal
 
 pub returns-clause-stays : goal.returns-clause-stays

@@ -8,7 +8,7 @@ use Rattle.tree_spec.specs.declared.TreeKind.TheVariants.{Table}
 use Rattle.format_spec.specs.declared.PageKind.TheVariants.{TableLeaf}
 use Rattle.format_spec.specs.Cell.{IsCell}
 use Rattle.put_spec.specs.Steps.{PutBelow}
-use Rattle.put_spec.specs.StepsLaws.{root-step}
+use Rattle.put_spec.specs.ParentsLaws.{root-step}
 use Rattle.tree_spec.specs.Standing.{Sizes}
 use Rattle.tree_pages.specs.Takes.{RisesBy}
 use Rattle.tree_pages.specs.TakesLaws.{rises-read}

@@ -6,5 +6,7 @@ pub mod SchemaDumps
 pub mod SchemaDumpsLaws
 pub mod TableDumps
 pub mod TableDumpsLaws
+pub mod FileAnswers
+pub mod FileAnswersLaws
 pub mod Dumps
 pub mod DumpsLaws

@@ -9,7 +9,7 @@ use Rattle.update_spec.specs.declared.Outcome.TheVariants.{Done, KeyPresent, Ref
 use Rattle.update_spec.specs.declared.Answer.{Answer}
 use Rattle.update_spec.specs.declared.Answer.TheVariants.{Usage, Ended, Printed, Fault, NoMemory}
 use Rattle.update_spec.specs.Update.{Update, AfterOutcome, AfterFault}
-use Rattle.update_spec.specs.Words.{IsUsage, AsksUpdate, AsksDump, AsksMore}
+use Rattle.update_spec.specs.Words.{Question, IsUsage, AsksUpdate, AsksQuestion, AsksMore}
 
 -- the answer of the update; want of memory changes nothing
 abbrev pub IsUpdateAnswer : Update → Option Files → Option Files → Answer → Type 0
@@ -33,13 +33,13 @@ IsPrinted prints files (Printed text) = IfSome files (λ f. prints f (Ok text))
 IsPrinted prints files (Fault file call) = Unit {0}
 IsPrinted prints files NoMemory = Unit {0}
 
--- what it prints by the name that is asked for
+-- what it prints by what it asks
 abbrev pub Printings : Type 1
-Printings = List ℕ → Printing
+Printings = Question → Printing
 
--- the answer of the dump of a name: nothing changes
-abbrev pub IsDumpAnswer : Printing → Option Files → Option Files → Answer → Type 0
-IsDumpAnswer dump before after answer = IsPrinted dump before answer × (after ≡ before)
+-- the answer of such a command: nothing changes
+abbrev pub IsReadAnswer : Printing → Option Files → Option Files → Answer → Type 0
+IsReadAnswer prints before after answer = IsPrinted prints before answer × (after ≡ before)
 
 -- the words of a command that is not built: nothing changes
 abbrev pub IsUnbuiltAnswer : List (List ℕ) → Option Files → Option Files → Answer → Type 0
@@ -51,7 +51,7 @@ IsUsageAnswer words before after answer = IsUsage words × (answer ≡ Usage) ×
 
 -- The answer of a command with these words, whose disk showed these files before and after, where it tells them.
 abbrev pub IsAnswer : Update → Printings → List (List ℕ) → Option Files → Option Files → Answer → Type 0
-IsAnswer update dump words before after answer =
+IsAnswer update prints words before after answer =
     (AsksUpdate words × IsUpdateAnswer update before after answer)
-    ⊎ (((asks : AsksDump words) × IsDumpAnswer (dump asks.0) before after answer)
+    ⊎ (((asks : AsksQuestion words) × IsReadAnswer (prints asks.0) before after answer)
     ⊎ (IsUnbuiltAnswer words before after answer ⊎ IsUsageAnswer words before after answer))

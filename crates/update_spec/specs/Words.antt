@@ -52,6 +52,24 @@ AsksUpdate words = AreWords words (Apply 4294967295)
 abbrev pub AsksDump : List (List ℕ) → Type 0
 AsksDump words = AreWords words Dump
 
+-- the check
+abbrev pub AsksCheck : List (List ℕ) → Type 0
+AsksCheck words = AreWords words Check
+
+-- What a command asks that only reads: for the table with a name, or whether the database is sound.
+pub data Question : Type 0 where
+  Dumps : List ℕ → Question
+  Checks : Question
+
+-- the words ask it
+abbrev pub Ask : List (List ℕ) → Question → Type 0
+Ask words (Dumps name) = words ≡ codes "dump" ∷ name ∷ []
+Ask words Checks = AsksCheck words
+
+-- a dump or the check
+abbrev pub AsksQuestion : List (List ℕ) → Type 0
+AsksQuestion words = (question : Question) × Ask words question
+
 -- the words of a command that is not built
 abbrev pub AsksMore : List (List ℕ) → Type 0
-AsksMore words = (¬ AsksUpdate words) × (¬ AsksDump words) × ((command : Command) × AreWords words command)
+AsksMore words = (¬ AsksUpdate words) × (¬ AsksQuestion words) × ((command : Command) × AreWords words command)

@@ -1,6 +1,6 @@
 -- Words ask for one thing: crates above cite these facts in their proofs.
-use Rattle.std.proofs.Common.{◌≡◌, ℕ, List, [], ◌∷◌, sym, ap, ◌∙◌, arith}
-use Rattle.update_spec.specs.Words.{AsksUpdate, AsksDump}
+use Rattle.std.proofs.Common.{◌≡◌, ℕ, List, [], ◌∷◌, refl, sym, ap, ◌∙◌, arith}
+use Rattle.update_spec.specs.Words.{Question, Dumps, Checks, Ask, AsksUpdate, AsksQuestion}
 
 -- the first letter of the first word, and the second word
 abbrev letter : List (List ℕ) → ℕ
@@ -12,12 +12,25 @@ abbrev second : List (List ℕ) → List ℕ
 second (first ∷ word ∷ words) = word
 second other = []
 
--- the update is no dump
-pub update-no_dump : (words : List (List ℕ)) → AsksUpdate words → ¬ AsksDump words
-update-no_dump words update dump =
-    let letters : 97 ≡ 100 = sym (ap letter update.1) ∙ ap letter dump.1 in
+-- the update is no question
+pub update-no_question : (words : List (List ℕ)) → AsksUpdate words → ¬ AsksQuestion words
+update-no_question words update (Dumps name, are) =
+    let letters : 97 ≡ 100 = sym (ap letter update.1) ∙ ap letter are in
+    omega (arith, letters)
+update-no_question words update (Checks, are) =
+    let letters : 97 ≡ 99 = sym (ap letter update.1) ∙ ap letter are in
     omega (arith, letters)
 
--- a dump is of one name
-pub dump-name : (words : List (List ℕ)) (a b : AsksDump words) → a.0 ≡ b.0
-dump-name words a b = sym (ap second a.1) ∙ ap second b.1
+-- words ask one question
+same-question : (words : List (List ℕ)) (a b : Question) → Ask words a → Ask words b → a ≡ b
+same-question words (Dumps name) (Dumps other) are also = ap Dumps (sym (ap second are) ∙ ap second also)
+same-question words (Dumps name) Checks are also =
+    let letters : 100 ≡ 99 = sym (ap letter are) ∙ ap letter also in
+    absurd (omega (arith, letters))
+same-question words Checks (Dumps name) are also =
+    let letters : 99 ≡ 100 = sym (ap letter are) ∙ ap letter also in
+    absurd (omega (arith, letters))
+same-question words Checks Checks are also = refl
+
+pub question-one : (words : List (List ℕ)) (a b : AsksQuestion words) → a.0 ≡ b.0
+question-one words a b = same-question words a.0 b.0 a.1 b.1

@@ -8,7 +8,7 @@ ghost use Rattle.file_spec.specs.Trails.{Trail};
 ghost use Rattle.format_spec.specs.PageMap.{PageMap, SamePages};
 ghost use Rattle.update_spec.specs.Crashes.{HasShownFile, HasShownNames, ImagesKeepView};
 ghost use Rattle.update_spec.specs.View.{IsView};
-ghost use Rattle.update_spec.specs.Words.{AsksDump, AsksUpdate};
+ghost use Rattle.update_spec.specs.Words.{AsksQuestion, AsksUpdate};
 
 /// A reader of the files sees one list of pages, as far as they matter; and whatever has those is what it sees.
 pub fn view_is_one()
@@ -24,9 +24,9 @@ pub fn images_keep_view()
     ensures stable { (r : Record) → HasShownNames r → HasShownFile Target r → shown_files r Wal ≡ None → ImagesKeepView r }
 {}
 
-/// Words ask for one thing: none ask for the update and for a dump, and a dump is of one name. That words of
-/// neither are those of something that is not built, or of no command, is said by the definitions.
+/// Words ask for one thing: none ask for the update and a question, and they ask one question, a dump of one name or the
+/// check. That words of neither are those of something that is not built, or of no command, is said by the definitions.
 pub fn words_ask_for_one_thing()
-    ensures apart { (words : List (List ℕ)) → AsksUpdate words → ¬ AsksDump words }
-    ensures name { (words : List (List ℕ)) (a b : AsksDump words) → a.0 ≡ b.0 }
+    ensures apart { (words : List (List ℕ)) → AsksUpdate words → ¬ AsksQuestion words }
+    ensures question { (words : List (List ℕ)) (a b : AsksQuestion words) → a.0 ≡ b.0 }
 {}

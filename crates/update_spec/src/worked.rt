@@ -12,7 +12,7 @@ ghost use Rattle.update_spec.specs.declared.Answer.TheVariants.{Usage, Ended, Pr
 ghost use Rattle.update_spec.specs.declared.Outcome.TheVariants.{Done, KeyPresent, Refused};
 ghost use Rattle.update_spec.specs.Text.{answer_text, answer_status};
 ghost use Rattle.update_spec.specs.View.{IsView, KeepsView};
-ghost use Rattle.update_spec.specs.Words.{AsksDump, AsksMore, IsUsage};
+ghost use Rattle.update_spec.specs.Words.{AsksCheck, AsksDump, AsksMore, IsUsage};
 ghost use Rattle.format_spec.specs.PageMap.{pages_of};
 ghost use Rattle.format_spec.specs.LittleLog.{little_page, little_log};
 
@@ -48,9 +48,10 @@ pub fn worked_statuses()
     ensures printed { answer_status (Printed []) ≡ 0 }
 {}
 
-/// What words ask for: the dump of a table, a command that is not built, and nothing where a dump has no name.
+/// What words ask for: the dump of a table, the check, a command that is not built, and nothing where a dump has no name.
 pub fn worked_words()
     ensures table { AsksDump (codes "dump" ∷ codes "t1" ∷ []) }
+    ensures check { AsksCheck (codes "check" ∷ []) }
     ensures state { AsksMore (codes "state" ∷ []) }
     ensures nameless { IsUsage (codes "dump" ∷ []) }
 {}

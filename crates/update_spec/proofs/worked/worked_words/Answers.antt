@@ -1,7 +1,7 @@
 use Rattle.std.proofs.Common.{◌≡◌, ℕ, List, [], ◌∷◌, length, codes, refl, ap, ◌∙◌, arith}
 use Rattle.update_spec.specs.declared.Command.{Command}
 use Rattle.update_spec.specs.declared.Command.TheVariants.{Apply, State, Check, Dump, Make, Trial, Beside}
-use Rattle.update_spec.specs.Words.{AreWords}
+use Rattle.update_spec.specs.Words.{AreWords, AsksQuestion, Dumps, Checks}
 use Rattle.update_spec.proofs.worked.worked_words.Goals as goal
 
 -- the first letter of the first word
@@ -13,12 +13,13 @@ letter ((byte ∷ word) ∷ words) = byte
 pub returns-clause-table : goal.returns-clause-table
 returns-clause-table c = (codes "t1", refl)
 
+-- the words of the state ask no question
+state-no_question : ¬ AsksQuestion (codes "state" ∷ [])
+state-no_question (Dumps name, are) = let letters : 115 ≡ 100 = ap letter are in omega (arith, letters)
+state-no_question (Checks, are) = let letters : 115 ≡ 99 = ap letter are in omega (arith, letters)
+
 pub returns-clause-state : goal.returns-clause-state
-returns-clause-state c = (
-  λ asks. let letters : 115 ≡ 97 = ap letter asks.1 in omega (arith, letters),
-  λ asks. let letters : 115 ≡ 100 = ap letter asks.1 in omega (arith, letters),
-  (State, refl),
-)
+returns-clause-state c = (λ asks. let letters : 115 ≡ 97 = ap letter asks.1 in omega (arith, letters), state-no_question, (State, refl))
 
 -- no command has the one word
 nameless : (command : Command) → ¬ AreWords (codes "dump" ∷ []) command

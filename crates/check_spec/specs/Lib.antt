@@ -1,0 +1,4 @@
+pub mod Checks
+pub mod ChecksLaws
+pub mod Questions
+pub mod QuestionsLaws

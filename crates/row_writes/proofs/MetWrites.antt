@@ -1,24 +1,18 @@
 -- What becomes of the row that is met, by its values.
-use Rattle.std.proofs.Common.{◌≡◌, ℕ, ℤ, Bool, true, false, List, Option, Some, None, if◌then◌else◌, refl, sym, ap, ◌∙◌, subst}
-use Rattle.std.proofs.lemmas.List.{set-set}
+use Rattle.std.proofs.Common.{◌≡◌, ℕ, Bool, true, false, List, Some, if◌then◌else◌, refl, sym, ap, ◌∙◌, subst}
 use Rattle.std.specs.Option.{option_map}
 use Rattle.format_spec.specs.Record.{canonical_record}
 use Rattle.rbu_value.specs.declared.value.Value.{Value}
-use Rattle.rbu_value.specs.declared.value.Value.TheVariants.{Null, Int}
 use Rattle.rbu_rows.specs.declared.control.Control.{Control}
 use Rattle.rbu_rows.specs.declared.control.Control.TheVariants.{Insert, Replace, Delete, Update}
 use Rattle.schema_spec.specs.declared.schema.Table.{Table}
 use Rattle.database_spec.specs.Rows.{TableRow, with_rowid}
 use Rattle.prepared_spec.specs.MembersLaws.{values-itself, true-false}
-use Rattle.prepared_spec.specs.Tables.{marked, met_row, same_values, stored_values, with_values, written_row}
+use Rattle.prepared_spec.specs.Tables.{marked, met_row, same_values, with_values, written_row}
 use Rattle.row_writes.specs.declared.write.RowWrite.{RowWrite}
 use Rattle.row_writes.specs.declared.write.RowWrite.TheVariants.{Nothing, Put, Delete as Gone}
+use Rattle.row_writes.specs.StoredLaws.{stored-rowid, stored-without}
 use Rattle.row_writes.specs.RowWrites.{WritesRow, WritesValues}
-
--- what is stored has no rowid, whichever stood there
-stored-without : (column : Option ℕ) (rowid : ℤ) (values : List Value) → stored_values column (with_rowid column rowid values) ≡ stored_values column values
-stored-without None rowid values = refl
-stored-without (Some column) rowid values = set-set values column (Int rowid) Null
 
 module _ (format : ℕ) (table : Table) (row : TableRow) where
   -- a row with other values
@@ -33,7 +27,7 @@ module _ (format : ℕ) (table : Table) (row : TableRow) where
       by false e (Put bytes) is = (
         written_row format table row.rowid values,
         refl,
-        record { rowid_is = refl; payload_is = sym (is.1 ∙ ap (canonical_record format) (stored-without table.rowid_column row.rowid values)); canonical = is.1 },
+        record { rowid_is = refl; payload_is = sym (is.1 ∙ ap (canonical_record format) (stored-without table.rowid_column row.rowid values)); canonical = is.1; valued = stored-rowid table.rowid_column row.rowid values },
       )
       by false e Gone is = absurd is
 

@@ -4,7 +4,7 @@ use Rattle.format_spec.specs.Record.{canonical_record}
 use Rattle.rbu_value.specs.declared.value.Value.{Value}
 use Rattle.rbu_rows.specs.declared.prepared.Prepared.{Prepared}
 use Rattle.schema_spec.specs.declared.schema.Table.{Table}
-use Rattle.database_spec.specs.Rows.{TableRow}
+use Rattle.database_spec.specs.Rows.{TableRow, with_rowid}
 use Rattle.prepared_spec.specs.Tables.{makes_row, met_row, same_values, stored_values}
 use Rattle.row_steps.specs.RowSteps.{row_of}
 use Rattle.row_writes.specs.declared.write.RowWrite.{RowWrite}
@@ -20,11 +20,12 @@ WritesValues format table old values Nothing = same_values old values ≡ true
 WritesValues format table old values (Put bytes) = (same_values old values ≡ false) × (bytes ≡ record_of format table values)
 WritesValues format table old values Delete = ⊥
 
--- A row that is written: it keeps its rowid, and has the canonical record of its values.
+-- A row that is written: it keeps its rowid, which stands in the place of the INTEGER PRIMARY KEY, and has the canonical record of its values.
 pub record IsWritten (format : ℕ) (table : Table) (rowid : ℤ) (bytes : List ℕ) (row : TableRow) : Type 0 where
   pub rowid_is : row.rowid ≡ rowid
   pub payload_is : row.payload ≡ bytes
   pub canonical : bytes ≡ record_of format table row.values
+  pub valued : row.values ≡ with_rowid table.rowid_column row.rowid (stored_values table.rowid_column row.values)
 
 -- what is written of a row that becomes another, or goes
 abbrev pub WritesRow : ℕ → Table → TableRow → Option TableRow → RowWrite → Type 0

@@ -99,7 +99,8 @@ pub fn row_fault(
     prepared: &Prepared,
 ) -> Result<Option<Violation>, AllocError>
     requires { pos 0 ≤ℤ g.now }
-    ensures { IfOk result (λ fault. (before : List TableRow) → is_met table.now before prepared.now ≡ met → fault ≡ row_fault_of name.now table.now g.now taken before prepared.now) }
+    ensures of_rows { IfOk result (λ fault. (before : List TableRow) → is_met table.now before prepared.now ≡ met → fault ≡ row_fault_of name.now table.now g.now taken before prepared.now) }
+    ensures known { IfOk result (λ fault. fault ≡ fault_where name.now table.now g.now taken met prepared.now) }
 {
     fault_by(alloc, name, table, g, taken, met, prepared)
 }

@@ -6,8 +6,8 @@ use Rattle.prepared_spec.specs.StepFaults.{row_fault}
 use Rattle.row_steps.specs.RowSteps.{fault_where}
 use Rattle.row_steps.proofs.fault.row_fault.Goals as goal
 
-pub returns : goal.returns
-returns c =
+pub returns-clause-of_rows : goal.returns-clause-of_rows
+returns-clause-of_rows c =
     let name = c.args.name.now in
     let table = c.args.table.now in
     let g = c.args.g.now in

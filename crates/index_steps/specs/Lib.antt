@@ -1,0 +1,5 @@
+pub mod IndexSteps
+pub mod ListsLaws
+pub mod StandingLaws
+pub mod StepsLaws
+pub mod ClashesLaws

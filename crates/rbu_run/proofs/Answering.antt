@@ -18,15 +18,17 @@ use Rattle.update_spec.specs.declared.Outcome.{Outcome}
 use Rattle.update_spec.specs.declared.Outcome.TheVariants.{Done, KeyPresent, Refused}
 use Rattle.update_spec.specs.declared.Answer.{Answer}
 use Rattle.update_spec.specs.declared.Answer.TheVariants.{Usage, Ended, Printed, Fault, NoMemory}
-use Rattle.update_spec.specs.declared.Command.TheVariants.{Apply, Dump}
-use Rattle.update_spec.specs.Words.{IsUsage, AsksUpdate, AsksDump, AsksMore}
-use Rattle.update_spec.specs.WordsLaws.{update-no_dump, dump-name}
+use Rattle.update_spec.specs.declared.Command.TheVariants.{Apply, Check, Dump}
+use Rattle.update_spec.specs.Words.{Question, Dumps, Checks, IsUsage, AsksUpdate, AsksDump, AsksCheck, AsksQuestion, AsksMore}
+use Rattle.update_spec.specs.WordsLaws.{update-no_question, question-one}
 use Rattle.update_spec.specs.Answer.{IsUpdateAnswer, IsPrinted, IsAnswer, Printing}
 use Rattle.update_spec.specs.Text.{answer_status, outcome_status}
 use Rattle.small_spec.specs.SmallUpdate.{IsFinished, small_inserts}
 use Rattle.small_spec.specs.SmallLaws.{IsFinished-done}
 use Rattle.dump_spec.specs.Dumps.{IsDump}
-use Rattle.dump_spec.specs.DumpsLaws.{dump-one}
+use Rattle.check_spec.specs.Checks.{IsCheck}
+use Rattle.check_spec.specs.Questions.{IsAnswerTo}
+use Rattle.check_spec.specs.QuestionsLaws.{answer_to-one}
 use Rattle.rbu_run.specs.Commands.{EndsUpdate, EndsPrinted, EndsCommand}
 use Rattle.rbu_run.specs.Ending.{EndsAs}
 use Rattle.rbu_run.specs.Told.{IsTold}
@@ -180,12 +182,17 @@ told-at_status : {O : Type 0} {o : sink.Ghosts O} {Q : Type 0} (x y : O) (status
 told-at_status x y status answer n other (inl line) q is = q (sym line.0 ∙ is)
 told-at_status x y status answer n other (inr failed) q is = absurd (other (sym is ∙ failed.0))
 
--- files that stay, and what a dump says of them, which is their only answer
+-- files that stay, and what is printed of them, which is their only answer
 printed-reads : {a b : Option Files} (P : Printing) (answer : Result (List ℕ) Refusal) → ((f : Files) → IsOne (P f)) → b ≡ a → IfSome a (λ f. P f answer) → Leads (λ f g. (g ≡ f) × Reads (P f) answer) a b
 printed-reads P answer one same prints = Leads-known prints (Leads-same same (λ f is. (refl, Reads-one (P f) answer (one f) is)))
 
 printed-halts : {a b : Option Files} (status : ℕ) → b ≡ a → 6 ≤ status → status ≤ 8 → IsHalted status × Leads (λ f g. g ≡ f) a b
 printed-halts status same least most = ((least, most), Leads-same same (λ f. refl))
+
+-- the words of no command ask no question
+usage-no_question : (words : List (List ℕ)) → IsUsage words → ¬ AsksQuestion words
+usage-no_question words usage (Dumps name, are) = usage Dump (name, are)
+usage-no_question words usage (Checks, are) = usage Check are
 
 -- a command that ended
 module _ {D : Type 0} {d : disk.Ghosts D} (salt : ℕ × ℕ) (words : List (List ℕ)) (before after : D) where
@@ -198,12 +205,12 @@ module _ {D : Type 0} {d : disk.Ghosts D} (salt : ℕ × ℕ) (words : List (Lis
       crash = Leads-weaken update.1.crash (λ a b survives. record { moments = survives.moments; end = tt });
     },
   )
-  ended-no_memory answer takes (inr (inl dump)) = inr (inl (
-    dump.0,
+  ended-no_memory answer takes (inr (inl question)) = inr (inl (
+    question.0,
     record {
       printed = tt;
-      same = dump.1.same;
-      crash = Leads-weaken dump.1.crash (λ a b rests. record { moments = rests.moments; end = tt });
+      same = question.1.same;
+      crash = Leads-weaken question.1.crash (λ a b rests. record { moments = rests.moments; end = tt });
     },
   ))
   ended-no_memory answer takes (inr (inr (inl more))) = absurd (false≢true (subst (λ (x : Answer). IsTrue (takes_memory x)) more.1 takes))
@@ -218,45 +225,45 @@ module _ {D : Type 0} {d : disk.Ghosts D} (salt : ℕ × ℕ) (words : List (Lis
   pub ended-however : (answer : Answer) {Q : Files → Files → Type 0} → EndsCommand d salt words before after answer →
       ((f g : Files) → EndsAs salt answer f g → Q f g) → ((f : Files) → Q f f) → Leads Q (d.shown before) (d.shown after)
   ended-however answer (inl update) changes stays = Leads-weaken update.1.files changes
-  ended-however answer (inr (inl dump)) changes stays = Leads-same dump.1.same stays
+  ended-however answer (inr (inl question)) changes stays = Leads-same question.1.same stays
   ended-however answer (inr (inr (inl more))) changes stays = Leads-same (ap d.shown more.2) stays
   ended-however answer (inr (inr (inr usage))) changes stays = Leads-same (ap d.shown usage.2) stays
 
   -- what the words ask for is what ended
   pub ended-update : (answer : Answer) → AsksUpdate words → EndsCommand d salt words before after answer → EndsUpdate d salt before after answer
   ended-update answer asks (inl update) = update.1
-  ended-update answer asks (inr (inl dump)) = absurd (update-no_dump words asks dump.0)
+  ended-update answer asks (inr (inl question)) = absurd (update-no_question words asks question.0)
   ended-update answer asks (inr (inr (inl more))) = absurd (more.0.0 asks)
   ended-update answer asks (inr (inr (inr usage))) = absurd (usage.0 (Apply 4294967295) asks)
 
-  pub ended-dump : (answer : Answer) (asks : AsksDump words) → EndsCommand d salt words before after answer → EndsPrinted d (IsDump asks.0) before after answer
-  ended-dump answer asks (inl update) = absurd (update-no_dump words update.0 asks)
-  ended-dump answer asks (inr (inl dump)) = subst (λ (name : List ℕ). EndsPrinted d (IsDump name) before after answer) (dump-name words dump.0 asks) dump.1
-  ended-dump answer asks (inr (inr (inl more))) = absurd (more.0.1 asks)
-  ended-dump answer asks (inr (inr (inr usage))) = absurd (usage.0 Dump asks)
+  pub ended-question : (answer : Answer) (asks : AsksQuestion words) → EndsCommand d salt words before after answer → EndsPrinted d (IsAnswerTo asks.0) before after answer
+  ended-question answer asks (inl update) = absurd (update-no_question words update.0 asks)
+  ended-question answer asks (inr (inl question)) = subst (λ (one : Question). EndsPrinted d (IsAnswerTo one) before after answer) (question-one words question.0 asks) question.1
+  ended-question answer asks (inr (inr (inl more))) = absurd (more.0.1 asks)
+  ended-question answer asks (inr (inr (inr usage))) = absurd (usage-no_question words usage.0 asks)
 
   pub ended-more : (answer : Answer) → AsksMore words → EndsCommand d salt words before after answer → answer ≡ Ended (Refused (NotYet part.Words))
   ended-more answer asks (inl update) = absurd (asks.0 update.0)
-  ended-more answer asks (inr (inl dump)) = absurd (asks.1 dump.0)
+  ended-more answer asks (inr (inl question)) = absurd (asks.1 question.0)
   ended-more answer asks (inr (inr (inl more))) = more.1
   ended-more answer asks (inr (inr (inr usage))) = absurd (usage.0 asks.2.0 asks.2.1)
 
   pub ended-usage : (answer : Answer) → IsUsage words → EndsCommand d salt words before after answer → answer ≡ Usage
   ended-usage answer asks (inl update) = absurd (asks (Apply 4294967295) update.0)
-  ended-usage answer asks (inr (inl dump)) = absurd (asks Dump dump.0)
+  ended-usage answer asks (inr (inl question)) = absurd (usage-no_question words asks question.0)
   ended-usage answer asks (inr (inr (inl more))) = absurd (asks more.0.2.0 more.0.2.1)
   ended-usage answer asks (inr (inr (inr usage))) = usage.1
 
-  pub ended-idle : (answer : Answer) → (¬ AsksUpdate words) → (¬ AsksDump words) → EndsCommand d salt words before after answer → after ≡ before
+  pub ended-idle : (answer : Answer) → (¬ AsksUpdate words) → (¬ AsksQuestion words) → EndsCommand d salt words before after answer → after ≡ before
   ended-idle answer other also (inl update) = absurd (other update.0)
-  ended-idle answer other also (inr (inl dump)) = absurd (also dump.0)
+  ended-idle answer other also (inr (inl question)) = absurd (also question.0)
   ended-idle answer other also (inr (inr (inl more))) = more.2
   ended-idle answer other also (inr (inr (inr usage))) = usage.2
 
   -- the answer of the words and the files
-  ended-answers : (answer : Answer) → EndsCommand d salt words before after answer → IsAnswer small_inserts IsDump words (d.shown before) (d.shown after) answer
+  ended-answers : (answer : Answer) → EndsCommand d salt words before after answer → IsAnswer small_inserts IsAnswerTo words (d.shown before) (d.shown after) answer
   ended-answers answer (inl update) = inl (update.0, update-answers salt (d.shown before) (d.shown after) answer update.1.of_update update.1.files)
-  ended-answers answer (inr (inl dump)) = inr (inl (dump.0, (dump.1.printed, dump.1.same)))
+  ended-answers answer (inr (inl question)) = inr (inl (question.0, (question.1.printed, question.1.same)))
   ended-answers answer (inr (inr (inl more))) = inr (inr (inl (more.0, more.1, ap d.shown more.2)))
   ended-answers answer (inr (inr (inr usage))) = inr (inr (inr (usage.0, usage.1, ap d.shown usage.2)))
 
@@ -268,41 +275,41 @@ module _ {D : Type 0} {d : disk.Ghosts D} (salt : ℕ × ℕ) (words : List (Lis
   }
 
   ended-done : (answer : Answer) → EndsCommand d salt words before after answer → answer_status answer ≡ 0 →
-      (AsksUpdate words × Leads IsFinished (d.shown before) (d.shown after)) ⊎ AsksDump words
+      (AsksUpdate words × Leads IsFinished (d.shown before) (d.shown after)) ⊎ AsksQuestion words
   ended-done answer (inl update) zero = inl (update.0, Leads-weaken update.1.files (done-finished salt answer zero))
-  ended-done answer (inr (inl dump)) zero = inr dump.0
+  ended-done answer (inr (inl question)) zero = inr question.0
   ended-done answer (inr (inr (inl more))) zero = absurd (let four : answer_status answer ≡ 4 = ap answer_status more.1 in omega (arith, zero, four))
   ended-done answer (inr (inr (inr usage))) zero = absurd (let two : answer_status answer ≡ 2 = ap answer_status usage.1 in omega (arith, zero, two))
 
   ended-constraint : (answer : Answer) → EndsCommand d salt words before after answer → answer_status answer ≡ 3 → AsksUpdate words × Leads KeepsOnFault (d.shown before) (d.shown after)
   ended-constraint answer (inl update) three = (update.0, Leads-weaken update.1.files (constraint-keeps salt answer three))
-  ended-constraint answer (inr (inl dump)) three = absurd (printed-no_constraint (IsDump dump.0.0) (d.shown before) answer dump.1.printed three)
+  ended-constraint answer (inr (inl question)) three = absurd (printed-no_constraint (IsAnswerTo question.0.0) (d.shown before) answer question.1.printed three)
   ended-constraint answer (inr (inr (inl more))) three = absurd (let four : answer_status answer ≡ 4 = ap answer_status more.1 in omega (arith, three, four))
   ended-constraint answer (inr (inr (inr usage))) three = absurd (let two : answer_status answer ≡ 2 = ap answer_status usage.1 in omega (arith, three, two))
 
   ended-refused : (answer : Answer) → EndsCommand d salt words before after answer → answer_status answer ≡ 4 →
-      (AsksUpdate words × Leads KeepsOnRefusal (d.shown before) (d.shown after)) ⊎ (AsksDump words ⊎ AsksMore words)
+      (AsksUpdate words × Leads KeepsOnRefusal (d.shown before) (d.shown after)) ⊎ (AsksQuestion words ⊎ AsksMore words)
   ended-refused answer (inl update) four = inl (update.0, Leads-weaken update.1.files (refused-keeps salt answer four))
-  ended-refused answer (inr (inl dump)) four = inr (inl dump.0)
+  ended-refused answer (inr (inl question)) four = inr (inl question.0)
   ended-refused answer (inr (inr (inl more))) four = inr (inr more.0)
   ended-refused answer (inr (inr (inr usage))) four = absurd (let two : answer_status answer ≡ 2 = ap answer_status usage.1 in omega (arith, four, two))
 
   ended-with_usage : (answer : Answer) → EndsCommand d salt words before after answer → answer_status answer ≡ 2 → IsUsage words
   ended-with_usage answer (inl update) two = absurd (update-no_usage answer update.1.of_update two)
-  ended-with_usage answer (inr (inl dump)) two = absurd (printed-no_usage (IsDump dump.0.0) (d.shown before) answer dump.1.printed two)
+  ended-with_usage answer (inr (inl question)) two = absurd (printed-no_usage (IsAnswerTo question.0.0) (d.shown before) answer question.1.printed two)
   ended-with_usage answer (inr (inr (inl more))) two = absurd (let four : answer_status answer ≡ 4 = ap answer_status more.1 in omega (arith, two, four))
   ended-with_usage answer (inr (inr (inr usage))) two = usage.0
 
   -- and told by a status and an output
   module _ {O : Type 0} {o : sink.Ghosts O} (x y : O) (status : ℕ) where
     module _ (answer : Answer) (ends : EndsCommand d salt words before after answer) (told : IsTold o answer x y status) where
-      pub told-done : status ≡ 0 → (AsksUpdate words × Leads IsFinished (d.shown before) (d.shown after)) ⊎ AsksDump words
+      pub told-done : status ≡ 0 → (AsksUpdate words × Leads IsFinished (d.shown before) (d.shown after)) ⊎ AsksQuestion words
       told-done = told-at_status x y status answer 0 (λ e. omega (arith, e)) told (ended-done answer ends)
 
       pub told-constraint : status ≡ 3 → AsksUpdate words × Leads KeepsOnFault (d.shown before) (d.shown after)
       told-constraint = told-at_status x y status answer 3 (λ e. omega (arith, e)) told (ended-constraint answer ends)
 
-      pub told-refused : status ≡ 4 → (AsksUpdate words × Leads KeepsOnRefusal (d.shown before) (d.shown after)) ⊎ (AsksDump words ⊎ AsksMore words)
+      pub told-refused : status ≡ 4 → (AsksUpdate words × Leads KeepsOnRefusal (d.shown before) (d.shown after)) ⊎ (AsksQuestion words ⊎ AsksMore words)
       told-refused = told-at_status x y status answer 4 (λ e. omega (arith, e)) told (ended-refused answer ends)
 
       pub told-memory : status ≡ 7 → Leads (λ f g. g ≡ f) (d.shown before) (d.shown after)
@@ -340,8 +347,14 @@ module _ {D : Type 0} {d : disk.Ghosts D} (salt : ℕ × ℕ) (words : List (Lis
     printed-tells P one (Fault file call) ends (inl line) = inr (inr (printed-halts status ends.same (omega (arith, line.0)) (omega (arith, line.0))))
     printed-tells P one NoMemory ends (inl line) = inr (inr (printed-halts status ends.same (omega (arith, line.0)) (omega (arith, line.0))))
 
+    told-question : (answer : Answer) → EndsCommand d salt words before after answer → IsTold o answer x y status → (asks : AsksQuestion words) → TellsPrinted d o (IsAnswerTo asks.0) before after x y status
+    told-question answer ends told asks = printed-tells (IsAnswerTo asks.0) (answer_to-one asks.0) answer (ended-question answer asks ends) told
+
     pub told-dump : (answer : Answer) → EndsCommand d salt words before after answer → IsTold o answer x y status → (asks : AsksDump words) → TellsPrinted d o (IsDump asks.0) before after x y status
-    told-dump answer ends told asks = printed-tells (IsDump asks.0) (dump-one asks.0) answer (ended-dump answer asks ends) told
+    told-dump answer ends told asks = told-question answer ends told (Dumps asks.0, asks.1)
+
+    pub told-check : (answer : Answer) → EndsCommand d salt words before after answer → IsTold o answer x y status → AsksCheck words → TellsPrinted d o IsCheck before after x y status
+    told-check answer ends told asks = told-question answer ends told (Checks, asks)
 
     -- status 6 names the last call on the disk that failed
     fault-tells : (answer : Answer) → EndsCommand d salt words before after answer → IsCounted d before after answer → IsTold o answer x y status →

@@ -12,7 +12,7 @@ use Rattle.update_spec.specs.declared.Answer.TheVariants.{Usage, Ended, Printed,
 use Rattle.update_spec.specs.Text.{answer_status}
 use Rattle.update_spec.specs.Update.{SeesOldOrNew}
 use Rattle.update_spec.specs.Crashes.{LeavesOldOrNew, LeavesNoMore, HasShownNames, HasShownFile}
-use Rattle.update_spec.specs.Words.{AsksUpdate, AsksDump}
+use Rattle.update_spec.specs.Words.{AsksUpdate, AsksQuestion}
 use Rattle.small_spec.specs.SmallUpdate.{small_inserts}
 use Rattle.rbu_disk.specs.declared.disk.Disk as disk
 use Rattle.rbu_disk.specs.declared.sink.Sink as sink
@@ -20,7 +20,7 @@ use Rattle.rbu_run.specs.Commands.{EndsCommand}
 use Rattle.rbu_run.specs.Crash.{MomentsShow, IsStableAnswer}
 use Rattle.rbu_run.specs.Status.{HasEnded, IsOfUpdate}
 use Rattle.rbu_run.specs.Told.{IsTold}
-use Rattle.rbu_run.proofs.Answering.{ended-update, ended-dump}
+use Rattle.rbu_run.proofs.Answering.{ended-update, ended-question}
 use Rattle.rbu_run.proofs.Survivals.{rests-shows}
 
 -- each image since the start
@@ -62,14 +62,14 @@ module _ {D : Type 0} {d : disk.Ghosts D} (salt : ℕ × ℕ) (words : List (Lis
 
       by : EndsCommand d salt words before after answer → Leads (LeavesOldOrNew small_inserts) (d.trail before) (d.trail after)
       by (inl update) = Leads-weaken update.1.crash (λ a b survives. MomentsShow-old_or_new a b survives.moments)
-      by (inr (inl dump)) = Leads-weaken dump.1.crash (λ a b rests. MomentsShow-old_or_new a b (rests-shows a b rests.moments))
+      by (inr (inl question)) = Leads-weaken question.1.crash (λ a b rests. MomentsShow-old_or_new a b (rests-shows a b rests.moments))
       by (inr (inr (inl more))) = still more.2
       by (inr (inr (inr usage))) = still usage.2
 
-  -- a dump leaves no image that could not be left before
-  pub images-no_more : AsksDump words → Leads LeavesNoMore (d.trail before) (d.trail after)
+  -- a dump and a check leave no image that could not be left before
+  pub images-no_more : AsksQuestion words → Leads LeavesNoMore (d.trail before) (d.trail after)
   images-no_more asks =
-      Leads-weaken (ended-dump salt words before after answer asks ends).crash (λ a b rests. images-since (IsImage a.now.at) a b (λ files here. here) rests.moments)
+      Leads-weaken (ended-question salt words before after answer asks ends).crash (λ a b rests. images-since (IsImage a.now.at) a b (λ files here. here) rests.moments)
 
   module _ {O : Type 0} {o : sink.Ghosts O} (x y : O) (status : ℕ) (told : IsTold o answer x y status) where
     -- a status below 8 is the answer's
@@ -88,9 +88,9 @@ module _ {D : Type 0} {d : disk.Ghosts D} (salt : ℕ × ℕ) (words : List (Lis
     stable-names : HasEnded status → (r : Record) → IsStableAnswer answer r → HasShownNames r
     stable-names ended r stable = ended-shown_names answer r (subst HasEnded (told-answer_status (ended-not_eight ended)) ended) stable
 
-    pub told-names : AsksUpdate words ⊎ AsksDump words → HasEnded status → IfSome (d.trail after) (λ t. HasShownNames t.now.at)
+    pub told-names : AsksUpdate words ⊎ AsksQuestion words → HasEnded status → IfSome (d.trail after) (λ t. HasShownNames t.now.at)
     told-names (inl asks) ended = IfSome-led _ (ended-update salt words before after answer asks ends).crash (λ a b survives. stable-names ended b.now.at survives.end)
-    told-names (inr asks) ended = IfSome-led _ (ended-dump salt words before after answer asks ends).crash (λ a b rests. stable-names ended b.now.at rests.end)
+    told-names (inr asks) ended = IfSome-led _ (ended-question salt words before after answer asks ends).crash (λ a b rests. stable-names ended b.now.at rests.end)
 
     pub told-target : AsksUpdate words → status ≡ 0 → IfSome (d.trail after) (λ t. HasShownFile Target t.now.at)
     told-target asks zero =

@@ -20,9 +20,9 @@ use Rattle.small_spec.specs.SmallUpdate.{CanInsert, AreNewBytes}
 use Rattle.small_update.specs.SmallAgain.{UpdateLeavesSmallTarget}
 use Rattle.small_update.specs.Decision.{Decides}
 use Rattle.small_update.specs.declared.Decision.TheVariants as decision
-use Rattle.rbu_dump.specs.declared.halt.Halt.{Halt}
-use Rattle.rbu_dump.specs.declared.halt.Halt.TheVariants.{Fault, Memory}
-use Rattle.rbu_dump.specs.Dumps.{fault_in}
+use Rattle.rbu_query.specs.declared.halt.Halt.{Halt}
+use Rattle.rbu_query.specs.declared.halt.Halt.TheVariants.{Fault, Memory}
+use Rattle.rbu_query.specs.Answers.{fault_in}
 use Rattle.rbu_run.specs.Handover.{IsAlone, HasPages, IsMidway}
 use Rattle.rbu_run.specs.Ending.{AfterHalt, Ends}
 use Rattle.rbu_run.specs.Inspection.{IsSmallWith}

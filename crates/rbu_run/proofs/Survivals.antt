@@ -19,7 +19,7 @@ use Rattle.update_spec.specs.Update.{SeesOldOrNew}
 use Rattle.update_spec.specs.Crashes.{ImagesKeepView, HasShownNames, HasShownFile}
 use Rattle.small_spec.specs.SmallUpdate.{AreNewBytes, small_inserts}
 use Rattle.small_spec.specs.SmallLaws.{view-small, sees_new-bytes}
-use Rattle.rbu_dump.specs.declared.halt.Halt.{Halt}
+use Rattle.rbu_query.specs.declared.halt.Halt.{Halt}
 use Rattle.rbu_run.specs.Handover.{IsAlone}
 use Rattle.rbu_run.specs.Crash.{HasFirmNames, IsImageMidway, CrashesMidway, MomentsShow, IsStableEnd, Survives, Rests}
 use Rattle.rbu_run.proofs.Endings.{view-logged}

@@ -8,8 +8,8 @@ use Rattle.update_spec.specs.declared.Outcome.TheVariants.{Refused}
 use Rattle.update_spec.specs.declared.Answer.{Answer}
 use Rattle.update_spec.specs.declared.Answer.TheVariants.{Usage, Ended}
 use Rattle.update_spec.specs.Answer.{IsPrinted, Printing}
-use Rattle.update_spec.specs.Words.{IsUsage, AsksUpdate, AsksDump, AsksMore}
-use Rattle.dump_spec.specs.Dumps.{IsDump}
+use Rattle.update_spec.specs.Words.{IsUsage, AsksUpdate, AsksQuestion, AsksMore}
+use Rattle.check_spec.specs.Questions.{IsAnswerTo}
 use Rattle.rbu_run.specs.Crash.{IsStableAnswer, Survives, Rests}
 use Rattle.rbu_run.specs.Ending.{EndsAs}
 use Rattle.rbu_run.specs.Status.{IsOfUpdate}
@@ -26,10 +26,10 @@ pub record EndsPrinted {D : Type 0} (d : Ghosts D) (prints : Printing) (before a
   pub same : d.shown after ≡ d.shown before
   pub crash : GoesOn d before after (Rests (IsStableAnswer answer))
 
--- The words ask for the update, for the dump, for more than is built, or for nothing. In the last two cases no call on the disk is made.
+-- The words ask for the update, ask a question, a dump or the check, ask for more than is built, or for nothing. In the last two cases no call on the disk is made.
 abbrev pub EndsCommand : {D : Type 0} → Ghosts D → ℕ × ℕ → List (List ℕ) → D → D → Answer → Type 0
 EndsCommand d salt words before after answer =
     (AsksUpdate words × EndsUpdate d salt before after answer)
-    ⊎ (((asks : AsksDump words) × EndsPrinted d (IsDump asks.0) before after answer)
+    ⊎ (((asks : AsksQuestion words) × EndsPrinted d (IsAnswerTo asks.0) before after answer)
     ⊎ ((AsksMore words × (answer ≡ Ended (Refused (NotYet part.Words))) × (after ≡ before))
     ⊎ (IsUsage words × (answer ≡ Usage) × (after ≡ before))))

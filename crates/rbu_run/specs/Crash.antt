@@ -11,7 +11,7 @@ use Rattle.update_spec.specs.declared.Answer.TheVariants as answer
 use Rattle.update_spec.specs.Update.{SeesOldOrNew}
 use Rattle.update_spec.specs.Crashes.{ImagesKeepView, HasShownNames, HasShownFile}
 use Rattle.small_spec.specs.SmallUpdate.{small_inserts}
-use Rattle.rbu_dump.specs.declared.halt.Halt.{Halt}
+use Rattle.rbu_query.specs.declared.halt.Halt.{Halt}
 use Rattle.rbu_run.specs.Handover.{log_of, IsAlone}
 
 -- no change of a name is pending

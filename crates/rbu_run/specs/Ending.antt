@@ -10,8 +10,8 @@ use Rattle.rbu_run.specs.Handover.{IsMidway}
 use Rattle.rbu_run.specs.Inspection.{HasOnly}
 use Rattle.update_spec.specs.declared.Answer.{Answer}
 use Rattle.update_spec.specs.declared.Answer.TheVariants as answer
-use Rattle.rbu_dump.specs.declared.halt.Halt.{Halt}
-use Rattle.rbu_dump.specs.declared.halt.Halt.TheVariants.{Fault, Memory}
+use Rattle.rbu_query.specs.declared.halt.Halt.{Halt}
+use Rattle.rbu_query.specs.declared.halt.Halt.TheVariants.{Fault, Memory}
 
 -- an outcome: an update that is done leaves the new bytes
 abbrev pub LeavesBytes : Outcome → Files → Files → Type 0

@@ -21,7 +21,7 @@ use Rattle.update_spec.specs.Update.{AfterFault}
 use Rattle.update_spec.specs.Words.{AsksUpdate}
 use Rattle.update_spec.specs.Text.{outcome_status, answer_text}
 use Rattle.small_spec.specs.SmallUpdate.{HasOutcome, small_inserts}
-use Rattle.dump_spec.specs.Dumps.{IsDump}
+use Rattle.check_spec.specs.Questions.{IsAnswerTo}
 use Rattle.rbu_run.specs.Told.{IsTold}
 
 -- the program ends with 0, 2, 3, 4, 6, 7 or 8
@@ -75,7 +75,7 @@ pub record IsCounted {D : Type 0} (d : disk.Ghosts D) (before after : D) (answer
 
 -- The answer is owed to these words: it is theirs over the files, it is the outcome of the files, and a fault has its cause.
 pub record IsOwed {D : Type 0} (d : disk.Ghosts D) (words : List (List ℕ)) (before after : D) (answer : Answer) : Type 0 where
-  pub answers : IsAnswer small_inserts IsDump words (d.shown before) (d.shown after) answer
+  pub answers : IsAnswer small_inserts IsAnswerTo words (d.shown before) (d.shown after) answer
   pub outcome : AsksUpdate words → Goes d before after (λ f _. IsOutcomeOf answer f)
   pub calls : IsCounted d before after answer
 

@@ -4,10 +4,10 @@ ghost use Rattle.byte_fields.specs.Bytes.{resized};
 ghost use Rattle.file_spec.specs.Files.{content};
 ghost use Rattle.rbu_disk.specs.Disk.{AllowsAll, Looks, Owes, OwesBy};
 ghost use Rattle.small_spec.specs.SmallUpdate.{HasOtherFile};
-ghost use Rattle.rbu_dump.specs.Dumps.{fault_in};
+ghost use Rattle.rbu_query.specs.Answers.{fault_in};
 
 use rbu_disk::{Disk, DiskFault, FileName};
-use rbu_dump::Halt;
+use rbu_query::Halt;
 use std::alloc::{AllocError, Global};
 
 /// The length in bytes of a database that can be updated today.

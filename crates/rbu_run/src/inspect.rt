@@ -5,12 +5,12 @@ ghost use Rattle.file_spec.specs.declared.FileName.TheVariants.{Target, Rbu};
 ghost use Rattle.file_spec.specs.Files.{content};
 ghost use Rattle.rbu_disk.specs.Disk.{AllowsAll, Looks, OwesBy};
 ghost use Rattle.small_spec.specs.SmallFile.{IsSmallTarget, IsSmallRbu};
-ghost use Rattle.rbu_dump.specs.Dumps.{fault_in};
+ghost use Rattle.rbu_query.specs.Answers.{fault_in};
 ghost use Rattle.rbu_run.specs.Inspection.{IsInspected, HasSmallRows};
 
 use crate::files::{has_other_file, small_bytes};
 use rbu_disk::{Disk, FileName};
-use rbu_dump::Halt;
+use rbu_query::Halt;
 use refusal::Part;
 use small_file::{read_rbu, read_target};
 use small_spec::{PreparedRow, TargetRow};

@@ -5,15 +5,18 @@ ghost use Rattle.format_spec.specs.Log.{pair_of};
 ghost use Rattle.refusal.specs.declared.Part.TheVariants.{Words};
 ghost use Rattle.refusal.specs.declared.Refusal.TheVariants.{NotYet};
 ghost use Rattle.update_spec.specs.declared.Answer.TheVariants.{Ended};
-ghost use Rattle.update_spec.specs.declared.Command.TheVariants.{Apply, Dump};
+ghost use Rattle.update_spec.specs.declared.Command.TheVariants.{Apply, Check, Dump};
 ghost use Rattle.update_spec.specs.declared.Outcome.TheVariants.{Refused};
 ghost use Rattle.file_spec.specs.declared.FileName.TheVariants.{Target};
 ghost use Rattle.update_spec.specs.Answer.{IsPrinted};
 ghost use Rattle.update_spec.specs.Update.{SeesOldOrNew};
 ghost use Rattle.update_spec.specs.Crashes.{HasShownFile, HasShownNames, LeavesNoMore, LeavesOldOrNew};
-ghost use Rattle.update_spec.specs.Words.{IsUsage, AsksUpdate, AsksDump, AsksMore};
+ghost use Rattle.update_spec.specs.Words.{IsUsage, AsksUpdate, AsksDump, AsksCheck, AsksQuestion, AsksMore};
 ghost use Rattle.small_spec.specs.SmallUpdate.{IsFinished, small_inserts};
 ghost use Rattle.dump_spec.specs.Dumps.{IsDump};
+ghost use Rattle.check_spec.specs.Checks.{IsCheck};
+ghost use Rattle.check_spec.specs.Questions.{IsAnswerTo};
+ghost use Rattle.rbu_query.specs.Questions.{asked};
 ghost use Rattle.rbu_run.specs.Commands.{EndsCommand};
 ghost use Rattle.rbu_run.specs.Crash.{IsStableAnswer, Rests, Survives};
 ghost use Rattle.rbu_run.specs.Ending.{EndsAs};
@@ -21,13 +24,13 @@ ghost use Rattle.rbu_run.specs.Handover.{KeepsOthers, LeavesLog};
 ghost use Rattle.rbu_run.specs.Status.{HasEnded, Tells, TellsPrinted, TellsFault, KeepsOnFault, KeepsOnRefusal, HasStatusOf, IsStatus, IsOfUpdate, IsCounted, CountsCalls, CountsWrites};
 ghost use Rattle.rbu_run.specs.Told.{IsTold};
 
-use crate::dump::dump;
+use crate::query::query;
 use crate::text::write_text;
 use crate::update::{not_yet, update};
 use crate::words::command_of;
 use answer_lines::tellable;
 use rbu_disk::{Disk, Sink};
-use rbu_dump::Halt;
+use rbu_query::{Halt, Question};
 use refusal::Part;
 use std::alloc::Global;
 use update_spec::{Answer, Command, Outcome};
@@ -57,15 +60,15 @@ fn update_answer<D: Disk>(alloc: Global, salt: [u32; 2], disk: &mut D) -> Answer
     }
 }
 
-/// The answer of the dump of a name.
-fn dump_answer<D: Disk>(alloc: Global, disk: &mut D, name: &str) -> Answer
+/// The answer to a question.
+fn query_answer<D: Disk>(alloc: Global, disk: &mut D, question: Question<'_>) -> Answer
     requires allowed { AllowsAll D.Disk disk.old }
-    ensures prints { IsPrinted (IsDump name.now) (D.shown disk.old) result }
+    ensures prints { IsPrinted (IsAnswerTo (asked question.entry)) (D.shown disk.old) result }
     ensures same { D.shown disk.new ≡ D.shown disk.old }
     ensures crash { GoesOn D.Disk disk.old disk.new (Rests (IsStableAnswer result)) }
     ensures calls { IsCounted D.Disk disk.old disk.new result }
 {
-    match dump(alloc, disk, name) {
+    match query(alloc, disk, question) {
         Ok(Ok(text)) => Answer::Printed { text },
         Ok(Err(refusal)) => Answer::Ended {
             outcome: Outcome::Refused { refusal },
@@ -98,13 +101,23 @@ fn is_dump(command: &Command) -> bool
     }
 }
 
+/// Whether the command is the check.
+fn is_check(command: &Command) -> bool
+    ensures { IsTrue result ↔ (command.now ≡ Check) }
+{
+    match command {
+        Command::Check => true,
+        _ => false,
+    }
+}
+
 /// The name of the table that the words ask for.
-fn name_of(words: &[String]) -> &str
+fn name_of(words: &[String]) -> &[u8]
     ensures { (asks : AsksDump (map string_bytes words.now)) → result.now ≡ asks.0 }
 {
     match words {
-        [_dump, name] => name.as_str(),
-        _ => "",
+        [_dump, name] => name.as_bytes(),
+        _ => b"",
     }
 }
 
@@ -121,7 +134,16 @@ fn answer_of<D: Disk>(alloc: Global, words: &[String], salt: [u32; 2], disk: &mu
         return update_answer(alloc, salt, disk);
     }
     if is_dump(&command) {
-        return dump_answer(alloc, disk, name_of(words));
+        return query_answer(
+            alloc,
+            disk,
+            Question::Dump {
+                name: name_of(words),
+            },
+        );
+    }
+    if is_check(&command) {
+        return query_answer(alloc, disk, Question::Check);
     }
     Answer::Ended {
         outcome: not_yet(Part::Words),
@@ -131,9 +153,9 @@ fn answer_of<D: Disk>(alloc: Global, words: &[String], salt: [u32; 2], disk: &mu
 /// Runs a command, and writes its lines at once.
 ///
 /// `words` are the command and its arguments, `salt` goes into the log's header. The status is 0 where the update is
-/// done or the lines of a dump are written, 2 where no command has the words, 3 at a constraint fault, 4 at a refusal,
-/// 6 where the disk failed, 7 where memory ran out, and 8 where the output failed. The disk is handed back whatever the
-/// status is.
+/// done or the lines of a dump or a check are written, 2 where no command has the words, 3 at a constraint fault, 4 at a
+/// refusal, 6 where the disk failed, 7 where memory ran out, and 8 where the output failed. The disk is handed back
+/// whatever the status is.
 pub fn run_command<D: Disk, O: Sink>(
     alloc: Global,
     words: &[String],
@@ -150,8 +172,8 @@ pub fn run_command<D: Disk, O: Sink>(
     ensures images { GoesOn D.Disk disk result.disk (LeavesOldOrNew small_inserts) }
 
     // Where the update came to its outcome no crash takes it back: each image has the names that are shown, and the
-    // target where the update is done. Behind the answer of a dump the names are stable too.
-    ensures names { AsksUpdate (map string_bytes words.now) ⊎ AsksDump (map string_bytes words.now) → HasEnded result.status →
+    // target where the update is done. Behind the answer of a dump or a check the names are stable too.
+    ensures names { AsksUpdate (map string_bytes words.now) ⊎ AsksQuestion (map string_bytes words.now) → HasEnded result.status →
         HasNow D.Disk result.disk HasShownNames }
     ensures target { AsksUpdate (map string_bytes words.now) → result.status ≡ 0 → HasNow D.Disk result.disk (HasShownFile Target) }
 
@@ -163,23 +185,25 @@ pub fn run_command<D: Disk, O: Sink>(
 
     // An update that ends has put every prepared row into the target, and neither log exists.
     ensures finished { result.status ≡ 0 → (AsksUpdate (map string_bytes words.now) × Goes D.Disk disk result.disk IsFinished)
-        ⊎ AsksDump (map string_bytes words.now) }
+        ⊎ AsksQuestion (map string_bytes words.now) }
     ensures constraint { result.status ≡ 3 → AsksUpdate (map string_bytes words.now) × Goes D.Disk disk result.disk KeepsOnFault }
     ensures refused { result.status ≡ 4 → (AsksUpdate (map string_bytes words.now) × Goes D.Disk disk result.disk KeepsOnRefusal)
-        ⊎ (AsksDump (map string_bytes words.now) ⊎ AsksMore (map string_bytes words.now)) }
+        ⊎ (AsksQuestion (map string_bytes words.now) ⊎ AsksMore (map string_bytes words.now)) }
     ensures memory { result.status ≡ 7 → Goes D.Disk disk result.disk (λ f g. g ≡ f) }
 
-    // A dump writes the lines of the named table in the files shown, or the line of their first refusal, exactly, unless a
-    // device failed or memory ran out. It changes no file, and a crash at any moment of it leaves no more than one before.
+    // A dump writes the lines of the named table in the files shown, and a check that their database is sound, with its pages
+    // and trees, or each the line of their first refusal, exactly, unless a device failed or memory ran out. They change no
+    // file, and a crash at any moment of them leaves no more than one before.
     ensures dumped { (asks : AsksDump (map string_bytes words.now)) → TellsPrinted D.Disk O.Sink (IsDump asks.0) disk result.disk out.old out.new result.status }
-    ensures kept { AsksDump (map string_bytes words.now) → GoesOn D.Disk disk result.disk LeavesNoMore }
+    ensures checked { AsksCheck (map string_bytes words.now) → TellsPrinted D.Disk O.Sink IsCheck disk result.disk out.old out.new result.status }
+    ensures kept { AsksQuestion (map string_bytes words.now) → GoesOn D.Disk disk result.disk LeavesNoMore }
 
     // The outcome of the files is the answer, exactly, unless a device failed or memory ran out.
     ensures complete { AsksUpdate (map string_bytes words.now) → Goes D.Disk disk result.disk (λ f _. HasStatusOf result.status f) }
     ensures not_built { AsksMore (map string_bytes words.now) → IsTold O.Sink (Ended (Refused (NotYet Words))) out.old out.new result.status }
     ensures usage { result.status ≡ 2 → IsUsage (map string_bytes words.now) }
     ensures usage_only { IsUsage (map string_bytes words.now) → (result.status ≡ 2) ⊎ (result.status ≡ 8) }
-    ensures idle { (¬ AsksUpdate (map string_bytes words.now)) → (¬ AsksDump (map string_bytes words.now)) → result.disk ≡ disk }
+    ensures idle { (¬ AsksUpdate (map string_bytes words.now)) → (¬ AsksQuestion (map string_bytes words.now)) → result.disk ≡ disk }
 
     ensures status { IsStatus result.status }
 

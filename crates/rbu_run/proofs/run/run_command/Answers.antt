@@ -68,6 +68,9 @@ returns-clause-complete g c = answering.told-complete (pair_of c.args.salt) (map
 pub returns-clause-dumped : goal.returns-clause-dumped
 returns-clause-dumped g c = answering.told-dump (pair_of c.args.salt) (map string_bytes c.args.words.now) c.args.disk c.answer_of-answer.new.disk c.args.out.now c.write_text-status.new.out c.write_text-status.result c.tellable-answer.result.0 (ended g c) c.write_text-status.ensures
 
+pub returns-clause-checked : goal.returns-clause-checked
+returns-clause-checked g c = answering.told-check (pair_of c.args.salt) (map string_bytes c.args.words.now) c.args.disk c.answer_of-answer.new.disk c.args.out.now c.write_text-status.new.out c.write_text-status.result c.tellable-answer.result.0 (ended g c) c.write_text-status.ensures
+
 pub returns-clause-fault : goal.returns-clause-fault
 returns-clause-fault g c = answering.told-fault (pair_of c.args.salt) (map string_bytes c.args.words.now) c.args.disk c.answer_of-answer.new.disk c.args.out.now c.write_text-status.new.out c.write_text-status.result c.tellable-answer.result.0 (ended g c) (counted g c) c.write_text-status.ensures
 

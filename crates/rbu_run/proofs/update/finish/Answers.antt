@@ -9,7 +9,7 @@ use Rattle.refusal.specs.declared.Part.TheVariants as part
 use Rattle.refusal.specs.declared.Refusal.TheVariants.{NotYet}
 use Rattle.update_spec.specs.declared.Outcome.TheVariants.{Refused}
 use Rattle.update_spec.specs.Crashes.{HasShownNames}
-use Rattle.rbu_dump.specs.declared.halt.Halt.TheVariants.{Fault}
+use Rattle.rbu_query.specs.declared.halt.Halt.TheVariants.{Fault}
 use Rattle.small_spec.specs.Inserts.{new_pages}
 use Rattle.small_update.specs.Decision.{Decides}
 use Rattle.small_update.specs.declared.Decision.TheVariants as decision

@@ -1,5 +1,0 @@
-mod Lines
-mod Records
-mod Dumps
-mod Loans
-mod CatalogAnswers

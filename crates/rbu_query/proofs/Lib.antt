@@ -1,0 +1,6 @@
+mod Lines
+mod Records
+mod Answering
+mod Loans
+mod CatalogAnswers
+mod CheckAnswers

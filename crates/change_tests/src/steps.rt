@@ -9,8 +9,8 @@ use std::alloc::{AllocError, Global};
 use std::rt::HostRuntime;
 use std::test::Fail;
 
-// A control: a letter for an insertion, a replacement or a deletion, or the marks of an update.
-fn control_of(alloc: Global, letters: &str) -> Result<Control, AllocError> {
+/// A control: a letter for an insertion, a replacement or a deletion, or the marks of an update.
+pub fn control_of(alloc: Global, letters: &str) -> Result<Control, AllocError> {
     match letters.as_bytes() {
         b"i" => Ok(Control::Insert),
         b"r" => Ok(Control::Replace),

@@ -1,0 +1,11 @@
+pub mod Lists
+pub mod Steps
+pub mod Came
+pub mod Behind
+pub mod Groups
+pub mod Pairing
+pub mod Finding
+pub mod Ordering
+pub mod Rowids
+pub mod Whole
+pub mod Collecting

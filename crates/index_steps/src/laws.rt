@@ -1,5 +1,5 @@
 // Laws about steps of a pass over an index.
-ghost use Rattle.std.specs.Prelude.{◌≡◌, ◌++◌, ◌∷◌, ◌⊎◌, ℕ, IsTrue, List, None, Some, [], false};
+ghost use Rattle.std.specs.Prelude.{◌≡◌, ◌++◌, ◌∷◌, ◌⊎◌, ℕ, suc, IsTrue, List, None, Some, [], false, map};
 ghost use Rattle.rbu_value.specs.declared.value.Value.{Value};
 ghost use Rattle.schema_spec.specs.declared.schema.Index.{Index};
 ghost use Rattle.tree_spec.specs.Trees.{Member};
@@ -8,7 +8,12 @@ ghost use Rattle.database_spec.specs.Rows.{TableRow};
 ghost use Rattle.prepared_spec.specs.declared.violation.Change.{Change};
 ghost use Rattle.prepared_spec.specs.declared.violation.Change.TheVariants.{Remove, Add};
 ghost use Rattle.prepared_spec.specs.declared.violation.Violation.TheVariants.{NotUnique};
-ghost use Rattle.prepared_spec.specs.Outcomes.{IsIndexAfter};
+ghost use Rattle.prepared_spec.specs.Outcomes.{IsIndexAfter, IsMid, format_in};
+ghost use Rattle.prepared_spec.specs.Plans.{IndexPlan, TablePlan};
+ghost use Rattle.rbu_rows.specs.declared.prepared.Batch.{Batch};
+ghost use Rattle.database_spec.specs.declared.catalog.Catalog.{Catalog};
+ghost use Rattle.database_spec.specs.Databases.{Database, list_at};
+ghost use Rattle.index_steps.specs.Databases.{HasRoot, IsDue, with_list};
 ghost use Rattle.prepared_spec.specs.StepFaults.{IsChangeFault};
 ghost use Rattle.key_order.specs.declared.order.KeyOrder.{KeyOrder};
 ghost use Rattle.key_order.specs.Orders.{HasEqual, IsEntry, IsRising};
@@ -50,4 +55,13 @@ pub fn additions_meet_their_faults()
     ensures none { (format : ℕ) (index : Index) (old_rows new_rows : List TableRow) (old : List Member) (done : List Change) (entry : List Value) (left : List Change) (alike : KeyOrder) (now : List Member)
         → AreChangesOf format index old_rows new_rows old (done ++ Add entry ∷ left) → IsColumnsOrderOf alike index → IsIndexAfter format index done old now
         → (¬ IsTrue index.unique) ⊎ ((¬ (has_null index entry ≡ false)) ⊎ (¬ HasEqual alike (change_record format (Add entry)) now)) → IsChangeFault index old_rows new_rows (Add entry) None }
+{}
+
+/// A database midway has at the root of the index of which a change is due its list behind the changes that are done; with the list behind one change more in its place it is the database behind one step more.
+pub fn steps_of_indexes_lead_databases_on()
+    ensures stands { (catalog : Catalog) (old mid : Database) (groups : List (List Batch)) (n : ℕ) (is : IsMid catalog old groups n mid) (plan : TablePlan) (index : IndexPlan) (done : List Change) (change : Change) (left : List Change)
+        → IsDue is.plans n plan index done change left → HasRoot old.lists index.root → IsIndexAfter (format_in old) index.index done (list_at old.lists index.root) (list_at mid.lists index.root) }
+    ensures leads { (catalog : Catalog) (old mid : Database) (groups : List (List Batch)) (n : ℕ) (is : IsMid catalog old groups n mid) (plan : TablePlan) (index : IndexPlan) (done : List Change) (change : Change) (left : List Change) (members : List Member) (next : Database)
+        → IsDue is.plans n plan index done change left → HasRoot old.lists index.root → IsIndexAfter (format_in old) index.index (done ++ change ∷ []) (list_at old.lists index.root) members
+        → next.header ≡ mid.header → next.lists ≡ map (with_list index.root members) mid.lists → IsMid catalog old groups (suc n) next }
 {}

@@ -25,8 +25,8 @@ fn integer_in(value: &Value) -> i64
     }
 }
 
-// The integer of a key.
-fn key_integer(key: &[Value]) -> i64
+/// The integer of a key that is the rowid, and 0 of any other.
+pub fn key_integer(key: &[Value]) -> i64
     ensures { result ≡ integer_in_of (slice_index_or key.now 0 Null) }
 {
     match key {

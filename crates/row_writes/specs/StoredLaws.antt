@@ -58,12 +58,12 @@ stored-rowid None rowid values = refl
 stored-rowid (Some column) rowid values =
     sym (ap (λ (vs : List Value). set vs column (Int rowid)) (set-set values column (Int rowid) Null) ∙ set-set values column Null (Int rowid))
 
-module _ (format : ℕ) (table : Table) where
-  -- records can hold what is stored of these values
-  abbrev pub CanStore : List Value → Type 0
-  CanStore values = AreStored (stored_values table.rowid_column values)
+-- records can hold what is stored of these values
+abbrev pub CanStore : Table → List Value → Type 0
+CanStore table values = AreStored (stored_values table.rowid_column values)
 
-  marked-can : (marks : List Bool) (values old : List Value) → CanStore values → CanStore old → CanStore (marked marks values old)
+module _ (format : ℕ) (table : Table) where
+  marked-can : (marks : List Bool) (values old : List Value) → CanStore table values → CanStore table old → CanStore table (marked marks values old)
   marked-can marks values old = by table.rowid_column
     where
       by : (column : Option ℕ) → AreStored (stored_values column values) → AreStored (stored_values column old) → AreStored (stored_values column (marked marks values old))
@@ -71,7 +71,7 @@ module _ (format : ℕ) (table : Table) where
       by (Some column) all olds = subst (λ (vs : List Value). AreStored vs) (marked-set marks values old column) (marked-stored marks (set values column Null) (set old column Null) all olds)
 
   -- so it is with a row that is written
-  pub written-can : (rowid : ℤ) (values : List Value) → CanStore values → CanStore (written_row format table rowid values).values
+  pub written-can : (rowid : ℤ) (values : List Value) → CanStore table values → CanStore table (written_row format table rowid values).values
   written-can rowid values all = subst⁻¹ (λ (v : List Value). AreStored v) (stored-without table.rowid_column rowid values) all
 
   pub written-many : (rowid : ℤ) (values : List Value) → length (written_row format table rowid values).values ≡ length values
@@ -94,9 +94,9 @@ module _ (format : ℕ) (table : Table) where
       let same : with_values format table row (marked changes values row.values) ≡ after = cc in
       subst (λ (r : TableRow). P r.values) same (with-values P row (marked changes values row.values) olds (marks changes))
 
-  pub met-can : (row : TableRow) (control : Control) (values : List Value) (after : TableRow) → met_row format table row control values ≡ Some after → CanStore row.values → CanStore values → CanStore after.values
+  pub met-can : (row : TableRow) (control : Control) (values : List Value) (after : TableRow) → met_row format table row control values ≡ Some after → CanStore table row.values → CanStore table values → CanStore table after.values
   met-can row control values after e olds all =
-      met-values CanStore row control values after e olds (written-can row.rowid values all)
+      met-values (CanStore table) row control values after e olds (written-can row.rowid values all)
       (λ marks. written-can row.rowid (marked marks values row.values) (marked-can marks values row.values all olds))
 
   pub met-many : (row : TableRow) (control : Control) (values : List Value) (after : TableRow) (n : ℕ) → met_row format table row control values ≡ Some after → length row.values ≡ n → length values ≡ n → length after.values ≡ n

@@ -1,5 +1,5 @@
--- What a change of one tree of a world leaves whole.
-use Rattle.std.proofs.Common.{◌≡◌, ◌≢◌, ℕ, zero, ◌+◌, ◌≤◌, ◌==◌, Bool, true, false, if◌then◌else◌, List, [], ◌∷◌, ◌++◌, map, refl, ap, ◌∙◌, subst, inl, inr, arith}
+-- What a change of one tree of a world leaves whole: crates above cite these facts in their proofs.
+use Rattle.std.proofs.Common.{◌≡◌, ◌≢◌, ℕ, zero, ◌+◌, ◌≤◌, ◌==◌, Bool, true, false, if◌then◌else◌, List, [], ◌∷◌, ◌++◌, map, refl, sym, ap, ◌∙◌, subst, inl, inr, arith}
 use Rattle.std.proofs.Math.Path.{subst⁻¹}
 use Rattle.std.specs.Prelude.{Option, Some, None, Result, Ok, Err, IfOk, IsTrue}
 use Rattle.std.specs.List.{AllByRecursion}
@@ -15,6 +15,10 @@ use Rattle.tree_spec.specs.Trees.{Rooted, Member, root_of, list_in, pages_in, de
 use Rattle.tree_spec.specs.Standing.{Sizes, Paged}
 use Rattle.tree_spec.specs.Worlds.{World, IsWorld, with_tree}
 use Rattle.tree_spec.specs.WorldsLaws.{all-front, all-back, all-join, world-tree}
+use Rattle.put_spec.specs.Children.{PutIn}
+use Rattle.delete_spec.specs.Deletes.{TakenOut}
+use Rattle.tree_table.specs.Puts.{HasPut}
+use Rattle.tree_table.specs.Deletes.{HasDeleted}
 use Rattle.database_spec.specs.declared.catalog.SchemaKind.{SchemaKind}
 use Rattle.database_spec.specs.declared.catalog.SchemaKind.TheVariants as kind
 use Rattle.database_spec.specs.declared.catalog.SchemaRow.{SchemaRow}
@@ -31,7 +35,7 @@ use Rattle.whole_laws.specs.WholeWorlds.{rooted_list, lists_of, IsWholeWorld}
 
 -- The rows of a schema are right over more pages, under the same header.
 module _ (sizes : Sizes) (old new : Paged) (grows : old.count ≤ new.count) (header : SameHeader (old.pages 1) (new.pages 1)) where
-  format-kept : format_of new ≡ format_of old
+  pub format-kept : format_of new ≡ format_of old
   format-kept =
       ap (λ (n : ℕ). if n == 0 then 1 else n)
       (number_at-same 4 (new.pages 1) 44 (old.pages 1) 44 (λ k low. header (44 + k) (omega (arith, low)) (inr (omega (arith, low)))))
@@ -201,3 +205,32 @@ whole-kept sizes old new grows header catalog front table now back trunks rest w
         let was = table-list sizes old (with_tree front table back trunks) schema.0 whole.is_world schema.1 schema.3 schema.2 in
         let is_now = table-list sizes new (with_tree front now back rest) schema.0 world (stays schema.0 schema.2 schema.1) schema.3 schema.2 in
         subst (IsList sizes new tree.Table 1) (list-one sizes old tree.Table 1 (list_in schema.0) members was is) is_now
+
+-- So it is with a put into a table and a delete from one.
+
+put-readable : (row : Member) (was now : List Member) → PutIn tree.Table row was now → IsReadable row → AllByRecursion IsReadable was → AllByRecursion IsReadable now
+put-readable row was now put own all =
+    let parts = subst (AllByRecursion IsReadable) put.old_is all in
+    subst⁻¹ (AllByRecursion IsReadable) put.new_is
+    (all-join IsReadable put.front (row ∷ put.back) (all-front IsReadable put.front (put.replaced ++ put.back) parts)
+    (own, all-back IsReadable put.replaced put.back (all-back IsReadable put.front (put.replaced ++ put.back) parts)))
+
+taken-readable : (gone : Member) (was now : List Member) → TakenOut gone was now → AllByRecursion IsReadable was → AllByRecursion IsReadable now
+taken-readable gone was now taken all =
+    let parts = subst (AllByRecursion IsReadable) taken.old_is all in
+    subst⁻¹ (AllByRecursion IsReadable) taken.new_is
+    (all-join IsReadable taken.front taken.back (all-front IsReadable taken.front (gone ∷ taken.back) parts) (all-back IsReadable taken.front (gone ∷ taken.back) parts).1)
+
+pub whole-put : (sizes : Sizes) (old new : Paged) (catalog : Catalog) (front : List Rooted) (table : Rooted) (back : List Rooted) (trunks : List Trunk) (row : Member)
+    → IsWholeWorld sizes old catalog (with_tree front table back trunks) → table.kind ≡ tree.Table → root_of table ≢ 1 → IsReadable row → old.count ≤ new.count
+    → (put : HasPut sizes front table back row old new) → IsWholeWorld sizes new catalog (with_tree front put.now back put.trunks)
+whole-put sizes old new catalog front table back trunks row whole kind other readable grows put =
+    whole-kept sizes old new grows put.header catalog front table put.now back trunks put.trunks whole other put.world put.root (put.kind_is ∙ sym kind)
+    (put-readable row (list_in table) (list_in put.now) put.list readable)
+
+pub whole-deleted : (sizes : Sizes) (old new : Paged) (catalog : Catalog) (front : List Rooted) (table : Rooted) (back : List Rooted) (trunks : List Trunk) (gone : Member)
+    → IsWholeWorld sizes old catalog (with_tree front table back trunks) → table.kind ≡ tree.Table → root_of table ≢ 1 → old.count ≤ new.count
+    → (deleted : HasDeleted sizes front table back gone old new) → IsWholeWorld sizes new catalog (with_tree front deleted.now back deleted.trunks)
+whole-deleted sizes old new catalog front table back trunks gone whole kind other grows deleted =
+    whole-kept sizes old new grows deleted.header catalog front table deleted.now back trunks deleted.trunks whole other deleted.world deleted.root (deleted.kind_is ∙ sym kind)
+    (taken-readable gone (list_in table) (list_in deleted.now) deleted.list)

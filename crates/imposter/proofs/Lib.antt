@@ -1,0 +1,8 @@
+mod Counts
+mod Faults
+mod FoundRows
+mod Passing
+mod ReadWrites
+mod RowsMet
+mod Short
+mod Stepping

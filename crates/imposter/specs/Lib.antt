@@ -1,0 +1,4 @@
+pub mod Finds
+pub mod Passes
+pub mod Steps
+pub mod Writes

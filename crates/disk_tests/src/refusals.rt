@@ -21,6 +21,7 @@ apply|04294967295
 apply
 apply|1|2
 Apply|1
+check|t1
 dump
 dump|t1|t2
 state|x
@@ -34,7 +35,6 @@ nope";
 
 const NOT_BUILT: &str = "apply|1
 apply|4294967294
-check
 state
 make|1|0
 make|200000|4294967295

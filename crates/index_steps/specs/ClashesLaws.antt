@@ -1,9 +1,9 @@
 -- That an addition has a fault exactly where an entry stands by then that agrees with it in the columns: crates above cite these facts in their proofs.
-use Rattle.std.proofs.Common.{◌≡◌, ◌≢◌, ℕ, suc, ◌+◌, ◌≤◌, ◌⊎◌, ◌||◌, Bool, true, false, List, [], ◌∷◌, ◌++◌, length, map, take, Some, None, refl, sym, ap, ap₂, ◌∙◌, subst, inl, inr, arith, append-nil, append_assoc}
+use Rattle.std.proofs.Common.{◌≡◌, ◌≢◌, ℕ, ◌+◌, ◌≤◌, ◌⊎◌, ◌||◌, Bool, true, false, List, [], ◌∷◌, ◌++◌, length, map, take, Some, None, refl, sym, ap, ap₂, ◌∙◌, subst, inl, inr, arith, append-nil, append_assoc}
 use Rattle.std.proofs.Math.Path.{subst⁻¹}
 use Rattle.std.specs.Prelude.{Contains, IsTrue}
-use Rattle.std.specs.List.{AllByRecursion, list_any}
-use Rattle.std.specs.Ordering.{ordering_reverse, ordering_then}
+use Rattle.std.specs.List.{list_any}
+use Rattle.std.specs.Ordering.{ordering_reverse}
 use Rattle.std.specs.declared.cmp.Ordering.{Ordering}
 use Rattle.std.specs.declared.cmp.Ordering.TheVariants.{Less, Equal, Greater}
 use Rattle.std.proofs.lemmas.List.{length-map}
@@ -19,18 +19,17 @@ use Rattle.database_spec.specs.Rows.{TableRow}
 use Rattle.database_spec.specs.RowsLaws.{record-one}
 use Rattle.database_spec.specs.Keys.{Clash, IsBefore, column_cmp, columns_cmp, entry_cmp, has_null, is_null, order_of}
 use Rattle.database_spec.specs.KeysLaws.{columns-reverse}
-use Rattle.database_spec.specs.ListsLaws.{PairsByRecursion}
 use Rattle.index_changes.specs.ListsLaws.{pairs-at}
 use Rattle.prepared_spec.specs.declared.violation.Violation.TheVariants.{NotUnique}
 use Rattle.prepared_spec.specs.declared.violation.Change.{Change}
 use Rattle.prepared_spec.specs.declared.violation.Change.TheVariants.{Remove, Add}
-use Rattle.prepared_spec.specs.MembersLaws.{Has, has-from, has-to, has-left, has-right, has-either, has-map, map-has, member-or, values-same, values-itself, decide, true-false}
+use Rattle.prepared_spec.specs.MembersLaws.{Has, has-from, has-to, has-left, has-either, has-map, map-has, member-or, values-same, values-itself, decide, true-false}
 use Rattle.prepared_spec.specs.Outcomes.{AreEntered, Entered, IsIndexAfter, written_entry}
-use Rattle.prepared_spec.specs.StepFaults.{AddsClash, IsAlike, IsChangeFault, change_cmp, changed_entry, entries_of}
+use Rattle.prepared_spec.specs.StepFaults.{AddsClash, IsAlike, IsChangeFault, change_cmp, entries_of}
 use Rattle.prepared_spec.specs.Tables.{same_values}
-use Rattle.prepared_laws.specs.PaddedKeysLaws.{padded_cmp, padded-same, padded-total}
+use Rattle.prepared_laws.specs.PaddedKeysLaws.{padded-same, padded-total}
 use Rattle.key_order.specs.declared.order.KeyOrder.{KeyOrder}
-use Rattle.key_order.specs.Orders.{Compares, HasEqual, IsEqual, key_cmp}
+use Rattle.key_order.specs.Orders.{HasEqual, IsEqual, key_cmp}
 use Rattle.index_steps.specs.IndexSteps.{AreChangesOf, AreFaultless, IsColumnsOrderOf}
 use Rattle.index_steps.specs.ListsLaws.{pairs-two}
 use Rattle.index_steps.specs.StandingLaws.{Stands, after-stands, before-old, done-first, due-change, entered-are, entry-many, first-done, has-change, in-changes, is-change, lesser-first, not-done, old-before, removal-first, stands-after, stands-decoded, stored-of, then-equal}

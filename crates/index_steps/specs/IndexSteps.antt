@@ -1,5 +1,5 @@
 -- What one step of a pass over an index makes of its list, and where a pass stands in the changes of an index.
-use Rattle.std.specs.Prelude.{◌≡◌, ℕ, pos, false, List, [], ◌∷◌, ◌++◌, None}
+use Rattle.std.specs.Prelude.{◌≡◌, ℕ, pos, false, List, ◌∷◌, ◌++◌, None}
 use Rattle.std.specs.List.{AllByRecursion}
 use Rattle.format_spec.specs.Record.{canonical_record}
 use Rattle.record_codec.specs.Records.{HaveRecord}

@@ -1,8 +1,8 @@
 -- Which entries stand in an index behind some of its changes, and how changes are in order: crates above cite these facts in their proofs.
-use Rattle.std.proofs.Common.{◌≡◌, ◌≢◌, ℕ, suc, ◌+◌, ◌≤◌, ◌⊎◌, not, Bool, true, false, List, [], ◌∷◌, ◌++◌, length, map, refl, sym, ap, ap₂, ◌∙◌, subst, inl, inr, arith, length-append}
+use Rattle.std.proofs.Common.{◌≡◌, ◌≢◌, ℕ, ◌+◌, ◌⊎◌, not, Bool, true, false, List, [], ◌∷◌, ◌++◌, length, map, refl, sym, ap, ap₂, ◌∙◌, subst, inl, inr, arith, length-append}
 use Rattle.std.proofs.Math.Path.{subst⁻¹}
-use Rattle.std.specs.Prelude.{AllPairs, Contains, IsPermutation, filter, slice_index_or}
-use Rattle.std.specs.List.{AllByRecursion, AllZip, list_any}
+use Rattle.std.specs.Prelude.{Contains, filter, slice_index_or}
+use Rattle.std.specs.List.{AllZip, list_any}
 use Rattle.std.specs.Cmp.{nat_cmp_total}
 use Rattle.std.specs.Ordering.{nat_cmp, ordering_reverse, ordering_then}
 use Rattle.std.specs.declared.cmp.Ordering.{Ordering}
@@ -23,20 +23,17 @@ use Rattle.tree_spec.specs.Trees.{Member}
 use Rattle.database_spec.specs.Rows.{TableRow}
 use Rattle.database_spec.specs.RowsLaws.{record-one}
 use Rattle.database_spec.specs.Keys.{IsBefore, columns_cmp, entry_cmp, entry_of, last_value, order_of}
-use Rattle.database_spec.specs.KeysLaws.{before-apart, columns-reverse, entry-reverse, reverse-then}
+use Rattle.database_spec.specs.KeysLaws.{columns-reverse, entry-reverse, reverse-then}
 use Rattle.database_spec.specs.ListsLaws.{PairsByRecursion}
 use Rattle.index_changes.specs.ListsLaws.{pairs-at}
 use Rattle.prepared_spec.specs.declared.violation.Change.{Change}
 use Rattle.prepared_spec.specs.declared.violation.Change.TheVariants.{Remove, Add}
-use Rattle.prepared_spec.specs.MembersLaws.{Has, has-from, has-to, has-left, has-right, has-either, has-map, map-has, has-filter, filter-has, values-itself, any-has, has-any, decide, true-false, member-or, removed-true, added-has, has-added}
+use Rattle.prepared_spec.specs.MembersLaws.{Has, has-from, has-to, has-left, has-right, has-either, has-map, map-has, has-filter, filter-has, values-itself, any-has, has-any, decide, true-false, removed-true, added-has, has-added}
 use Rattle.prepared_spec.specs.ChangesLaws.{all-has}
 use Rattle.prepared_spec.specs.Outcomes.{AreEntered, Entered, IsIndexAfter, added_entries, is_removed, written_entry}
 use Rattle.prepared_spec.specs.StepFaults.{IsChange, change_cmp, change_rank, changed_entry, entries_of}
 use Rattle.prepared_laws.specs.ChangesMadeLaws.{last-is}
 use Rattle.prepared_laws.specs.TablesMadeLaws.{Apart}
-use Rattle.key_order.specs.declared.order.KeyOrder.{KeyOrder}
-use Rattle.key_order.specs.Orders.{Compares, IsEntry, IsRising, key_cmp, key_length}
-use Rattle.key_order.specs.ProjectionsLaws.{IsOrderOf}
 use Rattle.index_steps.specs.IndexSteps.{AreChangesOf}
 use Rattle.index_steps.specs.ListsLaws.{has-all, pairs-high, pairs-low, pairs-two}
 

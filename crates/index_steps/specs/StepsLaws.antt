@@ -1,12 +1,12 @@
 -- What a step makes of an index behind some of its changes: crates above cite these facts in their proofs.
-use Rattle.std.proofs.Common.{◌≡◌, ◌≢◌, ℕ, pos, ◌+◌, ◌≤◌, ◌⊎◌, not, Bool, true, false, List, [], ◌∷◌, ◌++◌, length, map, refl, sym, ap, ap₂, ◌∙◌, subst, inl, inr, arith, append_assoc}
+use Rattle.std.proofs.Common.{◌≡◌, ◌≢◌, ℕ, ◌+◌, not, List, [], ◌∷◌, ◌++◌, length, map, refl, sym, ap, ap₂, ◌∙◌, subst, inl, inr, arith, append_assoc}
 use Rattle.std.proofs.Math.Path.{subst⁻¹}
 use Rattle.std.specs.Prelude.{Contains, IsPermutation, filter}
-use Rattle.std.specs.List.{AllByRecursion, list_any}
-use Rattle.std.specs.Ordering.{ordering_reverse, ordering_then}
+use Rattle.std.specs.List.{AllByRecursion}
+use Rattle.std.specs.Ordering.{ordering_reverse}
 use Rattle.std.specs.declared.cmp.Ordering.{Ordering}
-use Rattle.std.specs.declared.cmp.Ordering.TheVariants.{Less, Equal, Greater}
-use Rattle.std.proofs.lemmas.List.Sorted.{IsPermutation-append_left, IsPermutation-cons, IsPermutation-middle, IsPermutation-sym, IsPermutation-to_front, IsPermutation-trans}
+use Rattle.std.specs.declared.cmp.Ordering.TheVariants.{Less, Equal}
+use Rattle.std.proofs.lemmas.List.Sorted.{IsPermutation-cons, IsPermutation-middle, IsPermutation-sym, IsPermutation-to_front, IsPermutation-trans}
 use Rattle.rbu_value.specs.declared.order.Collation.TheVariants.{Binary}
 use Rattle.rbu_value.specs.declared.value.Value.{Value}
 use Rattle.rbu_value.specs.Order.{value_cmp}

@@ -81,7 +81,7 @@ fn is_rooted(named: &NamedEntry, count: u32) -> bool
 
 /// Whether each table whose text is read has a tree with a root among so many pages, as in each catalog that is read of them.
 pub fn are_rooted(catalog: &Catalog, count: u32) -> bool
-    ensures { IsTrue result → AllByRecursion (IsRootedIfRead count) catalog.now.tables }
+    ensures { IsTrue result ↔ AllByRecursion (IsRootedIfRead count) catalog.now.tables }
 {
     let mut left = catalog.tables.as_slice();
     while let [named, rest @ ..] = left {

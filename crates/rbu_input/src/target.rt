@@ -1,5 +1,5 @@
 // Whether the records of targeted tables are rows.
-ghost use Rattle.std.specs.Prelude.{◌≤◌, ◌⊎◌, OnOk, IfErr, IsTrue};
+ghost use Rattle.std.specs.Prelude.{◌↔◌, ◌≤◌, ◌⊎◌, OnOk, IfErr, IsTrue};
 ghost use Rattle.std.specs.List.{AllByRecursion};
 ghost use Rattle.page_store.specs.Store.{HasSizes, OwesBy};
 ghost use Rattle.tree_walk.specs.Stores.{SeesTree};
@@ -139,7 +139,7 @@ fn check_batch<S: PageRead>(
 
 // Whether a batch is for a table of the catalog whose text is read, and whose tree has a root among so many pages.
 fn is_known(catalog: &Catalog, count: u32, batch: &Batch) -> bool
-    ensures { IsTrue result → IsKnown catalog.now count batch.now }
+    ensures { IsTrue result ↔ IsKnown catalog.now count batch.now }
 {
     let Some(named) = table_named(catalog.tables.as_slice(), batch.table.as_slice()) else {
         return false;
@@ -158,7 +158,7 @@ fn is_known(catalog: &Catalog, count: u32, batch: &Batch) -> bool
 
 /// Whether each batch is for a table of the catalog whose text is read, and whose tree has a root among so many pages, as those that were prepared are.
 pub fn are_known(catalog: &Catalog, count: u32, batches: &[Batch]) -> bool
-    ensures { IsTrue result → AllByRecursion (IsKnown catalog.now count) batches.now }
+    ensures { IsTrue result ↔ AllByRecursion (IsKnown catalog.now count) batches.now }
 {
     let mut left = batches;
     while let [batch, rest @ ..] = left {

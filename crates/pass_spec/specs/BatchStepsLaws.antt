@@ -57,10 +57,10 @@ pub record MeetsAlone (format : ℕ) (table : Table) (g : ℤ) (start : ℕ) (be
 
 module _ (format : ℕ) (table : Table) where
   -- what becomes of a row, by what meets it
-  after-found : (rows : List Prepared) (row : TableRow) (d : Prepared) → find (meets table row) rows ≡ Some d → row_after format table rows row ≡ met_row format table row d.control d.values
+  pub after-found : (rows : List Prepared) (row : TableRow) (d : Prepared) → find (meets table row) rows ≡ Some d → row_after format table rows row ≡ met_row format table row d.control d.values
   after-found rows row d e = ap (λ (o : Option Prepared). elim o as (λ _. Option TableRow) [ None ↦ Some row | Some prepared ↦ met_row format table row prepared.control prepared.values ]) e
 
-  after-unmet : (rows : List Prepared) (row : TableRow) → find (meets table row) rows ≡ None → row_after format table rows row ≡ Some row
+  pub after-unmet : (rows : List Prepared) (row : TableRow) → find (meets table row) rows ≡ None → row_after format table rows row ≡ Some row
   after-unmet rows row e = ap (λ (o : Option Prepared). elim o as (λ _. Option TableRow) [ None ↦ Some row | Some prepared ↦ met_row format table row prepared.control prepared.values ]) e
 
   module _ (g : ℤ) (before : List TableRow) (p : Prepared) where

@@ -4,3 +4,4 @@ pub mod BatchStepsLaws
 pub mod RowidKeysLaws
 pub mod StepListsLaws
 pub mod BatchesLaws
+pub mod GroupsLaws

@@ -1,17 +1,21 @@
 -- What one step of a pass makes of the rows of a table (The RBU Extension, section 2.1), and where a pass stands in a batch.
-use Rattle.std.specs.Prelude.{◌≡◌, ◌⊎◌, ◌≢◌, ◌↔◌, ℕ, ℤ, suc, ◌+◌, ◌<ℤ◌, false, true, if◌then◌else◌, List, [], ◌++◌, ◌∷◌, map, AllPairs, Contains, Some}
-use Rattle.tree_spec.specs.Trees.{Member}
-use Rattle.std.specs.List.{AllByRecursion}
+use Rattle.std.specs.Prelude.{◌≡◌, ◌⊎◌, ◌≢◌, ◌↔◌, ℕ, ℤ, suc, ◌+◌, ◌≤◌, ◌<ℤ◌, false, true, if◌then◌else◌, List, [], ◌++◌, ◌∷◌, length, map, sum_by, take, AllPairs, Contains, Some}
+use Rattle.std.specs.List.{AllByRecursion, AllZip}
 use Rattle.std.specs.declared.cmp.Ordering.TheVariants.{Less}
+use Rattle.rbu_rows.specs.declared.prepared.Batch.{Batch}
 use Rattle.rbu_rows.specs.declared.prepared.Prepared.{Prepared}
 use Rattle.schema_spec.specs.declared.schema.Table.{Table}
+use Rattle.tree_spec.specs.Trees.{Member}
+use Rattle.database_spec.specs.declared.catalog.NamedEntry.{NamedEntry}
 use Rattle.database_spec.specs.Rows.{TableRow}
 use Rattle.database_spec.specs.ListsLaws.{PairsByRecursion}
-use Rattle.prepared_spec.specs.RowKeys.{meets, key_cmp}
-use Rattle.prepared_spec.specs.Tables.{is_new, count_new, IsAfterBatch}
+use Rattle.prepared_spec.specs.RowKeys.{IsInKeyOrder, meets, key_cmp}
+use Rattle.prepared_spec.specs.Tables.{greatest_of, is_new, count_new, IsAfter, IsAfterBatch}
 use Rattle.prepared_spec.specs.Outcomes.{row_member}
+use Rattle.prepared_spec.specs.Plans.{firsts}
 use Rattle.prepared_spec.specs.StepRecords.{put_row}
 use Rattle.prepared_laws.specs.TablesMadeLaws.{HasRowidColumn, HasRowidKey, IsReached, IsUsable}
+use Rattle.prepared_laws.specs.TransactionsLaws.{IsUsableGroup}
 
 -- What a step leaves of the rows of a table as they stand when it is due, so many rows of the group being new: the row that it puts, and each row that its prepared row does not meet.
 pub record IsStepped (format : ℕ) (table : Table) (g : ℤ) (taken : ℕ) (prepared : Prepared) (old new : List TableRow) : Type 0 where
@@ -50,3 +54,35 @@ abbrev pub IsBeforeBatch : ℕ → Table → ℤ → ℕ → List TableRow → L
 IsBeforeBatch format table g taken old [] start before = (before ≡ old) × (start ≡ taken)
 IsBeforeBatch format table g taken old (rows ∷ earlier) start before =
     (between : List TableRow) × IsAfterBatch format table g taken old rows between × IsBeforeBatch format table g (taken + count_new table old rows) between earlier start before
+
+-- Behind batches of a group so many of its rows are new, where so many were before them.
+abbrev pub IsTaken : ℕ → Table → ℤ → ℕ → List TableRow → List (List Prepared) → ℕ → Type 0
+IsTaken format table g taken before [] count = count ≡ taken
+IsTaken format table g taken before (rows ∷ batches) count =
+    (between : List TableRow) × IsAfterBatch format table g taken before rows between × IsTaken format table g (taken + count_new table before rows) between batches count
+
+-- how many steps batches have
+abbrev pub batch_steps : List Batch → ℕ
+batch_steps batches = sum_by (λ batch. length batch.rows) batches
+
+abbrev pub AreInKeyOrder : Table → List Batch → List (List Prepared) → Type 0
+AreInKeyOrder table batches ordered = AllZip (λ batch rows. IsInKeyOrder table batch.rows rows) batches ordered
+
+-- The table of a group that can be used stands behind the steps of its earlier batches and so many of this one, and so many of its rows are new.
+pub record IsMidGroup (format : ℕ) (lists : List (ℕ × List Member)) (named : NamedEntry) (earlier : List Batch) (batch : Batch) (later : List Batch) (from taken : ℕ) (rows : List TableRow) : Type 0 where
+  pub group : IsUsableGroup lists named (earlier ++ batch ∷ later)
+  pub ordered : List (List Prepared)
+  pub in_order : AreInKeyOrder group.table (earlier ++ batch ∷ later) ordered
+  pub few : from ≤ length batch.rows
+  pub behind : IsAfter format group.table group.old (firsts (batch_steps earlier + from) ordered) rows
+  pub new_rows : IsTaken format group.table (greatest_of group.old) 0 group.old (firsts (batch_steps earlier + from) ordered) taken
+
+-- A table stands behind so many prepared rows of a batch, behind the earlier batches of its group: so many of the group were new and these rows stood there before the batch, and so many are new now.
+pub record StandsInBatch (format : ℕ) (table : Table) (g : ℤ) (old : List TableRow) (earlier : List Batch) (rows : List Prepared) (from taken : ℕ) (now : List TableRow) : Type 0 where
+  pub batches : List (List Prepared)
+  pub in_order : AreInKeyOrder table earlier batches
+  pub start : ℕ
+  pub before : List TableRow
+  pub reached : IsBeforeBatch format table g 0 old batches start before
+  pub due : AreDue table g start before rows
+  pub behind : IsInBatch format table g start before (take from rows) taken now

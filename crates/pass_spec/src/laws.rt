@@ -2,17 +2,19 @@
 ghost use Rattle.std.specs.Prelude.{◌≡◌, ◌+◌, ◌++◌, ◌∷◌, ℕ, ℤ, Contains, List, None, Some, [], length, map, sum_by, true};
 ghost use Rattle.put_spec.specs.Children.{PutIn, Rises};
 ghost use Rattle.delete_spec.specs.Deletes.{TakenOut};
+ghost use Rattle.rbu_rows.specs.declared.prepared.Batch.{Batch};
 ghost use Rattle.rbu_rows.specs.declared.prepared.Prepared.{Prepared};
 ghost use Rattle.schema_spec.specs.declared.schema.Table.{Table};
 ghost use Rattle.tree_spec.specs.declared.TreeKind.TheVariants.{Table as TableTree};
 ghost use Rattle.tree_spec.specs.Trees.{Member};
+ghost use Rattle.database_spec.specs.declared.catalog.NamedEntry.{NamedEntry};
 ghost use Rattle.database_spec.specs.Rows.{TableRow};
-ghost use Rattle.prepared_spec.specs.RowKeys.{has_rowid_key, is_met, meets};
+ghost use Rattle.prepared_spec.specs.RowKeys.{IsInKeyOrder, has_rowid_key, is_met, meets};
 ghost use Rattle.prepared_spec.specs.Outcomes.{row_member};
 ghost use Rattle.prepared_spec.specs.Plans.{firsts};
 ghost use Rattle.prepared_spec.specs.StepRecords.{put_row};
-ghost use Rattle.prepared_spec.specs.Tables.{count_new, IsAfterBatches};
-ghost use Rattle.pass_spec.specs.TableSteps.{AreDue, AreStepped, IsBeforeBatch, IsInBatch, IsStepped, MeetsRowid, taken_behind};
+ghost use Rattle.prepared_spec.specs.Tables.{count_new, greatest_of, IsAfterBatches};
+ghost use Rattle.pass_spec.specs.TableSteps.{AreDue, AreStepped, IsBeforeBatch, IsInBatch, IsMidGroup, IsStepped, MeetsRowid, StandsInBatch, taken_behind};
 
 /// Where the key of a table is its rowid, a step over the rows as they stand brings the table from behind some prepared rows of a batch to behind one more. So the steps of a batch, one after the other, make the table behind the batch, in which each prepared row is taken by itself over the rows before the batch.
 pub fn steps_by_rowid_make_a_batch()
@@ -50,4 +52,11 @@ pub fn tables_midway_stand_in_a_batch()
     ensures behind { (format : ℕ) (table : Table) (g : ℤ) (earlier : List (List Prepared)) (done rest : List Prepared) (later : List (List Prepared)) (old : List TableRow) (start : ℕ) (before : List TableRow) (taken : ℕ) (now : List TableRow)
         → IsBeforeBatch format table g 0 old earlier start before → IsInBatch format table g start before done taken now
         → IsAfterBatches format table g 0 old (firsts (sum_by length earlier + length done) (earlier ++ (done ++ rest) ∷ later)) now }
+{}
+
+/// The table of a group that can be used, behind the steps of its earlier batches and some of one, stands in that batch, whose rows are those in key order.
+pub fn groups_midway_stand_in_a_batch()
+    ensures { (format : ℕ) (lists : List (ℕ × List Member)) (named : NamedEntry) (earlier : List Batch) (batch : Batch) (later : List Batch) (from taken : ℕ) (rows : List Prepared) (now : List TableRow)
+        (mid : IsMidGroup format lists named earlier batch later from taken now) → IsInKeyOrder mid.group.table batch.rows rows
+        → StandsInBatch format mid.group.table (greatest_of mid.group.old) mid.group.old earlier rows from taken now }
 {}

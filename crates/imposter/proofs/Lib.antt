@@ -1,3 +1,4 @@
+mod Beginning
 mod Counts
 mod Faults
 mod FoundRows

@@ -1,19 +1,24 @@
 // A pass over a table.
-ghost use Rattle.std.specs.Prelude.{◌≡◌, ◌+◌, ◌≤◌, ◌<◌, ◌≤ℤ◌, ◌↔◌, ◌^◌, ◌-◌, IfOk, MatchResult, OnOk, length, option_copied, pos, slice_get};
+ghost use Rattle.std.specs.Prelude.{◌≡◌, ◌+◌, ◌≤◌, ◌<◌, ◌≤ℤ◌, ◌↔◌, ◌^◌, ◌-◌, IfOk, IsOk, MatchResult, OnOk, length, option_copied, pos, slice_get};
 ghost use Rattle.page_store.specs.Store.{HasSizes, OwesBy};
 ghost use Rattle.pass_fault.specs.declared.answer.PassAnswer.TheVariants.{End as EndOfPass};
 ghost use Rattle.pass_fault.specs.Faults.{fault_in};
 ghost use Rattle.tree_pages.specs.Writers.{Becomes, sizes_of};
+ghost use Rattle.imposter.specs.Begins.{Begins};
 ghost use Rattle.imposter.specs.Passes.{AnswersStep, IsLeft, PassesOn, RefusesAt, RefusesPass, StepsAt, StepsPass, key_rowid, step_behind};
 
 use crate::step::{RowStep, step_row};
 use crate::target::Target;
+use batch_order::rows_in_order;
+use database_spec::Entry;
 use owned_list::OwnedList;
 use page_store::PageWrite;
 use pass_fault::{PassAnswer, PassFault};
-use rbu_rows::Prepared;
+use rbu_rows::{Batch, Prepared};
 use row_steps::key_integer;
-use std::alloc::Global;
+use schema_copies::copy_table;
+use schema_spec::Table;
+use std::alloc::{AllocError, Global};
 
 /// A pass of the prepared rows of a batch over their table, one step for each, where the key of the table is its rowid.
 #[derive(Drop)]
@@ -25,6 +30,17 @@ pub struct TablePass {
     pub at: usize,
     /// How many new rows the steps of their group made so far.
     pub taken: u64,
+}
+
+// The table that the text of an entry means.
+fn table_of(entry: &Entry) -> &Table
+    requires { IsOk entry.now.meaning }
+    ensures { entry.now.meaning ≡ Ok result.now }
+{
+    match &entry.meaning {
+        Ok(table) => table,
+        Err(_) => unreachable!(),
+    }
 }
 
 // The rowid that a prepared row has for a key.
@@ -43,6 +59,38 @@ fn index_behind(at: usize, rows: &[Prepared]) -> usize
 }
 
 impl TablePass {
+    /// A pass of the rows of a batch over the table of an entry, whose text is read. It begins behind the first `from` of them in the order of their keys, and behind `taken` new rows of its group, whose rowids count from `g` where the key is not the rowid. Fails where memory runs out.
+    pub fn new(
+        alloc: Global,
+        batch: Batch,
+        entry: &Entry,
+        g: i64,
+        from: u64,
+        taken: u64,
+    ) -> Result<TablePass, AllocError>
+        requires { IsOk entry.now.meaning }
+        ensures { IfOk result (Begins batch entry.now g from taken) }
+    {
+        let Batch {
+            table: name,
+            rows,
+            ..
+        } = batch;
+        let table = copy_table(alloc, table_of(entry))?;
+        let rows = rows_in_order(alloc, &table, rows)?;
+        Ok(TablePass {
+            target: Target {
+                name,
+                root: entry.root,
+                table,
+                greatest: g,
+            },
+            rows,
+            at: from as usize,
+            taken,
+        })
+    }
+
     // The prepared row that is due, if one is left.
     fn due(&self) -> Option<&Prepared>
         ensures { option_copied result ≡ slice_get self.now.rows self.now.at }

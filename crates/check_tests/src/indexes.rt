@@ -1,10 +1,11 @@
 // Entries of an index beside those of the rows of its table.
 
-use db_check::first_that_disagrees;
+use db_check::{CheckedTree, Comparison, Members, compare_entry, first_that_disagrees};
 use owned_list::OwnedList;
 use rbu_value::{Collation, Value};
 use std::alloc::{AllocError, Global};
 use std::test::Fail;
+use tree_walk::TreeKind;
 
 // An entry of one column, in which -1 stands for NULL, and its rowid.
 fn entry_of(alloc: Global, entry: (i64, i64)) -> Result<OwnedList<Value>, AllocError> {
@@ -19,7 +20,10 @@ fn entry_of(alloc: Global, entry: (i64, i64)) -> Result<OwnedList<Value>, AllocE
     Ok(OwnedList::from_vec(values))
 }
 
-fn entries_of(alloc: Global, entries: &[(i64, i64)]) -> Result<Vec<OwnedList<Value>>, AllocError> {
+pub fn entries_of(
+    alloc: Global,
+    entries: &[(i64, i64)],
+) -> Result<Vec<OwnedList<Value>>, AllocError> {
     let mut list = Vec::new(alloc);
     for entry in entries {
         list.push(entry_of(alloc, *entry)?)?;
@@ -54,15 +58,30 @@ const ROWS: &[Row] = &[
     (NULLS, NULLS, true, None),
 ];
 
+// What is told of an index of one column.
+fn told(alloc: Global, row: &Row) -> Result<Option<i64>, AllocError> {
+    let mut columns = Vec::new(alloc);
+    columns.push((Collation::Binary, false))?;
+    let expected = entries_of(alloc, row.1)?;
+    let tree = CheckedTree {
+        kind: TreeKind::Index,
+        members: Members::Entries,
+        columns: OwnedList::from_vec(columns),
+        unique: row.2,
+        expected: expected.as_slice(),
+    };
+    let mut compared = Comparison::new();
+    for entry in row.0 {
+        compare_entry(&tree, &mut compared, entry_of(alloc, *entry)?);
+    }
+    Ok(first_that_disagrees(&tree, &compared))
+}
+
 #[test]
 fn indexes_are_compared(rt: HostRuntime) -> Result<(), Fail> {
     let alloc = rt.alloc();
     for row in ROWS {
-        let entries = entries_of(alloc, row.0)?;
-        let expected = entries_of(alloc, row.1)?;
-        let columns = &[(Collation::Binary, false)];
-        let told = first_that_disagrees(columns, row.2, entries.as_slice(), expected.as_slice());
-        if told != row.3 {
+        if told(alloc, row)? != row.3 {
             return Err(Fail::new("an index"));
         }
     }

@@ -1,5 +1,6 @@
 // The trees of tables and indexes, sound and damaged.
 
+use crate::indexes::entries_of;
 use crate::stores::{flagged, is_told, is_whole, page_of, put_page, store_of};
 use db_check::{CheckFault, CheckedTree, Members, page_flags, pass_tree};
 use owned_list::OwnedList;
@@ -72,7 +73,12 @@ fn change(store: &mut PlainStore, number: u32, at: usize, byte: u8) -> Result<()
     put_page(store, number, &page)
 }
 
-fn tree_of(alloc: Global, kind: TreeKind, members: Members) -> Result<CheckedTree, AllocError> {
+fn tree_of(
+    alloc: Global,
+    kind: TreeKind,
+    members: Members,
+    expected: &[OwnedList<Value>],
+) -> Result<CheckedTree<'_>, AllocError> {
     let mut columns = Vec::new(alloc);
     if members == Members::Entries {
         columns.push((Collation::Binary, false))?;
@@ -81,30 +87,32 @@ fn tree_of(alloc: Global, kind: TreeKind, members: Members) -> Result<CheckedTre
         kind,
         members,
         columns: OwnedList::from_vec(columns),
+        unique: true,
+        expected,
     })
 }
 
-// Goes through the tree at root 2.
+// Goes through the tree at root 2, and answers how many entries agree with those that are expected.
 fn pass(
     alloc: Global,
     store: &mut PlainStore,
-    tree: &CheckedTree,
+    tree: &CheckedTree<'_>,
     flags: &mut [bool],
 ) -> Result<usize, CheckFault<AllocError>> {
     if !is_whole(store) || store.count() < 2 || flags.len() != store.count() as usize + 1 {
         return Err(CheckFault::PageLost { page: 0 });
     }
     match pass_tree(alloc, store, tree, 2, flags) {
-        Ok(entries) => Ok(entries.len()),
+        Ok(compared) => Ok(compared.agreed),
         Err(fault) => Err(fault),
     }
 }
 
-// Whether the tree is answered so; where it is sound, by how many pages are flagged, and how many entries it has.
+// Whether the tree is answered so; where it is sound, by how many pages are flagged, and how many entries agree.
 fn answers(
     alloc: Global,
     store: &mut PlainStore,
-    tree: &CheckedTree,
+    tree: &CheckedTree<'_>,
     row: &Row,
     entries: usize,
 ) -> Result<bool, Fail> {
@@ -140,7 +148,7 @@ const TABLES: &[Row] = &[
 #[test]
 fn tables_are_gone_through(rt: HostRuntime) -> Result<(), Fail> {
     let alloc = rt.alloc();
-    let tree = tree_of(alloc, TreeKind::Table, Members::Rows)?;
+    let tree = tree_of(alloc, TreeKind::Table, Members::Rows, &[])?;
     for row in TABLES {
         let mut store = table(alloc)?;
         change(&mut store, row.0, row.1, row.2)?;
@@ -163,7 +171,13 @@ const INDEXES: &[Row] = &[
 #[test]
 fn indexes_are_gone_through(rt: HostRuntime) -> Result<(), Fail> {
     let alloc = rt.alloc();
-    let tree = tree_of(alloc, TreeKind::Index, Members::Entries)?;
+    let expected = entries_of(alloc, &[(1, 1), (2, 2), (3, 3), (4, 4), (5, 5)])?;
+    let tree = tree_of(
+        alloc,
+        TreeKind::Index,
+        Members::Entries,
+        expected.as_slice(),
+    )?;
     for row in INDEXES {
         let mut store = index(alloc)?;
         change(&mut store, row.0, row.1, row.2)?;

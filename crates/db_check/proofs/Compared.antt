@@ -1,5 +1,5 @@
--- Entries of an index beside those of the rows of its table, both in order: what the first ones have in common, and the first that disagrees.
-use Rattle.std.proofs.Common.{◌≡◌, ◌≢◌, ℕ, ℤ, zero, suc, ◌+◌, ◌<◌, ◌≤◌, ◌||◌, ◌⊎◌, Bool, true, false, List, [], ◌∷◌, ◌++◌, length, map, take, drop, Some, None, slice_get, slice_index_or, refl, sym, ap, ap₂, ◌∙◌, subst, inl, inr, arith, append_assoc}
+-- Entries of an index beside those of the rows of its table, both in order: what the first ones have in common, the first that disagrees, and what is known of it by the entries that were found.
+use Rattle.std.proofs.Common.{◌≡◌, ◌≢◌, ℕ, ℤ, suc, ◌+◌, ◌<◌, ◌≤◌, ◌||◌, ◌⊎◌, Bool, true, false, List, [], ◌∷◌, ◌++◌, length, map, take, Option, Some, None, slice_get, slice_index_or, refl, sym, ap, ap₂, ◌∙◌, subst, inl, inr, arith, append_assoc, is_some, length-append}
 use Rattle.std.proofs.Math.Path.{subst⁻¹}
 use Rattle.std.specs.Prelude.{AllPairs, Contains, IsTrue}
 use Rattle.std.specs.List.{AllZip, AllByRecursion, list_any}
@@ -9,7 +9,6 @@ use Rattle.std.specs.declared.cmp.Ordering.{Ordering}
 use Rattle.std.specs.declared.cmp.Ordering.TheVariants.{Less, Equal, Greater}
 use Rattle.std.proofs.lemmas.Bool.{cases_lt}
 use Rattle.std.proofs.lemmas.List.{append-nil, length-map, get_or_default}
-use Rattle.std.proofs.lemmas.Option.{slice_get_past}
 use Rattle.std.proofs.lemmas.List.Sorted.{Contains-permutation, IsPermutation-sym}
 use Rattle.rbu_value.specs.declared.order.Collation.{Collation}
 use Rattle.rbu_value.specs.declared.order.Collation.TheVariants.{Binary}
@@ -29,7 +28,9 @@ use Rattle.prepared_laws.specs.PaddedKeysLaws.{padded_cmp, padded-same, padded-t
 use Rattle.database_laws.specs.FaultlessFilesLaws.{HasRowid, before-then, entries-long, entries-decode, row-long}
 use Rattle.database_laws.specs.RightFilesLaws.{all-of}
 use Rattle.database_laws.specs.SoundFilesLaws.{pairs-to}
-use Rattle.db_check.specs.Compares.{AgreesTo, FirstOf}
+use Rattle.db_check.specs.declared.walk.CheckedTree.{CheckedTree}
+use Rattle.db_check.specs.declared.walk.Comparison.{Comparison}
+use Rattle.db_check.specs.Compares.{Agree, AreMembersOf, ClashIn, ClashesWith, FirstOf, IsComparison, IsLast, Tells, TellsBy, TellsOfFirst}
 
 -- Lists in order.
 
@@ -154,9 +155,6 @@ module _ (index : Index) (rows : List TableRow) (members : List Member) (entries
     pub entries_are : entries ≡ gone ++ es
     pub expected_are : expected ≡ gone ++ ps
     pub apart : IsTrue index.unique → PairsByRecursion (λ (a b : List Value). ¬ Clash index a b) gone
-
-  pub agreed-none : Agreed [] entries expected
-  agreed-none = record { entries_are = refl; expected_are = refl; apart = λ unique. tt }
 
   module _ (gone es ps : List (List Value)) (agreed : Agreed gone es ps) where
     in-entries : (x : List Value) → Has x gone ⊎ Has x es → Has x entries
@@ -375,40 +373,6 @@ module _ (index : Index) (rows : List TableRow) (members : List Member) (entries
           unique = λ unique. subst (λ (list : List (List Value)). AllPairs (λ (a b : List Value). ¬ Clash index a b) list) whole (pairs-from (λ (a b : List Value). ¬ Clash index a b) gone (agreed.apart unique));
         }
 
--- Lists at an index.
-
-pub drop-at : {A : Type 0} (xs : List A) (k : ℕ) (x : A) → slice_get xs k ≡ Some x → drop k xs ≡ x ∷ drop (suc k) xs
-drop-at [] k x get = absurd (let no : ⊥ = cc in no)
-drop-at (y ∷ xs) zero x get = let same : y ≡ x = cc in ap (λ z. z ∷ xs) same
-drop-at (y ∷ xs) (suc k) x get = drop-at xs k x get
-
-pub take-at : {A : Type 0} (xs : List A) (k : ℕ) (x : A) → slice_get xs k ≡ Some x → take (suc k) xs ≡ take k xs ++ x ∷ []
-take-at [] k x get = absurd (let no : ⊥ = cc in no)
-take-at (y ∷ xs) zero x get = let same : y ≡ x = cc in ap (λ z. z ∷ []) same
-take-at (y ∷ xs) (suc k) x get = ap (λ zs. y ∷ zs) (take-at xs k x get)
-
-pub drop-past : {A : Type 0} (xs : List A) (k : ℕ) → slice_get xs k ≡ None → drop k xs ≡ []
-drop-past [] zero get = refl
-drop-past [] (suc k) get = refl
-drop-past (y ∷ xs) zero get = absurd (let no : ⊥ = cc in no)
-drop-past (y ∷ xs) (suc k) get = drop-past xs k get
-
-pub drop-end : {A : Type 0} (xs : List A) (k : ℕ) → length xs ≤ k → drop k xs ≡ []
-drop-end [] zero past = refl
-drop-end [] (suc k) past = refl
-drop-end (y ∷ xs) zero past = absurd (omega (arith, past))
-drop-end (y ∷ xs) (suc k) past = drop-end xs k (omega (arith, past))
-
-pub get-at : {A : Type 0} (xs : List A) (k : ℕ) (x : A) → k < length xs → x ≡ slice_index_or xs k x → slice_get xs k ≡ Some x
-get-at [] k x low is = absurd (omega (arith, low))
-get-at (y ∷ xs) zero x low is = let same : y ≡ x = sym is in ap Some same
-get-at (y ∷ xs) (suc k) x low is = get-at xs k x (omega (arith, low)) is
-
-take-drop : {A : Type 0} (xs : List A) (k : ℕ) → xs ≡ take k xs ++ drop k xs
-take-drop xs zero = refl
-take-drop [] (suc k) = refl
-take-drop (x ∷ xs) (suc k) = ap (λ zs. x ∷ zs) (take-drop xs k)
-
 -- Lists of values that are the same at each place.
 
 pub same-each : (xs ys : List Value) → length xs ≡ length ys → ((k : ℕ) (d : Value) → k < length xs → slice_index_or xs k d ≡ slice_index_or ys k d) → xs ≡ ys
@@ -416,126 +380,6 @@ same-each [] [] long each = refl
 same-each [] (y ∷ ys) long each = absurd (omega (arith, long))
 same-each (x ∷ xs) [] long each = absurd (omega (arith, long))
 same-each (x ∷ xs) (y ∷ ys) long each = ap₂ (λ (v : Value) (vs : List Value). v ∷ vs) (each 0 x (omega arith)) (same-each xs ys (omega (arith, long)) (λ k d low. each (suc k) d (omega (arith, low))))
-
--- The comparison, place by place.
-module _ (index : Index) (rows : List TableRow) (members : List Member) (entries expected : List (List Value)) (zip : AllZip (IsEntry index) members entries) (pairs : AllPairs (IsBefore index) entries)
-    (proj : IsProjection index rows expected) where
-  abbrev Both : List (List Value) → List (List Value) → List (List Value) → Type 0
-  Both gone es ps = Agreed index rows members entries expected zip pairs proj gone es ps
-
-  -- both agree up to a place
-  abbrev pub AgreedTo : ℕ → Type 0
-  AgreedTo at = Both (take at entries) (drop at entries) (drop at expected)
-
-  pub to-agreed : (at : ℕ) → AgreesTo index entries expected at → AgreedTo at
-  to-agreed at is = record { entries_are = take-drop entries at; expected_are = is.same; apart = is.apart }
-
-  pub from-agreed : (at : ℕ) → AgreedTo at → AgreesTo index entries expected at
-  from-agreed at is = record { same = is.expected_are; apart = is.apart }
-
-  pub agrees-start : AgreesTo index entries expected 0
-  agrees-start = record { same = refl; apart = λ unique. tt }
-
-  -- a number that is the rowid of an entry, if it has one
-  abbrev IsRowidOf : ℤ → List Value → Type 0
-  IsRowidOf result entry = (z : ℤ) → last_value (order_of index) entry ≡ Int z → result ≡ z
-
-  abbrev Told : ℤ → Type 0
-  Told result = FirstDisagrees index rows members result
-
-  told : (result : ℤ) (entry : List Value) → HasRowid index entry → IsRowidOf result entry → ((z : ℤ) → last_value (order_of index) entry ≡ Int z → Told z) → Told result
-  told result entry fits is tells = subst⁻¹ Told (is fits.1.0 fits.1.1) (tells fits.1.0 fits.1.1)
-
-  at-entries : (at : ℕ) (e : List Value) → AgreedTo at → slice_get entries at ≡ Some e → Both (take at entries) (e ∷ drop (suc at) entries) (drop at expected)
-  at-entries at e agreed get = subst (λ (es : List (List Value)). Both (take at entries) es (drop at expected)) (drop-at entries at e get) agreed
-
-  at-both : (at : ℕ) (e p : List Value) → AgreedTo at → slice_get entries at ≡ Some e → slice_get expected at ≡ Some p → Both (take at entries) (e ∷ drop (suc at) entries) (p ∷ drop (suc at) expected)
-  at-both at e p agreed get also = subst (λ (ps : List (List Value)). Both (take at entries) (e ∷ drop (suc at) entries) ps) (drop-at expected at p also) (at-entries at e agreed get)
-
-  fits-entry : (at : ℕ) (e : List Value) (ps : List (List Value)) → Both (take at entries) (e ∷ drop (suc at) entries) ps → HasRowid index e
-  fits-entry at e ps agreed =
-      entry-fits index rows members entries expected zip pairs proj e
-      (subst⁻¹ (λ (list : List (List Value)). Has e list) agreed.entries_are (has-right (take at entries) (e ∷ drop (suc at) entries) e (inl refl)))
-
-  fits-row : (gone es : List (List Value)) (p : List Value) (ps : List (List Value)) → Both gone es (p ∷ ps) → HasRowid index p
-  fits-row gone es p ps agreed =
-      row-fits index rows members entries expected zip pairs proj p (subst⁻¹ (λ (list : List (List Value)). Has p list) agreed.expected_are (has-right gone (p ∷ ps) p (inl refl)))
-
-  -- no row is left
-  pub tells-entry : (at : ℕ) (e : List Value) (result : ℤ) → AgreedTo at → slice_get entries at ≡ Some e → slice_get expected at ≡ None → IsRowidOf result e → Told result
-  tells-entry at e result agreed get none is =
-      let left = subst (λ (ps : List (List Value)). Both (take at entries) (e ∷ drop (suc at) entries) ps) (drop-past expected at none) (at-entries at e agreed get) in
-      told result e (fits-entry at e [] left) is (λ z last. entry-alone index rows members entries expected zip pairs proj (take at entries) e (drop (suc at) entries) z left last)
-
-  -- no entry is left
-  pub tells-row : (p : List Value) (result : ℤ) → AgreedTo (length entries) → slice_get expected (length entries) ≡ Some p → IsRowidOf result p → Told result
-  tells-row p result agreed get is =
-      let gone = take (length entries) entries in
-      let rest = drop (suc (length entries)) expected in
-      let left = subst (λ (es : List (List Value)). Both gone es (p ∷ rest)) (drop-end entries (length entries) (omega arith))
-      (subst (λ (ps : List (List Value)). Both gone (drop (length entries) entries) ps) (drop-at expected (length entries) p get) agreed) in
-      told result p (fits-row gone [] p rest left) is (λ z last. row-alone index rows members entries expected zip pairs proj gone p rest z left last)
-
-  -- nothing is left
-  pub tells-none : AgreedTo (length entries) → slice_get expected (length entries) ≡ None → IsIndexOf index rows members
-  tells-none agreed none =
-      let gone = take (length entries) entries in
-      all-agree index rows members entries expected zip pairs proj gone
-      (subst (λ (es : List (List Value)). Both gone es []) (drop-end entries (length entries) (omega arith))
-      (subst (λ (ps : List (List Value)). Both gone (drop (length entries) entries) ps) (drop-past expected (length entries) none) agreed))
-
-  -- an entry and a row that differ
-  pub tells-first : (at : ℕ) (e p : List Value) (result : ℤ) → AgreedTo at → slice_get entries at ≡ Some e → slice_get expected at ≡ Some p → e ≢ p → FirstOf (order_of index) e p result → Told result
-  tells-first at e p result agreed get also unlike first = by (entry_cmp (order_of index) p e) refl
-    where
-      both : Both (take at entries) (e ∷ drop (suc at) entries) (p ∷ drop (suc at) expected)
-      both = at-both at e p agreed get also
-
-      entry : ¬ (entry_cmp (order_of index) p e ≡ Less) → Told result
-      entry not_before =
-          told result e (fits-entry at e (p ∷ drop (suc at) expected) both) (first.1 not_before)
-          (λ z last. entry-first index rows members entries expected zip pairs proj (take at entries) e p (drop (suc at) entries) (drop (suc at) expected) both z unlike not_before last)
-
-      by : (o : Ordering) → entry_cmp (order_of index) p e ≡ o → Told result
-      by Less is =
-          told result p (fits-row (take at entries) (e ∷ drop (suc at) entries) p (drop (suc at) expected) both) (first.0 is)
-          (λ z last. row-first index rows members entries expected zip pairs proj (take at entries) e p (drop (suc at) entries) (drop (suc at) expected) both z is last)
-      by Equal is = entry (λ less. let clash : Less ≡ Equal = sym less ∙ is in let no : ⊥ = cc in no)
-      by Greater is = entry (λ less. let clash : Less ≡ Greater = sym less ∙ is in let no : ⊥ = cc in no)
-
-  -- two entries of a unique index that clash
-  pub tells-clash : (at before : ℕ) (e p last : List Value) (result : ℤ) → AgreedTo at → slice_get entries at ≡ Some e → slice_get expected at ≡ Some p → e ≡ p → at ≡ suc before → slice_get entries before ≡ Some last
-      → IsTrue index.unique → Clash index last e → IsRowidOf result e → Told result
-  tells-clash at before e p last result agreed get also same at_is earlier unique clash is =
-      let both = at-both at e p agreed get also in
-      let front : take at entries ≡ take before entries ++ last ∷ [] = ap (λ (n : ℕ). take n entries) at_is ∙ take-at entries before last earlier in
-      let stands = subst⁻¹ (λ (list : List (List Value)). Has last list) front (has-right (take before entries) (last ∷ []) last (inl refl)) in
-      told result e (fits-entry at e (p ∷ drop (suc at) expected) both) is
-      (λ z rowid. clash-first index rows members entries expected zip pairs proj (take at entries) e p (drop (suc at) entries) (drop (suc at) expected) both same z last unique stands clash rowid)
-
-  -- one entry more agrees
-  pub agreed-next : (at : ℕ) (e p : List Value) → AgreedTo at → slice_get entries at ≡ Some e → slice_get expected at ≡ Some p → e ≡ p
-      → (IsTrue index.unique → (before : ℕ) (last : List Value) → at ≡ suc before → slice_get entries before ≡ Some last → ¬ Clash index last e) → AgreedTo (at + 1)
-  agreed-next at e p agreed get also same apart =
-      let both = at-both at e p agreed get also in
-      let more = agreed-more index rows members entries expected zip pairs proj (take at entries) e p (drop (suc at) entries) (drop (suc at) expected) both same (λ unique. none at refl both unique) in
-      let next : suc at ≡ at + 1 = omega arith in
-      subst AgreedTo next (subst⁻¹ (λ (gone : List (List Value)). Both gone (drop (suc at) entries) (drop (suc at) expected)) (take-at entries at e get) more)
-    where
-      none : (n : ℕ) → n ≡ at → Both (take n entries) (e ∷ drop (suc at) entries) (p ∷ drop (suc at) expected) → IsTrue index.unique → (x : List Value) → Has x (take n entries) → ¬ Clash index x e
-      none zero is both unique x h = absurd h
-      none (suc before) is both unique x h =
-          let low : before < length entries = get-low entries at e get (omega (arith, is)) in
-          let last = slice_index_or entries before [] in
-          let earlier = get-at entries before last low (sym (get_or_default entries before last [] low)) in
-          last-apart index rows members entries expected zip pairs proj (take (suc before) entries) (take before entries) last e p (drop (suc at) entries) (drop (suc at) expected)
-          (take-at entries before last earlier) both (apart unique before last (sym is) earlier) x h
-        where
-          get-low : (xs : List (List Value)) (k : ℕ) (y : List Value) → slice_get xs k ≡ Some y → before < k → before < length xs
-          get-low xs k y get below = elim (cases_lt k (length xs)) [
-            | inl within ↦ omega (arith, below, within)
-            | inr past ↦ absurd (let clash : None ≡ Some y = sym (slice_get_past xs k past) ∙ get in let no : ⊥ = cc in no)
-          ]
 
 -- Values at one place of two lists.
 module _ (xs ys : List Value) (at : ℕ) (x y : Value) (low : at < length xs) (long : length xs ≡ length ys) (is : x ≡ slice_index_or xs at x) (also : y ≡ slice_index_or ys at y) where
@@ -556,43 +400,215 @@ module _ (xs ys : List Value) (at : ℕ) (x y : Value) (low : at < length xs) (l
         ap (λ (n : ℕ). slice_index_or xs n d) here ∙ get_or_default xs at d x low ∙ sym is ∙ value_cmp-same x y equal ∙ also ∙ get_or_default ys at y d low-also ∙ sym (ap (λ (n : ℕ). slice_index_or ys n d) here)
   ]
 
--- A clash by the columns of an index.
-module _ (index : Index) (columns : List (Collation × Bool)) (a b x y : List Value) (same : order_of index ≡ columns) (is : x ≡ a) (also : y ≡ b) where
-  abbrev ClashUnder : Type 0
-  ClashUnder = (columns_cmp columns x y ≡ Equal) × (list_any is_null (take (length columns) x) ≡ false) × (list_any is_null (take (length columns) y) ≡ false)
-
-  many : length columns ≡ length index.columns
-  many = ap (λ (cs : List (Collation × Bool)). length cs) (sym same) ∙ length-map index.columns (λ (column : ℕ × Collation × Bool). (column.1, column.2))
-
-  pub clash-of : ClashUnder → Clash index a b
-  clash-of clash = (
-    subst (λ (v : List Value). columns_cmp (order_of index) a v ≡ Equal) also
-        (subst (λ (v : List Value). columns_cmp (order_of index) v y ≡ Equal) is (subst⁻¹ (λ (cs : List (Collation × Bool)). columns_cmp cs x y ≡ Equal) same clash.0)),
-    subst (λ (v : List Value). has_null index v ≡ false) is (subst (λ (n : ℕ). list_any is_null (take n x) ≡ false) many clash.1),
-    subst (λ (v : List Value). has_null index v ≡ false) also (subst (λ (n : ℕ). list_any is_null (take n y) ≡ false) many clash.2),
-  )
-
-  pub of-clash : Clash index a b → ClashUnder
-  of-clash clash = (
-    subst (λ (cs : List (Collation × Bool)). columns_cmp cs x y ≡ Equal) same
-        (subst⁻¹ (λ (v : List Value). columns_cmp (order_of index) v y ≡ Equal) is (subst⁻¹ (λ (v : List Value). columns_cmp (order_of index) a v ≡ Equal) also clash.0)),
-    subst⁻¹ (λ (n : ℕ). list_any is_null (take n x) ≡ false) many (subst⁻¹ (λ (v : List Value). has_null index v ≡ false) is clash.1),
-    subst⁻¹ (λ (n : ℕ). list_any is_null (take n y) ≡ false) many (subst⁻¹ (λ (v : List Value). has_null index v ≡ false) also clash.2),
-  )
-
-  -- the first of two entries
-  pub first-of : (r result : ℤ) → result ≡ r → FirstOf columns x y r → FirstOf (order_of index) a b result
-  first-of r result result_is first =
-      let under = subst⁻¹ (λ (cs : List (Collation × Bool)). FirstOf cs x y r) same first in
-      let at_a = subst (λ (v : List Value). FirstOf (order_of index) v y r) is under in
-      let at_b = subst (λ (v : List Value). FirstOf (order_of index) a v r) also at_a in
-      subst⁻¹ (FirstOf (order_of index) a b) result_is at_b
-
--- the rowid of an entry
-pub rowid-of : (index : Index) (columns : List (Collation × Bool)) (a x : List Value) (r result : ℤ) → order_of index ≡ columns → x ≡ a → result ≡ r → ((z : ℤ) → last_value columns x ≡ Int z → r ≡ z)
-    → (z : ℤ) → last_value (order_of index) a ≡ Int z → result ≡ z
-rowid-of index columns a x r result same is result_is told z last =
-    result_is ∙ told z (subst (λ (cs : List (Collation × Bool)). last_value cs x ≡ Int z) same (subst⁻¹ (λ (v : List Value). last_value (order_of index) v ≡ Int z) is last))
+-- What stands at the end of a front.
 
 pub same-some : (x y : List Value) → Some x ≡ Some y → x ≡ y
 same-some x y e = cc
+
+next-some : (gone rest : List (List Value)) (p : List Value) → slice_get (gone ++ rest) (length gone) ≡ Some p → (more : List (List Value)) × (rest ≡ p ∷ more)
+next-some [] [] p get = absurd (let no : ⊥ = cc in no)
+next-some [] (x ∷ rest) p get = (rest, ap (λ (v : List Value). v ∷ rest) (same-some x p get))
+next-some (x ∷ gone) rest p get = next-some gone rest p get
+
+next-none : (gone rest : List (List Value)) → slice_get (gone ++ rest) (length gone) ≡ None → rest ≡ []
+next-none [] [] get = refl
+next-none [] (x ∷ rest) get = absurd (let no : ⊥ = cc in no)
+next-none (x ∷ gone) rest get = next-none gone rest get
+
+-- A number that is the rowid of an entry, if it has one.
+abbrev pub IsRowidIn : List (Collation × Bool) → List Value → ℤ → Type 0
+IsRowidIn columns entry result = (z : ℤ) → last_value columns entry ≡ Int z → result ≡ z
+
+-- A clash by the columns of an index.
+module _ (index : Index) (columns : List (Collation × Bool)) (a b : List Value) (same : order_of index ≡ columns) where
+  many : length (order_of index) ≡ length index.columns
+  many = length-map index.columns (λ (column : ℕ × Collation × Bool). (column.1, column.2))
+
+  clash-of : ClashIn columns a b → Clash index a b
+  clash-of clash =
+      let own : ClashIn (order_of index) a b = subst⁻¹ (λ (cs : List (Collation × Bool)). ClashIn cs a b) same clash in
+      (own.0, subst (λ (n : ℕ). list_any is_null (take n a) ≡ false) many own.1, subst (λ (n : ℕ). list_any is_null (take n b) ≡ false) many own.2)
+
+  of-clash : Clash index a b → ClashIn columns a b
+  of-clash clash = subst (λ (cs : List (Collation × Bool)). ClashIn cs a b) same
+      (clash.0, subst⁻¹ (λ (n : ℕ). list_any is_null (take n a) ≡ false) many clash.1, subst⁻¹ (λ (n : ℕ). list_any is_null (take n b) ≡ false) many clash.2)
+
+-- Where an index ends, all of whose entries were found in order.
+module _ (index : Index) (rows : List TableRow) (members : List Member) (entries expected : List (List Value)) (zip : AllZip (IsEntry index) members entries) (pairs : AllPairs (IsBefore index) entries)
+    (proj : IsProjection index rows expected) where
+  -- a number that is the rowid of an entry that disagrees is told
+  told-rowid : (columns : List (Collation × Bool)) (entry : List Value) (result : ℤ) → order_of index ≡ columns → HasRowid index entry → IsRowidIn columns entry result
+      → ((z : ℤ) → last_value (order_of index) entry ≡ Int z → FirstDisagrees index rows members z) → FirstDisagrees index rows members result
+  told-rowid columns entry result same fits is tells =
+      let own : IsRowidIn (order_of index) entry result = subst⁻¹ (λ (cs : List (Collation × Bool)). IsRowidIn cs entry result) same is in
+      subst⁻¹ (FirstDisagrees index rows members) (own fits.1.0 fits.1.1) (tells fits.1.0 fits.1.1)
+
+  module _ (agree : Agree index entries expected) where
+    ended : (rest : List (List Value)) → agree.rest ≡ rest → Agreed index rows members entries expected zip pairs proj entries [] rest
+    ended rest is = record {
+      entries_are = sym (append-nil entries);
+      expected_are = agree.whole ∙ ap (λ (more : List (List Value)). entries ++ more) is;
+      apart = agree.apart;
+    }
+
+    -- a row is left
+    ends-row : (columns : List (Collation × Bool)) (p : List Value) (result : ℤ) → order_of index ≡ columns → slice_get expected (length entries) ≡ Some p → IsRowidIn columns p result → FirstDisagrees index rows members result
+    ends-row columns p result same get is =
+        let next = next-some entries agree.rest p (subst (λ (list : List (List Value)). slice_get list (length entries) ≡ Some p) agree.whole get) in
+        let left = ended (p ∷ next.0) next.1 in
+        let stands = subst⁻¹ (λ (list : List (List Value)). Has p list) left.expected_are (has-right entries (p ∷ next.0) p (inl refl)) in
+        told-rowid columns p result same (row-fits index rows members entries expected zip pairs proj p stands) is
+        (λ z last. row-alone index rows members entries expected zip pairs proj entries p next.0 z left last)
+
+    -- nothing is left
+    ends-none : slice_get expected (length entries) ≡ None → IsIndexOf index rows members
+    ends-none get =
+        let none = next-none entries agree.rest (subst (λ (list : List (List Value)). slice_get list (length entries) ≡ None) agree.whole get) in
+        all-agree index rows members entries expected zip pairs proj entries (ended [] none)
+
+pub none-there : (told : Option ℤ) → is_some told ≡ false → told ≡ None
+none-there None e = refl
+none-there (Some rowid) e = absurd (let no : ⊥ = cc in no)
+
+-- A comparison once all entries were found.
+module _ (tree : CheckedTree) (index : Index) (rows : List TableRow) (members : List Member) (entries : List (List Value)) (same : order_of index ≡ tree.columns) (unique : index.unique ≡ tree.unique)
+    (are : AreMembersOf index members entries) (proj : IsProjection index rows tree.expected.now) (compared : Comparison) (is : IsComparison tree entries compared) where
+  tells-by : (told : Option ℤ) → compared.told ≡ told → TellsBy index rows members entries tree.expected.now compared.agreed told
+  tells-by told is_told =
+      subst (TellsBy index rows members entries tree.expected.now compared.agreed) is_told
+      (is.tells index rows members [] same unique (subst⁻¹ (AreMembersOf index members) (append-nil entries) are) proj)
+
+  pub tells-told : (told : Option ℤ) → compared.told ≡ told → is_some told ≡ true → Tells index rows members told
+  tells-told None is_told some = absurd (let no : ⊥ = cc in no)
+  tells-told (Some rowid) is_told some = tells-by (Some rowid) is_told
+
+  pub tells-row : compared.told ≡ None → (p : List Value) (result : ℤ) → slice_get tree.expected.now compared.agreed ≡ Some p → IsRowidIn tree.columns p result → Tells index rows members (Some result)
+  tells-row none p result get rowid =
+      let by = tells-by None none in
+      ends-row index rows members entries tree.expected.now are.0 are.1 proj by.1 tree.columns p result same (subst (λ (n : ℕ). slice_get tree.expected.now n ≡ Some p) by.0 get) rowid
+
+  pub tells-none : compared.told ≡ None → slice_get tree.expected.now compared.agreed ≡ None → Tells index rows members None
+  tells-none none get =
+      let by = tells-by None none in
+      ends-none index rows members entries tree.expected.now are.0 are.1 proj by.1 (subst (λ (n : ℕ). slice_get tree.expected.now n ≡ None) by.0 get)
+
+-- One entry more of an index, where all before agree.
+module _ (tree : CheckedTree) (gone : List (List Value)) (was : Comparison) (is : IsComparison tree gone was) (none : was.told ≡ None) (e : List Value) where
+  abbrev TellsNext : Option ℤ → Type 0
+  TellsNext told = TellsOfFirst tree (gone ++ e ∷ []) (was.agreed + 1) told
+
+  module _ (index : Index) (rows : List TableRow) (members : List Member) (later : List (List Value)) (same : order_of index ≡ tree.columns) (unique : index.unique ≡ tree.unique)
+      (are : AreMembersOf index members ((gone ++ e ∷ []) ++ later)) (proj : IsProjection index rows tree.expected.now) where
+    abbrev all_entries : List (List Value)
+    all_entries = gone ++ (e ∷ later)
+
+    abbrev all_expected : List (List Value)
+    all_expected = tree.expected.now
+
+    are_own : AreMembersOf index members all_entries
+    are_own = subst (AreMembersOf index members) (append_assoc gone (e ∷ []) later) are
+
+    begun : (was.agreed ≡ length gone) × Agree index gone all_expected
+    begun = subst (TellsBy index rows members gone all_expected was.agreed) none (is.tells index rows members (e ∷ later) same unique are_own proj)
+
+    abbrev Beside : List (List Value) → Type 0
+    Beside ps = Agreed index rows members all_entries all_expected are_own.0 are_own.1 proj gone (e ∷ later) ps
+
+    both : (ps : List (List Value)) → begun.1.rest ≡ ps → Beside ps
+    both ps left = record { entries_are = refl; expected_are = begun.1.whole ∙ ap (λ (more : List (List Value)). gone ++ more) left; apart = begun.1.apart }
+
+    at-next : (found : Option (List Value)) → slice_get all_expected was.agreed ≡ found → slice_get (gone ++ begun.1.rest) (length gone) ≡ found
+    at-next found get = subst (λ (n : ℕ). slice_get (gone ++ begun.1.rest) n ≡ found) begun.0 (subst (λ (list : List (List Value)). slice_get list was.agreed ≡ found) begun.1.whole get)
+
+    fits-own : HasRowid index e
+    fits-own = entry-fits index rows members all_entries all_expected are_own.0 are_own.1 proj e (has-right gone (e ∷ later) e (inl refl))
+
+    told-own : (result : ℤ) → IsRowidIn tree.columns e result → ((z : ℤ) → last_value (order_of index) e ≡ Int z → FirstDisagrees index rows members z) → FirstDisagrees index rows members result
+    told-own result rowid tells = told-rowid index rows members all_entries all_expected are_own.0 are_own.1 proj tree.columns e result same fits-own rowid tells
+
+    own-entry : (result : ℤ) → slice_get all_expected was.agreed ≡ None → IsRowidIn tree.columns e result → FirstDisagrees index rows members result
+    own-entry result get rowid =
+        let left = both [] (next-none gone begun.1.rest (at-next None get)) in
+        told-own result rowid (λ z last. entry-alone index rows members all_entries all_expected are_own.0 are_own.1 proj gone e later z left last)
+
+    module _ (p : List Value) (get : slice_get all_expected was.agreed ≡ Some p) where
+      row_next : (more : List (List Value)) × (begun.1.rest ≡ p ∷ more)
+      row_next = next-some gone begun.1.rest p (at-next (Some p) get)
+
+      abbrev more : List (List Value)
+      more = row_next.0
+
+      pair : Beside (p ∷ more)
+      pair = both (p ∷ more) row_next.1
+
+      own-first : (result : ℤ) → e ≢ p → FirstOf tree.columns e p result → FirstDisagrees index rows members result
+      own-first result unlike first = by (entry_cmp (order_of index) p e) refl
+        where
+          of : FirstOf (order_of index) e p result
+          of = subst⁻¹ (λ (cs : List (Collation × Bool)). FirstOf cs e p result) same first
+
+          entry : ¬ (entry_cmp (order_of index) p e ≡ Less) → FirstDisagrees index rows members result
+          entry not_before =
+              told-rowid index rows members all_entries all_expected are_own.0 are_own.1 proj (order_of index) e result refl fits-own (of.1 not_before)
+              (λ z last. entry-first index rows members all_entries all_expected are_own.0 are_own.1 proj gone e p later more pair z unlike not_before last)
+
+          stands : Has p all_expected
+          stands = subst⁻¹ (λ (list : List (List Value)). Has p list) pair.expected_are (has-right gone (p ∷ more) p (inl refl))
+
+          by : (o : Ordering) → entry_cmp (order_of index) p e ≡ o → FirstDisagrees index rows members result
+          by Less before =
+              told-rowid index rows members all_entries all_expected are_own.0 are_own.1 proj (order_of index) p result refl (row-fits index rows members all_entries all_expected are_own.0 are_own.1 proj p stands) (of.0 before)
+              (λ z last. row-first index rows members all_entries all_expected are_own.0 are_own.1 proj gone e p later more pair z before last)
+          by Equal equal = entry (λ less. let clash : Less ≡ Equal = sym less ∙ equal in let no : ⊥ = cc in no)
+          by Greater greater = entry (λ less. let clash : Less ≡ Greater = sym less ∙ greater in let no : ⊥ = cc in no)
+
+      own-clash : (result : ℤ) → e ≡ p → IsTrue tree.unique → (last : Option (List Value)) → IsLast last gone → ClashesWith tree.columns last e → IsRowidIn tree.columns e result → FirstDisagrees index rows members result
+      own-clash result agrees only None at clash rowid = absurd clash
+      own-clash result agrees only (Some last) at clash rowid =
+          told-own result rowid
+          (λ z rowid_is. clash-first index rows members all_entries all_expected are_own.0 are_own.1 proj gone e p later more pair agrees z last (unique ∙ only)
+          (subst⁻¹ (λ (list : List (List Value)). Has last list) at.1 (has-right at.0 (last ∷ []) last (inl refl))) (clash-of index tree.columns last e same clash) rowid_is)
+
+      apart-none : (last : Option (List Value)) → IsLast last gone → (IsTrue tree.unique → ¬ ClashesWith tree.columns last e) → IsTrue index.unique → (x : List Value) → Has x gone → ¬ Clash index x e
+      apart-none None at apart only x has = absurd (subst (λ (list : List (List Value)). Has x list) at has)
+      apart-none (Some last) at apart only x has =
+          last-apart index rows members all_entries all_expected are_own.0 are_own.1 proj gone at.0 last e p later more at.1 pair (λ clash. apart (sym unique ∙ only) (of-clash index tree.columns last e same clash)) x has
+
+      own-more : e ≡ p → (IsTrue tree.unique → ¬ ClashesWith tree.columns was.last e) → (was.agreed + 1 ≡ length (gone ++ e ∷ [])) × Agree index (gone ++ e ∷ []) all_expected
+      own-more agrees apart =
+          let on = agreed-more index rows members all_entries all_expected are_own.0 are_own.1 proj gone e p later more pair agrees (apart-none was.last is.last apart) in
+          (omega (arith, begun.0, length-append gone (e ∷ [])), record { rest = more; whole = on.expected_are; apart = on.apart })
+
+  -- no row is left
+  pub next-entry : (result : ℤ) → slice_get tree.expected.now was.agreed ≡ None → IsRowidIn tree.columns e result → TellsNext (Some result)
+  next-entry result get rowid = λ index rows members later same unique are proj. own-entry index rows members later same unique are proj result get rowid
+
+  -- the entry and the row differ
+  pub next-first : (p : List Value) (result : ℤ) → slice_get tree.expected.now was.agreed ≡ Some p → e ≢ p → FirstOf tree.columns e p result → TellsNext (Some result)
+  next-first p result get unlike first = λ index rows members later same unique are proj. own-first index rows members later same unique are proj p get result unlike first
+
+  -- two entries of a unique index clash
+  pub next-clash : (p : List Value) (result : ℤ) → slice_get tree.expected.now was.agreed ≡ Some p → e ≡ p → IsTrue tree.unique → ClashesWith tree.columns was.last e → IsRowidIn tree.columns e result → TellsNext (Some result)
+  next-clash p result get agrees only clash rowid = λ index rows members later same unique are proj. own-clash index rows members later same unique are proj p get result agrees only was.last is.last clash rowid
+
+  -- one entry more agrees
+  pub next-agrees : (p : List Value) → slice_get tree.expected.now was.agreed ≡ Some p → e ≡ p → (IsTrue tree.unique → ¬ ClashesWith tree.columns was.last e) → TellsNext None
+  next-agrees p get agrees apart = λ index rows members later same unique are proj. own-more index rows members later same unique are proj p get agrees apart
+
+-- one disagrees already
+pub next-told : (tree : CheckedTree) (gone : List (List Value)) (was : Comparison) (e : List Value) → IsComparison tree gone was → is_some was.told ≡ true → TellsOfFirst tree (gone ++ e ∷ []) was.agreed was.told
+next-told tree gone was e is some = by was.told refl some
+  where
+    by : (told : Option ℤ) → was.told ≡ told → is_some told ≡ true → TellsOfFirst tree (gone ++ e ∷ []) was.agreed told
+    by None told_is there = absurd (let no : ⊥ = cc in no)
+    by (Some rowid) told_is there = λ index rows members later same unique are proj.
+        subst (TellsBy index rows members gone tree.expected.now was.agreed) told_is
+        (is.tells index rows members (e ∷ later) same unique (subst (AreMembersOf index members) (append_assoc gone (e ∷ []) later) are) proj)
+
+-- nothing was found
+pub compared-none : (tree : CheckedTree) (compared : Comparison) → compared.last ≡ None → compared.agreed ≡ 0 → compared.told ≡ None → IsComparison tree [] compared
+compared-none tree compared no_last zero_agreed none = record {
+  last = subst⁻¹ (λ (last : Option (List Value)). IsLast last []) no_last refl;
+  tells = λ index rows members later same unique are proj.
+      subst⁻¹ (TellsBy index rows members [] tree.expected.now compared.agreed) none (zero_agreed, record { rest = tree.expected.now; whole = refl; apart = λ only. tt });
+}

@@ -2,15 +2,14 @@
 use Rattle.std.proofs.Common.{◌≡◌, ℕ, ◌<◌, Bool, true, false, List, [], ◌∷◌, ◌++◌, length, map, Result, Ok, Err, slice_index_or, refl, sym, ap, ◌∙◌, subst, inl, append_assoc}
 use Rattle.std.proofs.Math.Path.{subst⁻¹}
 use Rattle.std.specs.Prelude.{slice_set}
-use Rattle.std.specs.List.{list_any, AllZip}
+use Rattle.std.specs.List.{list_any}
 use Rattle.std.proofs.lemmas.List.{append-nil, map-append}
 use Rattle.std.proofs.lemmas.List.Folds.{list_any-append}
 use Rattle.std.proofs.lemmas.List.Elements.{filter_map-append}
-use Rattle.rbu_value.specs.declared.value.Value.{Value}
 use Rattle.tree_spec.specs.Trees.{Member}
 use Rattle.database_spec.specs.Walks.{Finding, Finds}
-use Rattle.database_spec.specs.FileFindings.{Content, Rows, Entries, Anything, Subject, Found, InTree}
-use Rattle.database_spec.specs.FileFaults.{ends_elsewhere, is_found, IsEntry, IsWrongInTree, FirstWrong}
+use Rattle.database_spec.specs.FileFindings.{Subject, Found, InTree}
+use Rattle.database_spec.specs.FileFaults.{ends_elsewhere, is_found, IsWrongInTree, FirstWrong}
 use Rattle.database_laws.specs.RightFindings.{IsRightInTree, AreRight}
 use Rattle.database_laws.specs.RightFindingsLaws.{right-join, wrong-front, wrong-back, found-append}
 use Rattle.database_laws.specs.RightFilesLaws.{in_tree}
@@ -20,7 +19,7 @@ use Rattle.db_check.specs.declared.walk.CheckedTree.{CheckedTree}
 use Rattle.db_check.specs.declared.walk.Progress.{Progress}
 use Rattle.db_check.specs.Answers.{IsRefusal}
 use Rattle.db_check.specs.Passes.{IsMarked}
-use Rattle.db_check.specs.Steps.{IsOf, member_at, members_at, HaveEntries, Knows, Leaves, Refuses, Steps, Ended}
+use Rattle.db_check.specs.Steps.{AreCompared, IsOf, member_at, members_at, Knows, Leaves, Refuses, Steps, Ended}
 use Rattle.db_check.specs.PassesLaws.{refusal-then}
 use Rattle.db_check.proofs.Parts.{or-none, marked-page}
 
@@ -40,7 +39,7 @@ leaves-then tree From Mid To old mid now was during walk first second subject be
       rest = b.rest;
       whole = a.whole ∙ ap (λ (r : List Finding). a.gone ++ r) b.whole ∙ sym (append_assoc a.gone b.gone b.rest);
       right = subst⁻¹ (AreRight before) list (right-join before (in_tree subject a.gone) (in_tree subject b.gone) a.right b.right);
-      knows = subst⁻¹ (λ (found : List Found). Knows subject now walk (before ++ found)) list (subst (Knows subject now walk) (append_assoc before (in_tree subject a.gone) (in_tree subject b.gone)) b.knows);
+      knows = subst⁻¹ (λ (found : List Found). Knows tree subject now walk (before ++ found)) list (subst (Knows tree subject now walk) (append_assoc before (in_tree subject a.gone) (in_tree subject b.gone)) b.knows);
       is_rest = b.is_rest;
     }
 
@@ -112,7 +111,7 @@ leaves-none tree From To flags walk on subject before of knows findings from = r
   rest = findings;
   whole = refl;
   right = tt;
-  knows = subst⁻¹ (Knows subject flags walk) (append-nil before) knows;
+  knows = subst⁻¹ (Knows tree subject flags walk) (append-nil before) knows;
   is_rest = on findings from;
 }
 
@@ -122,7 +121,7 @@ abbrev pub Begins : Finding → (List Finding → Type 0) → Type 0
 Begins one From = (findings : List Finding) → From findings → (rest : List Finding) × (findings ≡ one ∷ rest)
 
 pub refuses-one : {F : Type 0} (tree : CheckedTree) (From : List Finding → Type 0) (old : List Bool) (was : Progress) (one : Finding) (fault : CheckFault F) → Begins one From
-    → ((subject : Subject) (before : List Found) → IsOf tree subject.content → Knows subject old was before → IsRefusal (IsWrongInTree before subject one) fault) → Refuses tree From old was fault
+    → ((subject : Subject) (before : List Found) → IsOf tree subject.content → Knows tree subject old was before → IsRefusal (IsWrongInTree before subject one) fault) → Refuses tree From old was fault
 refuses-one tree From old was one fault begins wrong subject before of knows findings from =
     let parts = begins findings from in
     refusal-then (IsWrongInTree before subject one) (FirstWrong before (in_tree subject findings))
@@ -134,7 +133,7 @@ pub refuses-always : {F : Type 0} (tree : CheckedTree) (From : List Finding → 
 refuses-always tree From old was one fault begins wrong = refuses-one tree From old was one fault begins (λ subject before of knows. wrong subject before)
 
 pub leaves-one : (tree : CheckedTree) (old now : List Bool) (was walk : Progress) (one : Finding)
-    → ((subject : Subject) (before : List Found) → IsOf tree subject.content → Knows subject old was before → IsRightInTree before subject one × Knows subject now walk (before ++ InTree subject one ∷ []))
+    → ((subject : Subject) (before : List Found) → IsOf tree subject.content → Knows tree subject old was before → IsRightInTree before subject one × Knows tree subject now walk (before ++ InTree subject one ∷ []))
     → Leaves tree (λ findings. findings ≡ one ∷ []) (λ findings. findings ≡ []) old now was walk
 leaves-one tree old now was walk one right subject before of knows findings from =
     let is = right subject before of knows in
@@ -142,22 +141,17 @@ leaves-one tree old now was walk one right subject before of knows findings from
 
 -- What is known.
 
-pub have-same : (root : ℕ) (content : Content) (xs ys : List Found) (entries : List (List Value)) → members_at root ys ≡ members_at root xs → HaveEntries root content xs entries → HaveEntries root content ys entries
-have-same root Rows xs ys entries same have = tt
-have-same root (Entries index rows) xs ys entries same have = (subst⁻¹ (λ (ms : List Member). AllZip (IsEntry index) ms entries) same have.0, have.1)
-have-same root Anything xs ys entries same have = tt
-
 -- more is found, of which nothing is a leaf or a member of the tree
-pub knows-quiet : (subject : Subject) (old now : List Bool) (walk : Progress) (before found : List Found) → ((depth : ℕ) → list_any (ends_elsewhere subject.root depth) found ≡ false) → members_at subject.root found ≡ []
-    → IsMarked now (before ++ found) → Knows subject old walk before → Knows subject now walk (before ++ found)
-knows-quiet subject old now walk before found quiet none marked knows =
+pub knows-quiet : (tree : CheckedTree) (subject : Subject) (old now : List Bool) (walk : Progress) (before found : List Found) → ((depth : ℕ) → list_any (ends_elsewhere subject.root depth) found ≡ false) → members_at subject.root found ≡ []
+    → IsMarked now (before ++ found) → Knows tree subject old walk before → Knows tree subject now walk (before ++ found)
+knows-quiet tree subject old now walk before found quiet none marked knows =
     let root = subject.root in
     record {
       marked = marked;
       depth = λ depth.
           list_any-append (ends_elsewhere root depth) before found ∙ or-none (list_any (ends_elsewhere root depth) before) (list_any (ends_elsewhere root depth) found) (quiet depth) ∙ knows.depth depth;
-      entries = have-same root subject.content before (before ++ found) walk.entries.items
-          (filter_map-append (member_at root) before found ∙ ap (λ (ms : List Member). members_at root before ++ ms) none ∙ append-nil (members_at root before)) knows.entries;
+      compared = subst⁻¹ (λ (ms : List Member). AreCompared tree subject.content ms walk.compared)
+          (filter_map-append (member_at root) before found ∙ ap (λ (ms : List Member). members_at root before ++ ms) none ∙ append-nil (members_at root before)) knows.compared;
     }
 
 -- a page of the tree
@@ -166,7 +160,7 @@ pub leaves-page : (tree : CheckedTree) (old now : List Bool) (walk : Progress) (
 leaves-page tree old now walk page low fresh set = leaves-one tree old now walk walk (Finds page)
     (λ subject before of knows. (
       sym (knows.marked page low) ∙ fresh,
-      knows-quiet subject old now walk before (InTree subject (Finds page) ∷ []) (λ depth. refl) refl (marked-page old now before subject page low set knows.marked) knows,
+      knows-quiet tree subject old now walk before (InTree subject (Finds page) ∷ []) (λ depth. refl) refl (marked-page old now before subject page low set knows.marked) knows,
     ))
 
 pub refuses-page : (F : Type 0) (tree : CheckedTree) (From : List Finding → Type 0) (old : List Bool) (walk : Progress) (page : ℕ) → page < length old → slice_index_or old page false ≡ true → Begins (Finds page) From

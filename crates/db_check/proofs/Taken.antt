@@ -1,12 +1,12 @@
 -- Leaves and members of a tree, one by one.
-use Rattle.std.proofs.Common.{◌≡◌, ◌≢◌, ℕ, ℤ, pos, zero, suc, ◌-◌, ◌<◌, ◌==◌, ◌&&◌, ◌||◌, not, ◌⊎◌, Bool, true, false, List, [], ◌∷◌, ◌++◌, length, if◌then◌else◌, Option, Some, None, Result, Err, slice_index_or, refl, sym, ap, ◌∙◌, subst, inl, inr, arith}
+use Rattle.std.proofs.Common.{◌≡◌, ◌≢◌, ℕ, ℤ, pos, zero, suc, ◌==◌, ◌&&◌, ◌||◌, not, ◌⊎◌, Bool, true, false, List, [], ◌∷◌, ◌++◌, length, if◌then◌else◌, Option, Some, None, Result, Err, refl, sym, ap, ◌∙◌, subst, inl, inr, arith}
 use Rattle.std.proofs.Math.Path.{subst⁻¹}
-use Rattle.std.specs.Prelude.{AllPairs, Any}
+use Rattle.std.specs.Prelude.{Any, IfSome}
 use Rattle.std.specs.List.{list_any, AllZip, AllByRecursion, cons_option}
-use Rattle.std.proofs.lemmas.Bool.{cases_lt, cases_eq, eq-eqb, ne_eqb}
-use Rattle.std.proofs.lemmas.List.{append-nil, length-map, get_or_default}
+use Rattle.std.proofs.lemmas.Bool.{cases_eq, eq-eqb, ne_eqb}
+use Rattle.std.proofs.lemmas.List.{append-nil, length-map}
 use Rattle.std.proofs.lemmas.List.Folds.{list_any-append}
-use Rattle.std.proofs.lemmas.List.Elements.{filter_map-append, recursion_from_All}
+use Rattle.std.proofs.lemmas.List.Elements.{filter_map-append}
 use Rattle.std.proofs.lemmas.List.Quantifiers.{all_pairs_push}
 use Rattle.std.specs.declared.cmp.Ordering.TheVariants.{Less}
 use Rattle.rbu_value.specs.declared.order.Collation.{Collation}
@@ -22,8 +22,8 @@ use Rattle.refusal.specs.declared.Rule.TheVariants as broken
 use Rattle.schema_spec.specs.declared.schema.Index.{Index}
 use Rattle.tree_spec.specs.Trees.{Member}
 use Rattle.database_spec.specs.Walks.{Finds, Ends, Holds, Breaks, Disorders, Bares}
-use Rattle.database_spec.specs.ItemsLaws.{Has, has-from}
-use Rattle.database_spec.specs.ListsLaws.{all-from}
+use Rattle.database_spec.specs.ItemsLaws.{Has, has-right}
+use Rattle.database_spec.specs.ListsLaws.{PairsByRecursion, all-from}
 use Rattle.database_spec.specs.RowsLaws.{record-one}
 use Rattle.database_spec.specs.Rows.{TableRow}
 use Rattle.database_spec.specs.Keys.{IsBefore, entry_cmp, order_of, last_value}
@@ -34,28 +34,32 @@ use Rattle.database_spec.specs.declared.fault.FileFault.{FileFault}
 use Rattle.database_spec.specs.declared.fault.FileFault.TheVariants as file
 use Rattle.database_laws.specs.FaultlessFilesLaws.{HasRowid, before-then, entries-long, member-long}
 use Rattle.database_laws.specs.RightFindings.{IsAfter, IsRightMember}
+use Rattle.database_laws.specs.RightFilesLaws.{all-of}
+use Rattle.database_laws.specs.SoundFilesLaws.{pairs-to}
 use Rattle.db_check.specs.declared.fault.CheckFault.{CheckFault}
 use Rattle.db_check.specs.declared.fault.CheckFault.TheVariants.{Damaged, KeyOrder}
 use Rattle.db_check.specs.declared.walk.CheckedTree.{CheckedTree}
+use Rattle.db_check.specs.declared.walk.Comparison.{Comparison}
 use Rattle.db_check.specs.declared.walk.Members.TheVariants as holds
 use Rattle.db_check.specs.declared.walk.Progress.{Progress}
 use Rattle.db_check.specs.Answers.{IsRefusal}
-use Rattle.db_check.specs.Steps.{IsOf, is_elsewhere, member_at, members_at, HaveEntries, Knows, Leaves, Refuses}
+use Rattle.db_check.specs.Compares.{IsComparison, IsLast}
+use Rattle.db_check.specs.Steps.{AreCompared, IsOf, is_elsewhere, member_at, members_at, Knows, Leaves, Refuses}
 use Rattle.db_check.specs.TreeSteps.{HoldsMember, EndsAt, IsEntryOf}
 use Rattle.db_check.specs.PassesLaws.{refusal-then}
 use Rattle.db_check.proofs.Parts.{or-none}
-use Rattle.db_check.proofs.Steps.{have-same, leaves-one, refuses-one, marked-quiet}
+use Rattle.db_check.proofs.Steps.{leaves-one, refuses-one, marked-quiet}
 
 -- Leaves.
 
 leaf-same_tree : (root depth other : ℕ) (subject : Subject) → subject.root ≡ root → ends_elsewhere root depth (InTree subject (Ends 0 other)) ≡ not (other == depth)
 leaf-same_tree root depth other subject same = ap (λ (t : Bool). t && not (other == depth)) (eq-eqb subject.root root same)
 
-module _ (flags : List Bool) (was walk : Progress) (page depth : ℕ) (same : walk.entries ≡ was.entries) where
+module _ (tree : CheckedTree) (flags : List Bool) (was walk : Progress) (page depth : ℕ) (same : walk.compared ≡ was.compared) where
   -- what is known once a leaf was found
   knows-leaf : (subject : Subject) (before : List Found)
-      → ((d : ℕ) → (list_any (ends_elsewhere subject.root d) before || (not (depth == d) || false)) ≡ is_elsewhere walk.leaf d) → Knows subject flags was before
-      → Knows subject flags walk (before ++ InTree subject (Ends page depth) ∷ [])
+      → ((d : ℕ) → (list_any (ends_elsewhere subject.root d) before || (not (depth == d) || false)) ≡ is_elsewhere walk.leaf d) → Knows tree subject flags was before
+      → Knows tree subject flags walk (before ++ InTree subject (Ends page depth) ∷ [])
   knows-leaf subject before told knows =
       let one = InTree subject (Ends page depth) ∷ [] in
       let root = subject.root in
@@ -64,13 +68,12 @@ module _ (flags : List Bool) (was walk : Progress) (page depth : ℕ) (same : wa
         depth = λ d.
             list_any-append (ends_elsewhere root d) before one
             ∙ ap (λ (t : Bool). list_any (ends_elsewhere root d) before || (t || false)) (leaf-same_tree root d depth subject refl) ∙ told d;
-        entries = have-same root subject.content before (before ++ one) walk.entries.items
-            (filter_map-append (member_at root) before one ∙ append-nil (members_at root before))
-            (subst⁻¹ (λ es. HaveEntries root subject.content before es.items) same knows.entries);
+        compared = subst⁻¹ (λ (ms : List Member). AreCompared tree subject.content ms walk.compared) (filter_map-append (member_at root) before one ∙ append-nil (members_at root before))
+            (subst⁻¹ (AreCompared tree subject.content (members_at root before)) same knows.compared);
       }
 
-  pub leaf-first : (tree : CheckedTree) → was.leaf ≡ None → walk.leaf ≡ Some depth → Leaves tree (EndsAt page depth) (λ findings. findings ≡ []) flags flags was walk
-  leaf-first tree none first = leaves-one tree flags flags was walk (Ends page depth)
+  pub leaf-first : was.leaf ≡ None → walk.leaf ≡ Some depth → Leaves tree (EndsAt page depth) (λ findings. findings ≡ []) flags flags was walk
+  leaf-first none first = leaves-one tree flags flags was walk (Ends page depth)
       (λ subject before of knows.
       let fresh = λ (d : ℕ). knows.depth d ∙ ap (λ (o : Option ℕ). is_elsewhere o d) none in (
         fresh depth,
@@ -84,8 +87,8 @@ module _ (flags : List Bool) (was walk : Progress) (page depth : ℕ) (same : wa
   or-twice true false e = e
   or-twice false true e = refl
 
-  pub leaf-again : (tree : CheckedTree) → was.leaf ≡ Some depth → walk.leaf ≡ Some depth → Leaves tree (EndsAt page depth) (λ findings. findings ≡ []) flags flags was walk
-  leaf-again tree noted still = leaves-one tree flags flags was walk (Ends page depth)
+  pub leaf-again : was.leaf ≡ Some depth → walk.leaf ≡ Some depth → Leaves tree (EndsAt page depth) (λ findings. findings ≡ []) flags flags was walk
+  leaf-again noted still = leaves-one tree flags flags was walk (Ends page depth)
       (λ subject before of knows.
       let told = λ (d : ℕ). knows.depth d ∙ ap (λ (o : Option ℕ). is_elsewhere o d) noted in (
         told depth ∙ ap not (eq-eqb depth depth refl),
@@ -131,39 +134,39 @@ held-readable payload held is readable = subst (λ (p : List ℕ). ((values : Li
 
 -- a member that is right whatever it is, and one that is wrong
 pub member-leaves : (tree : CheckedTree) (flags : List Bool) (was walk : Progress) (page : ℕ) (payload : List ℕ)
-    → ((subject : Subject) (before : List Found) → IsOf tree subject.content → Knows subject flags was before → (held : Member) → held.payload ≡ payload
-    → IsRightMember before subject subject.content held × Knows subject flags walk (before ++ InTree subject (Holds page held) ∷ []))
+    → ((subject : Subject) (before : List Found) → IsOf tree subject.content → Knows tree subject flags was before → (held : Member) → held.payload ≡ payload
+    → IsRightMember before subject subject.content held × Knows tree subject flags walk (before ++ InTree subject (Holds page held) ∷ []))
     → Leaves tree (HoldsMember page payload) (λ findings. findings ≡ []) flags flags was walk
 member-leaves tree flags was walk page payload right subject before of knows findings from =
     let is = right subject before of knows from.0 from.1 in
     record { gone = Holds page from.0 ∷ []; rest = []; whole = from.2; right = (is.0, tt); knows = is.1; is_rest = refl }
 
 pub member-refuses : {F : Type 0} (tree : CheckedTree) (flags : List Bool) (was : Progress) (page : ℕ) (payload : List ℕ) (fault : CheckFault F)
-    → ((subject : Subject) (before : List Found) → IsOf tree subject.content → Knows subject flags was before → (held : Member) → held.payload ≡ payload → IsRefusal (IsWrongMember before subject subject.content page held) fault)
+    → ((subject : Subject) (before : List Found) → IsOf tree subject.content → Knows tree subject flags was before → (held : Member) → held.payload ≡ payload → IsRefusal (IsWrongMember before subject subject.content page held) fault)
     → Refuses tree (HoldsMember page payload) flags was fault
 member-refuses tree flags was page payload fault wrong subject before of knows findings from =
     refuses-one tree (λ found. found ≡ findings) flags was (Holds page from.0) fault (λ found e. ([], e ∙ from.2)) (λ s b o k. wrong s b o k from.0 from.1) subject before of knows findings refl
 
 -- what is known once a member was found
-pub knows-held : (subject : Subject) (flags : List Bool) (was walk : Progress) (before : List Found) (page : ℕ) (held : Member) → walk.leaf ≡ was.leaf
-    → HaveEntries subject.root subject.content (before ++ InTree subject (Holds page held) ∷ []) walk.entries.items → Knows subject flags was before
-    → Knows subject flags walk (before ++ InTree subject (Holds page held) ∷ [])
-knows-held subject flags was walk before page held same have knows =
+pub knows-held : (tree : CheckedTree) (subject : Subject) (flags : List Bool) (was walk : Progress) (before : List Found) (page : ℕ) (held : Member) → walk.leaf ≡ was.leaf
+    → AreCompared tree subject.content (members_at subject.root (before ++ InTree subject (Holds page held) ∷ [])) walk.compared → Knows tree subject flags was before
+    → Knows tree subject flags walk (before ++ InTree subject (Holds page held) ∷ [])
+knows-held tree subject flags was walk before page held same have knows =
     let one = InTree subject (Holds page held) ∷ [] in
     record {
       marked = marked-quiet flags before one (λ n. refl) knows.marked;
       depth = λ d.
           list_any-append (ends_elsewhere subject.root d) before one ∙ or-none (list_any (ends_elsewhere subject.root d) before) false refl ∙ knows.depth d ∙ sym (ap (λ (o : Option ℕ). is_elsewhere o d) same);
-      entries = have;
+      compared = have;
     }
 
 -- Rows.
 
 module _ (tree : CheckedTree) (rows : tree.members ≡ holds.Rows) where
-  no_entries : (root : ℕ) (content : Content) (found : List Found) (entries : List (List Value)) → IsOf tree content → HaveEntries root content found entries
-  no_entries root Rows found entries of = tt
-  no_entries root (Entries index rows_of) found entries of = absurd (let clash : holds.Rows ≡ holds.Entries = sym rows ∙ of.0 in let no : ⊥ = cc in no)
-  no_entries root Anything found entries of = tt
+  no_entries : (content : Content) (members : List Member) (compared : Comparison) → IsOf tree content → AreCompared tree content members compared
+  no_entries Rows members compared of = tt
+  no_entries (Entries index rows_of) members compared of = absurd (let clash : holds.Rows ≡ holds.Entries = sym rows ∙ of.0 in let no : ⊥ = cc in no)
+  no_entries Anything members compared of = tt
 
   row-right : (before : List Found) (subject : Subject) (content : Content) (held : Member) → IsOf tree content → IsReadable held → IsRightMember before subject content held
   row-right before subject Rows held of is = is
@@ -179,7 +182,7 @@ module _ (tree : CheckedTree) (rows : tree.members ≡ holds.Rows) where
   row-taken flags walk page payload readable = member-leaves tree flags walk walk page payload
       (λ subject before of knows held is. (
         row-right before subject subject.content held of (readable held is),
-        knows-held subject flags walk walk before page held refl (no_entries subject.root subject.content (before ++ InTree subject (Holds page held) ∷ []) walk.entries.items of) knows,
+        knows-held tree subject flags walk walk before page held refl (no_entries subject.content (members_at subject.root (before ++ InTree subject (Holds page held) ∷ [])) walk.compared of) knows,
       ))
 
   pub row-refused : (F : Type 0) (flags : List Bool) (walk : Progress) (page : ℕ) (payload : List ℕ) → ((held : Member) → held.payload ≡ payload → ¬ IsReadable held)
@@ -195,16 +198,16 @@ module _ (tree : CheckedTree) (any : tree.members ≡ holds.Any) where
   any-right before subject (Entries index rows_of) held of = absurd (let clash : holds.Any ≡ holds.Entries = sym any ∙ of.0 in let no : ⊥ = cc in no)
   any-right before subject Anything held of = tt
 
-  any-entries : (root : ℕ) (content : Content) (found : List Found) (entries : List (List Value)) → IsOf tree content → HaveEntries root content found entries
-  any-entries root Rows found entries of = tt
-  any-entries root (Entries index rows_of) found entries of = absurd (let clash : holds.Any ≡ holds.Entries = sym any ∙ of.0 in let no : ⊥ = cc in no)
-  any-entries root Anything found entries of = tt
+  any-entries : (content : Content) (members : List Member) (compared : Comparison) → IsOf tree content → AreCompared tree content members compared
+  any-entries Rows members compared of = tt
+  any-entries (Entries index rows_of) members compared of = absurd (let clash : holds.Any ≡ holds.Entries = sym any ∙ of.0 in let no : ⊥ = cc in no)
+  any-entries Anything members compared of = tt
 
   pub any-taken : (flags : List Bool) (walk : Progress) (page : ℕ) (payload : List ℕ) → Leaves tree (HoldsMember page payload) (λ findings. findings ≡ []) flags flags walk walk
   any-taken flags walk page payload = member-leaves tree flags walk walk page payload
       (λ subject before of knows held is. (
         any-right before subject subject.content held of,
-        knows-held subject flags walk walk before page held refl (any-entries subject.root subject.content (before ++ InTree subject (Holds page held) ∷ []) walk.entries.items of) knows,
+        knows-held tree subject flags walk walk before page held refl (any-entries subject.content (members_at subject.root (before ++ InTree subject (Holds page held) ∷ [])) walk.compared of) knows,
       ))
 
 -- Entries.
@@ -237,26 +240,20 @@ module _ (index : Index) (entry : List Value) where
         last = subst⁻¹ (λ (cs : List (Collation × Bool)). last_value cs entry ≡ Int of.rowid) same of.last;
       }
 
-  -- Entries that were found before, and one that stands behind the last of them.
-
-  last-long : (members : List Member) (entries : List (List Value)) → AllZip (IsEntry index) members entries → (k : ℕ) (d : List Value) → k < length entries → HasRowid index (slice_index_or entries k d)
-  last-long members entries zip k d low = all-from (HasRowid index) entries (entries-long index members entries zip) k d low
-
-  -- all entries stand before one that is behind the last
-  pub all-before : (members : List Member) (entries : List (List Value)) → AllZip (IsEntry index) members entries → AllPairs (IsBefore index) entries → HasRowid index entry
-      → (0 < length entries → IsBefore index (slice_index_or entries (length entries - 1) []) entry) → (k : ℕ) (d : List Value) → k < length entries → IsBefore index (slice_index_or entries k d) entry
-  all-before members entries zip pairs own behind k d low =
-      let end = length entries - 1 in
-      let some : end < length entries = omega (arith, low) in
-      let last = behind (omega (arith, low)) in
-      elim (cases_lt k end) [
-        | inl before ↦
-            before-then index (slice_index_or entries k d) (slice_index_or entries end []) entry (last-long members entries zip k d low) (last-long members entries zip end [] some) own
-            (subst (λ (y : List Value). IsBefore index (slice_index_or entries k d) y) (get_or_default entries end d [] some) (pairs k end d before some)) last
-        | inr not_before ↦
-            let same : end ≡ k = omega (arith, low, not_before) in
-            subst (λ (x : List Value). IsBefore index x entry) (ap (λ (n : ℕ). slice_index_or entries n []) same ∙ get_or_default entries k [] d low) last
-      ]
+  -- entries in order, of which the last stands before this one, all stand before it
+  all-before : (entries : List (List Value)) → AllByRecursion (HasRowid index) entries → PairsByRecursion (IsBefore index) entries → HasRowid index entry → (last : Option (List Value)) → IsLast last entries
+      → IfSome last (λ other. IsBefore index other entry) → AllByRecursion (λ (x : List Value). IsBefore index x entry) entries
+  all-before entries fits pairs own None at behind = subst⁻¹ (AllByRecursion (λ (x : List Value). IsBefore index x entry)) at tt
+  all-before entries fits pairs own (Some last) at behind =
+      subst⁻¹ (AllByRecursion (λ (x : List Value). IsBefore index x entry)) at.1
+      (by at.0 (subst (AllByRecursion (HasRowid index)) at.1 fits) (subst (PairsByRecursion (IsBefore index)) at.1 pairs))
+    where
+      by : (front : List (List Value)) → AllByRecursion (HasRowid index) (front ++ last ∷ []) → PairsByRecursion (IsBefore index) (front ++ last ∷ [])
+          → AllByRecursion (λ (x : List Value). IsBefore index x entry) (front ++ last ∷ [])
+      by [] fit pair = (behind, tt)
+      by (x ∷ front) fit pair =
+          let end = has-right front (last ∷ []) last (inl refl) in
+          (before-then index x last entry fit.0 (all-of (HasRowid index) (front ++ last ∷ []) last fit.1 end) own (all-of (IsBefore index x) (front ++ last ∷ []) last pair.0 end) behind, by front fit.1 pair.1)
 
   module _ (root : ℕ) where
     member-here : (subject : Subject) (page : ℕ) (member : Member) (before : List Found) → subject.root ≡ root → members_at root (InTree subject (Holds page member) ∷ before) ≡ member ∷ members_at root before
@@ -360,72 +357,81 @@ module _ (tree : CheckedTree) (entries_are : tree.members ≡ holds.Entries) (pa
       (λ other w. subst⁻¹ (IsWrongMember before subject subject.content page held) w.1 (none-wrong before subject subject.content held of is w.0)) fault told)
 
   module _ (entry : List Value) (own : IsEntryOf tree.columns payload entry) (flags : List Bool) (was : Progress) where
+    -- the last entry that was found stands before this one
+    abbrev IsBehind : Option (List Value) → Type 0
+    IsBehind found = IfSome found (λ last. entry_cmp tree.columns last entry ≡ Less)
+
     -- an entry that does not stand behind the last one
-    entry-wrong : (before : List Found) (subject : Subject) (content : Content) (held : Member) → IsOf tree content → held.payload ≡ payload → HaveEntries subject.root content before was.entries.items
-        → 0 < length was.entries.items → ¬ (entry_cmp tree.columns (slice_index_or was.entries.items (length was.entries.items - 1) []) entry ≡ Less) → IsWrongMember before subject content page held (file.KeyOrder page)
-    entry-wrong before subject Rows held of is have some wrong = no_rows (IsWrongMember before subject Rows page held (file.KeyOrder page)) of
-    entry-wrong before subject (Entries index rows) held of is have some wrong =
-        let entries = was.entries.items in
-        let end = length entries - 1 in
-        let last = slice_index_or entries end [] in
+    entry-wrong : (before : List Found) (subject : Subject) (content : Content) (held : Member) → IsOf tree content → held.payload ≡ payload → AreCompared tree content (members_at subject.root before) was.compared
+        → (found : Option (List Value)) → was.compared.last ≡ found → ¬ IsBehind found → IsWrongMember before subject content page held (file.KeyOrder page)
+    entry-wrong before subject Rows held of is have found found_is wrong = no_rows (IsWrongMember before subject Rows page held (file.KeyOrder page)) of
+    entry-wrong before subject (Entries index rows) held of is have None found_is wrong = absurd (wrong tt)
+    entry-wrong before subject (Entries index rows) held of is have (Some last) found_is wrong =
+        let at : IsLast (Some last) have.0 = subst (λ (o : Option (List Value)). IsLast o have.0) found_is have.2.last in
         inr (
           entry,
           entry-of index entry tree.columns payload held of.1 is own,
-          not_before-found index entry subject.root before entries last have.0 (has-from entries last (end, omega (arith, some), get_or_default entries end last [] (omega (arith, some))))
+          not_before-found index entry subject.root before have.0 last have.1.0 (subst⁻¹ (λ (es : List (List Value)). Has last es) at.1 (has-right at.0 (last ∷ []) last (inl refl)))
               (λ before_it. wrong (subst⁻¹ (λ (cs : List (Collation × Bool)). entry_cmp cs last entry ≡ Less) of.1 before_it)),
           refl,
         )
-    entry-wrong before subject Anything held of is have some wrong = no_any (IsWrongMember before subject Anything page held (file.KeyOrder page)) of
+    entry-wrong before subject Anything held of is have found found_is wrong = no_any (IsWrongMember before subject Anything page held (file.KeyOrder page)) of
 
-    pub entry-disordered : (F : Type 0) → ¬ (0 < length was.entries.items → entry_cmp tree.columns (slice_index_or was.entries.items (length was.entries.items - 1) []) entry ≡ Less)
-        → Refuses {F = F} tree (HoldsMember page payload) flags was (KeyOrder page)
+    pub entry-disordered : (F : Type 0) → ¬ IsBehind was.compared.last → Refuses {F = F} tree (HoldsMember page payload) flags was (KeyOrder page)
     entry-disordered F wrong = member-refuses {F = F} tree flags was page payload (KeyOrder page)
-        (λ subject before of knows held is.
-        let some : 0 < length was.entries.items = elim (cases_lt 0 (length was.entries.items)) [ inl more ↦ more | inr none ↦ absurd (wrong (λ more. absurd (omega (arith, none, more)))) ] in
-        entry-wrong before subject subject.content held of is knows.entries some (λ less. wrong (λ more. less)))
+        (λ subject before of knows held is. entry-wrong before subject subject.content held of is knows.compared was.compared.last refl wrong)
 
-    module _ (walk : Progress) (more : walk.entries.items ≡ was.entries.items ++ entry ∷ []) (still : walk.leaf ≡ was.leaf)
-        (behind : 0 < length was.entries.items → entry_cmp tree.columns (slice_index_or was.entries.items (length was.entries.items - 1) []) entry ≡ Less) where
+    module _ (walk : Progress) (compares : (entries : List (List Value)) → IsComparison tree entries was.compared → IsComparison tree (entries ++ entry ∷ []) walk.compared) (still : walk.leaf ≡ was.leaf)
+        (behind : IsBehind was.compared.last) where
       -- what is known of an entry that stands behind all others
-      record Stands (index : Index) (held : Member) : Type 0 where
+      record Stands (index : Index) (entries : List (List Value)) (held : Member) : Type 0 where
         is_entry : IsEntry index held entry
-        each : (k : ℕ) (d : List Value) → k < length was.entries.items → IsBefore index (slice_index_or was.entries.items k d) entry
+        each : AllByRecursion (λ (x : List Value). IsBefore index x entry) entries
 
-      stands : (root : ℕ) (index : Index) (rows : List TableRow) (before : List Found) (held : Member) → IsOf tree (Entries index rows) → held.payload ≡ payload → HaveEntries root (Entries index rows) before was.entries.items → Stands index held
-      stands root index rows before held of is have =
+      behind-in : (index : Index) → tree.columns ≡ order_of index → (found : Option (List Value)) → IsBehind found → IfSome found (λ last. IsBefore index last entry)
+      behind-in index same None is = tt
+      behind-in index same (Some last) is = subst (λ (cs : List (Collation × Bool)). entry_cmp cs last entry ≡ Less) same is
+
+      stands : (index : Index) (rows : List TableRow) (members : List Member) (held : Member) → IsOf tree (Entries index rows) → held.payload ≡ payload → (have : AreCompared tree (Entries index rows) members was.compared)
+          → Stands index have.0 held
+      stands index rows members held of is have =
           let is_entry = entry-of index entry tree.columns payload held of.1 is own in
           record {
             is_entry = is_entry;
-            each = all-before index entry (members_at root before) was.entries.items have.0 have.1 (member-long index held entry is_entry)
-                (λ some. subst (λ (cs : List (Collation × Bool)). entry_cmp cs (slice_index_or was.entries.items (length was.entries.items - 1) []) entry ≡ Less) of.1 (behind some));
+            each = all-before index entry have.0 (entries-long index members have.0 have.1.0) (pairs-to (IsBefore index) have.0 have.1.1) (member-long index held entry is_entry) was.compared.last have.2.last
+                (behind-in index of.1 was.compared.last behind);
           }
 
-      entry-right : (before : List Found) (subject : Subject) (content : Content) (held : Member) → IsOf tree content → held.payload ≡ payload → HaveEntries subject.root content before was.entries.items
+      entry-right : (before : List Found) (subject : Subject) (content : Content) (held : Member) → IsOf tree content → held.payload ≡ payload → AreCompared tree content (members_at subject.root before) was.compared
           → IsRightMember before subject content held
       entry-right before subject Rows held of is have = no_rows (IsRightMember before subject Rows held) of
       entry-right before subject (Entries index rows) held of is have =
-          let its = stands subject.root index rows before held of is have in
-          (entry, its.is_entry, after-found index entry subject.root before was.entries.items have.0 (recursion_from_All (λ (x : List Value). IsBefore index x entry) was.entries.items its.each))
+          let its = stands index rows (members_at subject.root before) held of is have in
+          (entry, its.is_entry, after-found index entry subject.root before have.0 have.1.0 its.each)
       entry-right before subject Anything held of is have = tt
 
-      entry-kept : (before : List Found) (subject : Subject) (content : Content) (held : Member) → IsOf tree content → held.payload ≡ payload → HaveEntries subject.root content before was.entries.items
-          → HaveEntries subject.root content (before ++ InTree subject (Holds page held) ∷ []) walk.entries.items
+      entry-kept : (before : List Found) (subject : Subject) (content : Content) (held : Member) → IsOf tree content → held.payload ≡ payload → AreCompared tree content (members_at subject.root before) was.compared
+          → AreCompared tree content (members_at subject.root (before ++ InTree subject (Holds page held) ∷ [])) walk.compared
       entry-kept before subject Rows held of is have = tt
       entry-kept before subject (Entries index rows) held of is have =
           let root = subject.root in
-          let its = stands root index rows before held of is have in
+          let entries = have.0 in
+          let its = stands index rows (members_at root before) held of is have in
           let one = InTree subject (Holds page held) ∷ [] in
           let list : members_at root (before ++ one) ≡ members_at root before ++ held ∷ [] =
           filter_map-append (member_at root) before one ∙ ap (λ (ms : List Member). members_at root before ++ ms) (member-here index entry root subject page held [] refl) in (
-            subst⁻¹ (λ (es : List (List Value)). AllZip (IsEntry index) (members_at root (before ++ one)) es) more
-                (subst⁻¹ (λ (ms : List Member). AllZip (IsEntry index) ms (was.entries.items ++ entry ∷ [])) list (zip-push (IsEntry index) (members_at root before) was.entries.items held entry have.0 its.is_entry)),
-            subst⁻¹ (AllPairs (IsBefore index)) more (all_pairs_push (IsBefore index) was.entries.items entry have.1 its.each),
+            entries ++ entry ∷ [],
+            (
+              subst⁻¹ (λ (ms : List Member). AllZip (IsEntry index) ms (entries ++ entry ∷ [])) list (zip-push (IsEntry index) (members_at root before) entries held entry have.1.0 its.is_entry),
+              all_pairs_push (IsBefore index) entries entry have.1.1 (all-from (λ (x : List Value). IsBefore index x entry) entries its.each),
+            ),
+            compares entries have.2,
           )
       entry-kept before subject Anything held of is have = tt
 
       pub entry-taken : Leaves tree (HoldsMember page payload) (λ findings. findings ≡ []) flags flags was walk
       entry-taken = member-leaves tree flags was walk page payload
           (λ subject before of knows held is. (
-            entry-right before subject subject.content held of is knows.entries,
-            knows-held subject flags was walk before page held still (entry-kept before subject subject.content held of is knows.entries) knows,
+            entry-right before subject subject.content held of is knows.compared,
+            knows-held tree subject flags was walk before page held still (entry-kept before subject subject.content held of is knows.compared) knows,
           ))

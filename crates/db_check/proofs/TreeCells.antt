@@ -88,7 +88,7 @@ module _ (sizes : Sizes) (base : Paged) (kind : TreeKind) where
           rest = Holds page.number (member c) ∷ [];
           whole = whole.findings_are;
           right = gone.0;
-          knows = knows-quiet subject old flags walk before (in_tree subject (map Finds c.chain)) (λ depth. pages-quiet subject subject.root depth c.chain) (pages-no_members subject subject.root c.chain) gone.1 knows;
+          knows = knows-quiet tree subject old flags walk before (in_tree subject (map Finds c.chain)) (λ depth. pages-quiet subject subject.root depth c.chain) (pages-no_members subject subject.root c.chain) gone.1 knows;
           is_rest = (cell, seen, (c, whole.bytes_are, whole.held, refl));
         }
     chain-left F tree old flags walk view is passed subject before of knows findings (cell, seen, inr torn) =

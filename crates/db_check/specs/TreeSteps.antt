@@ -1,7 +1,6 @@
 -- Parts of what a walk over a tree finds, by the pages that were read of it.
-use Rattle.std.specs.Prelude.{◌≡◌, ◌≢◌, ℕ, ℤ, suc, ◌-◌, ◌==◌, ◌⊎◌, Bool, true, false, List, [], ◌∷◌, ◌++◌, length, map, slice_get, slice_index_or, pos, AllPairs, Option, Result, Ok, Err, Vec}
-use Rattle.std.specs.Global.{Global}
-use Rattle.std.specs.List.{list_any, AllZip}
+use Rattle.std.specs.Prelude.{◌≡◌, ◌≢◌, ℕ, ℤ, suc, ◌-◌, ◌==◌, ◌⊎◌, Bool, true, false, List, [], ◌∷◌, ◌++◌, length, map, slice_get, slice_index_or, pos, Option, Result, Ok, Err}
+use Rattle.std.specs.List.{list_any}
 use Rattle.rbu_value.specs.declared.order.Collation.{Collation}
 use Rattle.rbu_value.specs.declared.value.Value.{Value}
 use Rattle.rbu_value.specs.declared.value.Value.TheVariants.{Int}
@@ -18,18 +17,19 @@ use Rattle.tree_rows.specs.CoursesLaws.{IsSeenAt, AreSeenFrom}
 use Rattle.database_spec.specs.declared.fault.FileFault.{FileFault}
 use Rattle.database_spec.specs.declared.fault.FileFault.TheVariants as file
 use Rattle.database_spec.specs.Walks.{Finding, Ends, Holds, Seen, IsCellVisit, AreCellVisits, IsChildVisit, AreChildVisits, IsInside, IsVisit, IsWalk, members_found}
-use Rattle.database_spec.specs.Keys.{IsBefore, last_value}
+use Rattle.database_spec.specs.Keys.{last_value}
 use Rattle.database_spec.specs.Databases.{IsReadable}
-use Rattle.database_spec.specs.FileFindings.{Content, Rows, Entries, Anything, Subject, Found}
-use Rattle.database_spec.specs.FileFaults.{ends_elsewhere, IsEntry, FirstWrong}
+use Rattle.database_spec.specs.FileFindings.{Subject, Found}
+use Rattle.database_spec.specs.FileFaults.{ends_elsewhere, FirstWrong}
 use Rattle.database_laws.specs.RightFindings.{AreRight}
 use Rattle.database_laws.specs.RightFilesLaws.{in_tree}
 use Rattle.db_check.specs.declared.fault.CheckFault.{CheckFault}
 use Rattle.db_check.specs.declared.trees.Spot.{Spot}
 use Rattle.db_check.specs.declared.walk.CheckedTree.{CheckedTree}
+use Rattle.db_check.specs.declared.walk.Comparison.{Comparison}
 use Rattle.db_check.specs.Answers.{IsRefusal}
 use Rattle.db_check.specs.Passes.{IsMarked}
-use Rattle.db_check.specs.Steps.{IsOf, members_at}
+use Rattle.db_check.specs.Steps.{AreCompared, IsOf, members_at}
 
 -- a member of these bytes is found in a page
 abbrev pub HoldsMember : ℕ → List ℕ → List Finding → Type 0
@@ -127,21 +127,15 @@ pub record IsFresh (root : ℕ) (found : List Found) : Type 0 where
   pub leaves : (depth : ℕ) → list_any (ends_elsewhere root depth) found ≡ false
   pub members : members_at root found ≡ []
 
--- the entries that were found, where they are looked at
-abbrev pub AreEntriesOf : Content → List Member → List (List Value) → Type 0
-AreEntriesOf Rows members entries = Unit {0}
-AreEntriesOf (Entries index rows) members entries = AllZip (IsEntry index) members entries × AllPairs (IsBefore index) entries
-AreEntriesOf Anything members entries = Unit {0}
-
 module _ (sizes : Sizes) (base : Paged) where
   -- all of a tree is right, or its first fault is answered
-  abbrev pub EndsTree : {F : Type 0} → Subject → List Found → List Finding → List Bool → Result (Vec (List Value) Global) (CheckFault F) → Type 0
-  EndsTree subject before findings flags (Ok entries) =
-      AreRight before (in_tree subject findings) × IsMarked flags (before ++ in_tree subject findings) × AreEntriesOf subject.content (members_found findings) entries.items
-  EndsTree subject before findings flags (Err fault) = IsRefusal (FirstWrong before (in_tree subject findings)) fault
+  abbrev pub EndsTree : {F : Type 0} → CheckedTree → Subject → List Found → List Finding → List Bool → Result Comparison (CheckFault F) → Type 0
+  EndsTree tree subject before findings flags (Ok compared) =
+      AreRight before (in_tree subject findings) × IsMarked flags (before ++ in_tree subject findings) × AreCompared tree subject.content (members_found findings) compared
+  EndsTree tree subject before findings flags (Err fault) = IsRefusal (FirstWrong before (in_tree subject findings)) fault
 
   -- The tree at a root, of which nothing was found before.
-  abbrev pub PassesTree : {F : Type 0} → CheckedTree → ℕ → List Bool → List Bool → Result (Vec (List Value) Global) (CheckFault F) → Type 0
+  abbrev pub PassesTree : {F : Type 0} → CheckedTree → ℕ → List Bool → List Bool → Result Comparison (CheckFault F) → Type 0
   PassesTree tree root old flags result =
       (subject : Subject) (before : List Found) → IsOf tree subject.content → subject.root ≡ root → IsFresh root before → IsMarked old before
-      → (findings : List Finding) → IsWalk sizes base tree.kind root findings → EndsTree subject before findings flags result
+      → (findings : List Finding) → IsWalk sizes base tree.kind root findings → EndsTree tree subject before findings flags result

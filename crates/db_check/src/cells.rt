@@ -49,7 +49,7 @@ fn pass_overflow<S: PageRead>(
 fn read_member<S: PageRead>(
     alloc: Global,
     store: &mut S,
-    tree: &CheckedTree,
+    tree: &CheckedTree<'_>,
     page: &TreePage,
     at: usize,
     walk: &mut Progress,
@@ -71,7 +71,7 @@ fn read_member<S: PageRead>(
 fn pass_member<S: PageRead>(
     alloc: Global,
     store: &mut S,
-    tree: &CheckedTree,
+    tree: &CheckedTree<'_>,
     page: &TreePage,
     at: usize,
     walk: &mut Progress,
@@ -94,7 +94,7 @@ fn pass_member<S: PageRead>(
 pub fn pass_cell<S: PageRead>(
     alloc: Global,
     store: &mut S,
-    tree: &CheckedTree,
+    tree: &CheckedTree<'_>,
     page: &TreePage,
     at: usize,
     flags: &mut [bool],
@@ -128,7 +128,7 @@ pub fn count_of(page: &TreePage) -> usize
 pub fn pass_cells<S: PageRead>(
     alloc: Global,
     store: &mut S,
-    tree: &CheckedTree,
+    tree: &CheckedTree<'_>,
     page: &TreePage,
     flags: &mut [bool],
     walk: &mut Progress,
@@ -156,7 +156,7 @@ pub fn pass_cells<S: PageRead>(
 pub fn pass_divider<S: PageRead>(
     alloc: Global,
     store: &mut S,
-    tree: &CheckedTree,
+    tree: &CheckedTree<'_>,
     page: &TreePage,
     at: usize,
     flags: &mut [bool],

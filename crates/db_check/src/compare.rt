@@ -1,16 +1,17 @@
 // Compares the entries of an index with those of the rows of its table (Database File Format, section 2.4).
-ghost use Rattle.std.specs.Prelude.{◌≡◌, ◌≢◌, ◌<◌, ◌↔◌, ℤ, List, IsTrue, false, length, take};
+ghost use Rattle.std.specs.Prelude.{◌≡◌, ◌≢◌, ◌+◌, ◌<◌, ◌↔◌, ◌∷◌, ◌++◌, [], ℤ, List, IfNone, IsTrue, false, length, take};
 ghost use Rattle.rbu_value.specs.Order.{value_cmp};
 ghost use Rattle.std.specs.List.{list_any};
 ghost use Rattle.rbu_value.specs.declared.value.Value.{Value};
 ghost use Rattle.rbu_value.specs.declared.value.Value.TheVariants.{Int};
 ghost use Rattle.schema_spec.specs.declared.schema.Index.{Index};
 ghost use Rattle.tree_spec.specs.Trees.{Member};
-ghost use Rattle.database_spec.specs.Keys.{IsProjection, columns_cmp, entry_cmp, is_null as is_null_of, last_value, order_of};
+ghost use Rattle.database_spec.specs.Keys.{IsProjection, is_null as is_null_of, last_value, order_of};
 ghost use Rattle.database_spec.specs.Rows.{TableRow};
-ghost use Rattle.db_check.specs.Compares.{AgreesTo, AreMembersOf, FirstOf, Tells, TellsAt};
+ghost use Rattle.db_check.specs.Compares.{AreMembersOf, ClashIn, ClashesWith, FirstOf, IsComparison, Tells, TellsOfFirst};
 
 use crate::members::{columns_order, entry_order};
+use crate::walk::{CheckedTree, Comparison};
 use owned_list::OwnedList;
 use rbu_value::{Collation, Value, compare};
 use std::cmp::Ordering;
@@ -70,10 +71,9 @@ fn has_null(columns: &[(Collation, bool)], entry: &[Value]) -> bool
     }
 }
 
-// Whether two entries of a unique index agree in its columns, and no NULL is among these.
+// Whether two entries agree in the columns of an index, and no NULL is among these.
 fn clash(columns: &[(Collation, bool)], a: &[Value], b: &[Value]) -> bool
-    ensures { IsTrue result ↔ (columns_cmp columns.now a.now b.now ≡ Ordering.Equal)
-        × (list_any is_null_of (take (length columns.now) a.now) ≡ false) × (list_any is_null_of (take (length columns.now) b.now) ≡ false) }
+    ensures { IsTrue result ↔ ClashIn columns.now a.now b.now }
 {
     columns_order(columns, a, b) == Ordering::Equal
         && !has_null(columns, a)
@@ -90,63 +90,72 @@ fn first_of(columns: &[(Collation, bool)], a: &[Value], b: &[Value]) -> i64
     rowid_of(columns, a)
 }
 
-// The rowid of the entry at a place, or of the row's, where one of them disagrees and all before agree.
-fn told_at(
-    columns: &[(Collation, bool)],
-    unique: bool,
-    entries: &[OwnedList<Value>],
-    expected: &[OwnedList<Value>],
-    at: usize,
-) -> Option<i64>
-    requires { at < length entries.now }
-    ensures { (index : Index) (rows : List TableRow) (members : List Member) → order_of index ≡ columns.now → index.unique ≡ unique
-        → AreMembersOf index members entries.now → IsProjection index rows expected.now → AgreesTo index entries.now expected.now at
-        → TellsAt index rows members entries.now expected.now at result }
+// Whether an entry of a unique index clashes with the last one.
+fn clashes(tree: &CheckedTree<'_>, compared: &Comparison, entry: &[Value]) -> bool
+    ensures { IsTrue result ↔ IsTrue tree.now.unique × ClashesWith tree.now.columns compared.now.last entry.now }
 {
-    let entry = entries[at].as_slice();
-    let Some(other) = expected.get(at) else {
+    if !tree.unique {
+        return false;
+    }
+    match &compared.last {
+        Some(last) => clash(tree.columns.as_slice(), last.as_slice(), entry),
+        None => false,
+    }
+}
+
+// The rowid of the next entry, or of the next row's, where one of them disagrees and all before agree.
+fn told_at(tree: &CheckedTree<'_>, compared: &Comparison, entry: &[Value]) -> Option<i64>
+    requires { compared.now.told ≡ None }
+    ensures few { IfNone result (compared.now.agreed < usize.MAX) }
+    ensures tells { (entries : List (List Value)) → IsComparison tree.now entries compared.now
+        → TellsOfFirst tree.now (entries ++ entry.now ∷ []) (compared.now.agreed + 1) result }
+{
+    let columns = tree.columns.as_slice();
+    let Some(row) = tree.expected.get(compared.agreed) else {
         return Some(rowid_of(columns, entry));
     };
-    if !are_same(entry, other.as_slice()) {
-        return Some(first_of(columns, entry, other.as_slice()));
+    if !are_same(entry, row.as_slice()) {
+        return Some(first_of(columns, entry, row.as_slice()));
     }
-    if unique && at > 0 && clash(columns, entries[at - 1].as_slice(), entry) {
+    if clashes(tree, compared, entry) {
         return Some(rowid_of(columns, entry));
     }
     None
 }
 
-// The rowid of the first row behind all entries.
-fn told_behind(
-    columns: &[(Collation, bool)],
-    entries: &[OwnedList<Value>],
-    expected: &[OwnedList<Value>],
-) -> Option<i64>
-    ensures { (index : Index) (rows : List TableRow) (members : List Member) → order_of index ≡ columns.now
-        → AreMembersOf index members entries.now → IsProjection index rows expected.now → AgreesTo index entries.now expected.now (length entries.now)
-        → Tells index rows members result }
+// Compares the next entry, where all before agree.
+fn compare_next(tree: &CheckedTree<'_>, compared: &mut Comparison, entry: &[Value])
+    ensures last { compared.new.last ≡ compared.old.last }
+    ensures tells { (entries : List (List Value)) → IsComparison tree.now entries compared.old
+        → TellsOfFirst tree.now (entries ++ entry.now ∷ []) compared.new.agreed compared.new.told }
 {
-    match expected.get(entries.len()) {
-        Some(other) => Some(rowid_of(columns, other.as_slice())),
-        None => None,
+    if compared.told.is_some() {
+        return;
+    }
+    match told_at(tree, compared, entry) {
+        Some(rowid) => compared.told = Some(rowid),
+        None => compared.agreed += 1,
     }
 }
 
-/// The rowid of the first entry that disagrees, among those of an index and those of the rows of its table, both in order: one that stands on one side only, or that clashes with the one before it in a unique index.
-pub fn first_that_disagrees(
-    columns: &[(Collation, bool)],
-    unique: bool,
-    entries: &[OwnedList<Value>],
-    expected: &[OwnedList<Value>],
-) -> Option<i64>
-    ensures { (index : Index) (rows : List TableRow) (members : List Member) → order_of index ≡ columns.now → index.unique ≡ unique
-        → AreMembersOf index members entries.now → IsProjection index rows expected.now → Tells index rows members result }
+/// Takes an entry of an index that stands behind all that were found before.
+pub fn compare_entry(tree: &CheckedTree<'_>, compared: &mut Comparison, entry: OwnedList<Value>)
+    ensures { (entries : List (List Value)) → IsComparison tree.now entries compared.old → IsComparison tree.now (entries ++ entry ∷ []) compared.new }
 {
-    for at in 0..entries.len() {
-        match told_at(columns, unique, entries, expected, at) {
-            Some(rowid) => return Some(rowid),
-            None => {}
-        }
+    compare_next(tree, compared, entry.as_slice());
+    compared.last = Some(entry);
+}
+
+/// The rowid of the first entry that disagrees, among those of an index, all of which were found in order, and those of the rows of its table: one that stands on one side only, or that clashes with the one before it in a unique index.
+pub fn first_that_disagrees(tree: &CheckedTree<'_>, compared: &Comparison) -> Option<i64>
+    ensures { (index : Index) (rows : List TableRow) (members : List Member) (entries : List (List Value)) → order_of index ≡ tree.now.columns → index.unique ≡ tree.now.unique
+        → AreMembersOf index members entries → IsProjection index rows tree.now.expected.now → IsComparison tree.now entries compared.now → Tells index rows members result }
+{
+    if compared.told.is_some() {
+        return compared.told;
     }
-    told_behind(columns, entries, expected)
+    match tree.expected.get(compared.agreed) {
+        Some(row) => Some(rowid_of(tree.columns.as_slice(), row.as_slice())),
+        None => None,
+    }
 }

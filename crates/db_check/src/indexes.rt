@@ -18,6 +18,20 @@ use schema_spec::{Index, Table};
 use std::alloc::Global;
 use tree_walk::TreeKind;
 
+// A tree whose members are no entries that are looked at.
+fn tree_of(alloc: Global, kind: TreeKind, members: Members) -> CheckedTree<'static>
+    ensures kind { result.kind ≡ kind }
+    ensures members { result.members ≡ members }
+{
+    CheckedTree {
+        kind,
+        members,
+        columns: OwnedList::from_vec(Vec::new(alloc)),
+        unique: false,
+        expected: &[],
+    }
+}
+
 /// Goes through the tree at a root, whose members are rows of a table in the profile, or anything, and sets the flag of each of its pages. Refuses 70, 72 and 74.
 pub fn pass_members<S: PageRead>(
     alloc: Global,
@@ -35,13 +49,9 @@ pub fn pass_members<S: PageRead>(
     ensures pages { SeesTree S.PageRead store.old store.new (λ sizes base. PassesMembers sizes base kind members root flags.old flags.new result) }
     ensures owes { OwesBy S.PageRead fault_in store.old store.new result }
 {
-    let tree = CheckedTree {
-        kind,
-        members,
-        columns: OwnedList::from_vec(Vec::new(alloc)),
-    };
+    let tree = tree_of(alloc, kind, members);
     match pass_tree(alloc, store, &tree, root, flags) {
-        Ok(_entries) => Ok(()),
+        Ok(_compared) => Ok(()),
         Err(fault) => Err(fault),
     }
 }
@@ -69,14 +79,11 @@ fn pass_plain<S: PageRead>(
         kind: TreeKind::Index,
         members: Members::Entries,
         columns,
+        unique: index.unique,
+        expected,
     };
     match pass_tree(alloc, store, &tree, root, flags) {
-        Ok(entries) => Ok(first_that_disagrees(
-            tree.columns.as_slice(),
-            index.unique,
-            entries.as_slice(),
-            expected,
-        )),
+        Ok(compared) => Ok(first_that_disagrees(&tree, &compared)),
         Err(fault) => Err(fault),
     }
 }

@@ -22,11 +22,11 @@ mod trees;
 mod walk;
 
 pub use chain::pass_chain;
-pub use compare::first_that_disagrees;
+pub use compare::{compare_entry, first_that_disagrees};
 pub use fault::CheckFault;
 pub use freelist::check_freelist;
 pub use indexes::{pass_index, pass_members};
 pub use pages::{check_pages, mark, page_flags};
 pub use projections::{order_of_index, projection};
 pub use trees::pass_tree;
-pub use walk::{CheckedTree, Members};
+pub use walk::{CheckedTree, Comparison, Members};

@@ -1,5 +1,5 @@
 // The members of a tree: rows of a table, and entries of an index (Database File Format, sections 2.3 and 2.4).
-ghost use Rattle.std.specs.Prelude.{◌≡◌, ◌<◌, ◌↔◌, ◌-◌, [], ℤ, suc, Bool, List, IfErr, IfNone, IfOk, IfSome, IsTrue, None, length, slice_index_or};
+ghost use Rattle.std.specs.Prelude.{◌≡◌, ◌↔◌, ℤ, suc, Bool, List, IfErr, IfNone, IfOk, IfSome, IsTrue, None, length, slice_index_or};
 ghost use Rattle.format_spec.specs.Record.{IsRecord};
 ghost use Rattle.rbu_value.specs.Order.{value_cmp};
 ghost use Rattle.rbu_value.specs.declared.value.Value.TheVariants.{Int};
@@ -10,6 +10,7 @@ ghost use Rattle.db_check.specs.Answers.{fault_in};
 ghost use Rattle.db_check.specs.Steps.{Ended, Steps};
 ghost use Rattle.db_check.specs.TreeSteps.{HoldsMember, ReadsEntry, TellsReadable};
 
+use crate::compare::compare_entry;
 use crate::fault::CheckFault;
 use crate::walk::{CheckedTree, Members, Progress};
 use owned_list::OwnedList;
@@ -74,18 +75,17 @@ fn is_entry(columns: &[(Collation, bool)], entry: &[Value]) -> bool
 }
 
 // Whether values are an entry of the index of a tree.
-fn holds_entry(tree: &CheckedTree, values: &Vec<Value>) -> bool
+fn holds_entry(tree: &CheckedTree<'_>, values: &Vec<Value>) -> bool
     ensures { IsTrue result ↔ (length values.now.items ≡ suc (length tree.now.columns)) × ((rowid : ℤ) × (last_value tree.now.columns values.now.items ≡ Int rowid)) }
 {
     is_entry(tree.columns.as_slice(), values.as_slice())
 }
 
-// Whether an entry stands behind the last of those before it.
-fn is_behind(tree: &CheckedTree, walk: &Progress, entry: &OwnedList<Value>) -> bool
-    ensures { IsTrue result ↔ (0 < length walk.now.entries.items
-        → entry_cmp tree.now.columns (slice_index_or walk.now.entries.items (length walk.now.entries.items - 1) []) entry.now ≡ Ordering.Less) }
+// Whether an entry stands behind the last one.
+fn is_behind(tree: &CheckedTree<'_>, walk: &Progress, entry: &OwnedList<Value>) -> bool
+    ensures { IsTrue result ↔ IfSome walk.now.compared.last (λ last. entry_cmp tree.now.columns last entry.now ≡ Ordering.Less) }
 {
-    match walk.entries.last() {
+    match &walk.compared.last {
         None => true,
         Some(last) => {
             entry_order(tree.columns.as_slice(), last.as_slice(), entry.as_slice())
@@ -126,7 +126,7 @@ fn is_readable(alloc: Global, payload: &[u8]) -> Result<bool, AllocError>
 // The values of an entry of an index. Refuses 74 with `record` where there are none.
 fn read_entry<F>(
     alloc: Global,
-    tree: &CheckedTree,
+    tree: &CheckedTree<'_>,
     page: u32,
     payload: &[u8],
 ) -> Result<OwnedList<Value>, CheckFault<F>>
@@ -155,7 +155,7 @@ fn read_entry<F>(
 // Takes an entry of an index. Refuses 74 with `record` where its record is none, and 72 where it does not stand behind the last one.
 fn take_entry<F>(
     alloc: Global,
-    tree: &CheckedTree,
+    tree: &CheckedTree<'_>,
     page: u32,
     payload: &[u8],
     walk: &mut Progress,
@@ -171,10 +171,8 @@ fn take_entry<F>(
     if !is_behind(tree, walk, &entry) {
         return Err(CheckFault::KeyOrder { page });
     }
-    match walk.entries.push(entry) {
-        Ok(()) => Ok(()),
-        Err(failed) => Err(CheckFault::Memory(AllocError::from(failed))),
-    }
+    compare_entry(tree, &mut walk.compared, entry);
+    Ok(())
 }
 
 // Takes a row of a table. Refuses 74 with `record` where its record cannot be read; a floating point value is passed over.
@@ -199,7 +197,7 @@ fn take_row<F>(alloc: Global, page: u32, payload: &[u8]) -> Result<(), CheckFaul
 /// Takes a member of a tree that is found in a page. Refuses 74 with `record`, and 72.
 pub fn take_member<F>(
     alloc: Global,
-    tree: &CheckedTree,
+    tree: &CheckedTree<'_>,
     page: u32,
     payload: &[u8],
     walk: &mut Progress,

@@ -14,10 +14,8 @@ ghost use Rattle.db_check.specs.TreeSteps.{CellsFrom, ChildrenBehind, ChildrenFr
 use crate::cells::{count_of, pass_cells, pass_divider};
 use crate::fault::{CheckFault, told};
 use crate::pages::mark;
-use crate::walk::{CheckedTree, Progress};
-use owned_list::OwnedList;
+use crate::walk::{CheckedTree, Comparison, Progress};
 use page_store::{PageRead, is_in_range};
-use rbu_value::Value;
 use refusal::Rule;
 use std::alloc::Global;
 use tree_walk::{TreeKind, TreePage, is_in_order, is_leaf, read_page, tree_kind};
@@ -148,7 +146,7 @@ fn has_kind(page: &TreePage, kind: TreeKind) -> bool
 
 // Begins a page, and answers whether it is a leaf. Refuses 74 with `kind` where it is one of the other trees.
 fn start<F>(
-    tree: &CheckedTree,
+    tree: &CheckedTree<'_>,
     spot: Spot,
     page: &TreePage,
     walk: &mut Progress,
@@ -205,7 +203,7 @@ fn child_of(spot: Spot, page: &TreePage, at: usize, low: Option<i64>) -> Spot
 fn pass_child<S: PageRead>(
     alloc: Global,
     store: &mut S,
-    tree: &CheckedTree,
+    tree: &CheckedTree<'_>,
     parent: u32,
     child: Spot,
     flags: &mut [bool],
@@ -233,7 +231,7 @@ fn pass_child<S: PageRead>(
 fn pass_step<S: PageRead>(
     alloc: Global,
     store: &mut S,
-    tree: &CheckedTree,
+    tree: &CheckedTree<'_>,
     spot: Spot,
     page: &TreePage,
     at: usize,
@@ -273,7 +271,7 @@ fn pass_step<S: PageRead>(
 fn pass_children<S: PageRead>(
     alloc: Global,
     store: &mut S,
-    tree: &CheckedTree,
+    tree: &CheckedTree<'_>,
     spot: Spot,
     page: &TreePage,
     flags: &mut [bool],
@@ -308,7 +306,7 @@ fn pass_children<S: PageRead>(
 fn visit<S: PageRead>(
     alloc: Global,
     store: &mut S,
-    tree: &CheckedTree,
+    tree: &CheckedTree<'_>,
     spot: Spot,
     flags: &mut [bool],
     walk: &mut Progress,
@@ -337,14 +335,14 @@ fn visit<S: PageRead>(
     pass_children(alloc, store, tree, spot, &page, flags, walk)
 }
 
-/// Goes through the tree at a root, and sets the flag of each of its pages. Answers the entries of a plain index, in order. Refuses 70, 72 and 74.
+/// Goes through the tree at a root, and sets the flag of each of its pages. Answers how the entries of a plain index compare with those of the rows of its table. Refuses 70, 72 and 74.
 pub fn pass_tree<S: PageRead>(
     alloc: Global,
     store: &mut S,
-    tree: &CheckedTree,
+    tree: &CheckedTree<'_>,
     root: u32,
     flags: &mut [bool],
-) -> Result<Vec<OwnedList<Value>>, CheckFault<S::Fault>>
+) -> Result<Comparison, CheckFault<S::Fault>>
     requires sizes { HasSizes S.PageRead store.old }
     requires first { 1 ≤ root }
     requires within { root ≤ S.count store.old }
@@ -359,13 +357,13 @@ pub fn pass_tree<S: PageRead>(
         low: None,
         high: i64::MAX,
     };
-    let entries = Vec::new(alloc);
+    let compared = Comparison::new();
     let mut walk = Progress {
         leaf: None,
-        entries,
+        compared,
     };
     match visit(alloc, store, tree, spot, flags, &mut walk) {
-        Ok(()) => Ok(walk.entries),
+        Ok(()) => Ok(walk.compared),
         Err(fault) => Err(fault),
     }
 }

@@ -12,7 +12,7 @@ returns-then-not-is_behind-clause-steps g c = λ flags.
     entry-disordered c.args.tree.now c.requires c.args.page c.args.payload.now c.in-Ok.entry c.in-Ok.ensures.answer flags c.args.walk.now g.row.F.Denot
     (λ behind. true-false c.is_behind.result (c.is_behind.ensures.1 behind) c.if-not-is_behind.true)
 
-pub returns-in-Ok-push-clause-steps : goal.returns-in-Ok-push-clause-steps
-returns-in-Ok-push-clause-steps g c = λ flags.
-    entry-taken c.args.tree.now c.requires c.args.page c.args.payload.now c.in-Ok.entry c.in-Ok.ensures.answer flags c.args.walk.now (record { leaf = c.args.walk.now.leaf; entries = c.push.new.self }) c.in-Ok-push.ensures.items refl
+pub returns-clause-steps : goal.returns-clause-steps
+returns-clause-steps g c = λ flags.
+    entry-taken c.args.tree.now c.requires c.args.page c.args.payload.now c.in-Ok.entry c.in-Ok.ensures.answer flags c.args.walk.now (record { leaf = c.args.walk.now.leaf; compared = c.compare_entry.new.compared }) c.compare_entry.ensures refl
     (c.is_behind.ensures.0 c.if-not-is_behind.false)

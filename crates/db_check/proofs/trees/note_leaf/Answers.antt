@@ -4,7 +4,7 @@ use Rattle.db_check.proofs.trees.note_leaf.Goals as goal
 
 pub returns-in-None-clause-steps : goal.returns-in-None-clause-steps
 returns-in-None-clause-steps g c = λ tree flags.
-    leaf-first flags c.args.walk.now (record { leaf = Some c.args.depth; entries = c.args.walk.now.entries }) c.args.page c.args.depth refl tree c.in-None.is refl
+    leaf-first tree flags c.args.walk.now (record { leaf = Some c.args.depth; compared = c.args.walk.now.compared }) c.args.page c.args.depth refl c.in-None.is refl
 
 pub returns-then-leaf-depth-clause-steps : goal.returns-then-leaf-depth-clause-steps
 returns-then-leaf-depth-clause-steps g c = λ tree flags.
@@ -14,4 +14,4 @@ returns-then-leaf-depth-clause-steps g c = λ tree flags.
 pub returns-else-leaf-depth-clause-steps : goal.returns-else-leaf-depth-clause-steps
 returns-else-leaf-depth-clause-steps g c = λ tree flags.
     let same = c.in-Some.is ∙ ap Some (omega (arith, c.if-leaf-depth.false)) in
-    leaf-again flags c.args.walk.now c.args.walk.now c.args.page c.args.depth refl tree same same
+    leaf-again tree flags c.args.walk.now c.args.walk.now c.args.page c.args.depth refl same same

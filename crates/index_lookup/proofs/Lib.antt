@@ -1,0 +1,3 @@
+pub mod Columns
+pub mod EqualEntries
+pub mod Roots

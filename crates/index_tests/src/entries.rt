@@ -26,12 +26,12 @@ pub fn length_of(number: u32) -> u32 {
     number.wrapping_mul(7919) % 1501
 }
 
-// The text of a number: four digits, and then as many bytes as make it long.
-fn text_of(alloc: Global, number: u32) -> Result<Value, AllocError> {
+/// The text of a number: four digits, and then as many bytes of one kind as make it long.
+pub fn text_of(alloc: Global, number: u32, fill: u8) -> Result<Value, AllocError> {
     let digits = digits_of(number);
     let mut bytes = Vec::from_slice(alloc, &digits)?;
     for _ in 0..length_of(number) {
-        match bytes.push(b'x') {
+        match bytes.push(fill) {
             Ok(()) => {}
             Err(failed) => return Err(AllocError::from(failed)),
         }
@@ -43,7 +43,7 @@ fn text_of(alloc: Global, number: u32) -> Result<Value, AllocError> {
 pub fn entry_of(alloc: Global, number: u32) -> Result<Bytes, Fail> {
     record_of(
         alloc,
-        text_of(alloc, number)?,
+        text_of(alloc, number, b'x')?,
         Value::Int(i64::from(number) * 3),
     )
 }

@@ -37,8 +37,8 @@ fn delete_hundred(
     Ok(true)
 }
 
-// Whether the root and its last child are interior pages.
-fn has_three_levels(store: &mut PlainStore) -> Result<bool, Fail> {
+/// Whether the root and its last child are interior pages.
+pub fn has_three_levels(store: &mut PlainStore) -> Result<bool, Fail> {
     let last = u32::from(byte(store, 2, 10)?) * 256 + u32::from(byte(store, 2, 11)?);
     Ok(byte(store, 2, 0)? == 2 && byte(store, last, 0)? == 2)
 }

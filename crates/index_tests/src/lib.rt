@@ -1,4 +1,4 @@
-//! Tests of the order of index entries, and of entries that are put into index trees and deleted from them, over pages in memory.
+//! Tests of the order of index entries, and of entries that are put into index trees, looked for in them and deleted from them, over pages in memory.
 #![tactic(auto)]
 
 #[cfg(test)]
@@ -7,6 +7,8 @@ mod entries;
 mod entry_deletes;
 #[cfg(test)]
 mod entry_puts;
+#[cfg(test)]
+mod lookups;
 #[cfg(test)]
 mod orders;
 #[cfg(test)]

@@ -1,30 +1,20 @@
 -- What is known of a fault goes on to what follows from it.
-use Rattle.std.proofs.Common.{◌≡◌, ◌⊎◌, ℕ, ℤ, List, length, inl, inr, ◌∙◌}
-use Rattle.tree_spec.specs.declared.fault.TreeFault.{TreeFault}
+use Rattle.std.proofs.Common.{◌⊎◌, ℕ, ℤ, List, length, inl, inr}
 use Rattle.tree_spec.specs.Trees.{Member}
-use Rattle.tree_walk.specs.declared.cursor.Row.{Row}
 use Rattle.prepared_spec.specs.declared.input_fault.RecordCause.{RecordCause}
 use Rattle.prepared_spec.specs.PreparedRows.{HasCause}
 use Rattle.pass_fault.specs.declared.fault.PassFault.{PassFault}
-use Rattle.pass_fault.specs.declared.fault.PassFault.TheVariants.{Tree, TargetRecord}
-use Rattle.pass_fault.specs.Faults.{IsRecordFault, IsTreeFault}
+use Rattle.pass_fault.specs.Faults.{IsWanting, RefusesLong}
+use Rattle.pass_fault.specs.FaultsLaws.{record-then, tree-then}
 use Rattle.row_values.specs.declared.read.Unread.{Unread}
 use Rattle.row_values.specs.declared.read.Unread.TheVariants.{Cause, Memory}
 use Rattle.row_values.specs.Values.{IsUnread, IsWant}
 use Rattle.imposter.specs.declared.target.Target.{Target}
-use Rattle.imposter.specs.Finds.{IsMissedIn, IsUnreadRow, IsWanting, RefusesUnread}
+use Rattle.imposter.specs.Finds.{IsMissedIn, IsUnreadRow, RefusesUnread}
 use Rattle.imposter.specs.Steps.{IsRefusedIn}
 use Rattle.row_writes.specs.declared.write.RowWrite.{RowWrite}
-use Rattle.imposter.specs.Writes.{IsLong, IsTreeOrLong, IsWriteFault, RefusesLong}
+use Rattle.imposter.specs.Writes.{IsLong, IsTreeOrLong, IsWriteFault}
 use Rattle.std.proofs.Math.Path.{subst⁻¹}
-
-pub tree-then : {F : Type 0} {P Q : TreeFault F → Type 0} (fault : PassFault F) → ((f : TreeFault F) → P f → Q f) → IsTreeFault P fault → IsTreeFault Q fault
-tree-then (Tree fault) step is = step fault is
-tree-then (TargetRecord name rowid cause) step is = absurd is
-
-pub record-then : {F : Type 0} {P Q : List ℕ → ℤ → RecordCause → Type 0} (fault : PassFault F) → ((name : List ℕ) (rowid : ℤ) (cause : RecordCause) → P name rowid cause → Q name rowid cause) → IsRecordFault P fault → IsRecordFault Q fault
-record-then (Tree fault) step is = absurd is
-record-then (TargetRecord name rowid cause) step is = step name rowid cause is
 
 -- a record that is none of a row is refused for its cause
 pub unread-refused : {F : Type 0} (target : Target) (rowid : ℤ) (payload : List ℕ) (unread : Unread) (fault : PassFault F) → IsWant unread ⊎ IsUnread target.table payload unread → RefusesUnread target.name rowid unread fault

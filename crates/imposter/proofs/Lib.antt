@@ -1,5 +1,4 @@
 mod Beginning
-mod Counts
 mod Faults
 mod FoundRows
 mod Passing

@@ -1,6 +1,5 @@
 -- What calls over a store say, joined to what was read before.
-use Rattle.std.proofs.Common.{◌≡◌, ℕ, ℤ, ◌+◌, ◌-◌, List, length, Option, Some, Result, IfErr, ◌∙◌, subst}
-use Rattle.std.proofs.Math.Path.{subst⁻¹}
+use Rattle.std.proofs.Common.{◌≡◌, ℕ, ℤ, List, Option, Result, IfErr, ◌∙◌, subst}
 use Rattle.rbu_value.specs.declared.value.Value.{Value}
 use Rattle.page_spec.specs.Freelists.{Trunk}
 use Rattle.page_spec.specs.Pages.{Pages}
@@ -10,12 +9,13 @@ use Rattle.tree_spec.specs.declared.TreeKind.TheVariants.{Table}
 use Rattle.tree_spec.specs.Trees.{Rooted, root_of}
 use Rattle.tree_spec.specs.Standing.{Sizes, Paged}
 use Rattle.tree_spec.specs.Worlds.{IsWorld, with_tree}
-use Rattle.tree_pages.specs.Writers.{paged, sizes_of}
+use Rattle.tree_pages.specs.Writers.{sizes_of}
 use Rattle.pass_fault.specs.declared.fault.PassFault.{PassFault}
 use Rattle.row_writes.specs.declared.write.RowWrite.{RowWrite}
+use Rattle.pass_fault.specs.Faults.{room_in}
 use Rattle.imposter.specs.declared.target.Target.{Target}
 use Rattle.imposter.specs.Steps.{IsFaultMet, IsFaultWriting, RefusesMet, RefusesWriting}
-use Rattle.imposter.specs.Writes.{IsWriteFault, RefusesWrite, room_in}
+use Rattle.imposter.specs.Writes.{IsWriteFault, RefusesWrite}
 
 module _ {P F : Type 0} (g : Ghosts P F) (target : Target) (a b c : P) (sizes : sizes_of g b ≡ sizes_of g a) (count : g.count b ≡ g.count a) (same : g.pages b ≡ g.pages a) (r rowid : ℤ) (back : r ≡ rowid) where
   -- a world of what was read is one of what stood before

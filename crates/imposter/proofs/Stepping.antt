@@ -1,9 +1,8 @@
 -- What a write makes of the table is what the step leaves.
-use Rattle.std.proofs.Common.{◌≡◌, ◌≢◌, ℕ, ℤ, suc, ◌+◌, ◌-◌, ◌≤◌, ◌<◌, ◌<ℤ◌, ◌&&◌, ◌⊎◌, not, Bool, true, false, List, [], ◌∷◌, length, map, Option, Some, None, Ok, Err, is_some, nat_lt, if◌then◌else◌, refl, sym, ap, ap₂, ◌∙◌, subst, inl, inr, arith}
+use Rattle.std.proofs.Common.{◌≡◌, ℕ, ℤ, suc, ◌+◌, ◌-◌, ◌≤◌, ◌<◌, ◌<ℤ◌, ◌&&◌, Bool, true, List, [], ◌∷◌, length, map, Option, Some, None, Ok, Err, refl, sym, ap, ap₂, ◌∙◌, subst, inl, inr, arith}
 use Rattle.std.proofs.Math.Path.{subst⁻¹}
 use Rattle.std.specs.Prelude.{Contains, option_map}
 use Rattle.std.specs.List.{AllByRecursion, AllZip}
-use Rattle.std.proofs.lemmas.Bool.Decides.{nat_tests}
 use Rattle.rbu_value.specs.declared.value.Value.{Value}
 use Rattle.format_spec.specs.Cell.{local_size, payload_limit}
 use Rattle.format_spec.specs.declared.PageKind.TheVariants.{TableLeaf}
@@ -24,12 +23,10 @@ use Rattle.delete_spec.specs.Deletes.{TakenOut}
 use Rattle.tree_table.specs.Deletes.{DeletesRow, HasDeleted, delete_pages}
 use Rattle.tree_table.specs.Needs.{put_pages as tree_put_pages}
 use Rattle.tree_table.specs.Puts.{HasPut}
-use Rattle.database_spec.specs.declared.catalog.Catalog.{Catalog}
 use Rattle.database_spec.specs.Catalogs.{format_of}
 use Rattle.database_spec.specs.ListsLaws.{PairsByRecursion}
 use Rattle.database_spec.specs.Rows.{TableRow, IsRow}
 use Rattle.prepared_spec.specs.ChangesLaws.{all-has}
-use Rattle.prepared_spec.specs.declared.input_fault.InputFault.{InputFault}
 use Rattle.prepared_spec.specs.declared.input_fault.InputFault.TheVariants.{TargetRecord}
 use Rattle.prepared_spec.specs.declared.input_fault.RecordCause.TheVariants.{SizeOverLimit}
 use Rattle.prepared_spec.specs.InputFaultsLaws.{row-no_cause}
@@ -38,7 +35,7 @@ use Rattle.prepared_spec.specs.NeededPages.{put_pages, step_pages}
 use Rattle.prepared_spec.specs.Outcomes.{row_member}
 use Rattle.prepared_spec.specs.RowKeys.{meets}
 use Rattle.prepared_spec.specs.StepRecords.{greatest_payload, put_row, too_long}
-use Rattle.prepared_spec.specs.Tables.{is_new, makes_row, met_row, new_rowid, stored_values, written_row}
+use Rattle.prepared_spec.specs.Tables.{is_new, new_rowid, stored_values, written_row}
 use Rattle.prepared_spec.specs.declared.input_fault.RecordCause.{RecordCause}
 use Rattle.prepared_spec.specs.declared.violation.Violation.{Violation}
 use Rattle.prepared_spec.specs.StepFaults.{row_fault}
@@ -50,36 +47,20 @@ use Rattle.row_steps.specs.RowSteps.{row_of}
 use Rattle.row_values.specs.Values.{member_with}
 use Rattle.row_writes.specs.declared.write.RowWrite.{RowWrite}
 use Rattle.row_writes.specs.declared.write.RowWrite.TheVariants.{Nothing, Put as PutRecord, Delete}
-use Rattle.row_writes.specs.RowWrites.{IsWritten, Writes, record_of}
+use Rattle.row_writes.specs.RowWrites.{IsWritten, Writes}
 use Rattle.row_writes.specs.StoredLaws.{CanStore, met-can, met-many, stored-many, stored-rowid, stored-without, with_rowid-many, written-can, written-many}
 use Rattle.whole_laws.specs.KeptLaws.{whole-deleted, whole-put}
-use Rattle.whole_laws.specs.WholeWorlds.{IsWholeWorld}
+use Rattle.pass_fault.specs.Faults.{IsRecordOf, IsWanting}
+use Rattle.pass_fault.specs.FaultsLaws.{tree-then}
+use Rattle.pass_fault.specs.NeedsLaws.{is-long, not-long, pages-less}
 use Rattle.imposter.specs.declared.target.Target.{Target}
 use Rattle.imposter.specs.declared.step.RowStep.{RowStep}
 use Rattle.imposter.specs.declared.step.RowStep.TheVariants.{Constraint, Moved}
-use Rattle.imposter.specs.Finds.{FindsMet, IsMetIn, IsMissedIn, IsRecordOf, IsWanting}
+use Rattle.imposter.specs.Finds.{FindsMet, IsMetIn, IsMissedIn}
 use Rattle.imposter.specs.Steps.{CanBeStored, HasStepped, IsDueIn, IsFaultMet, IsFaultOf, IsLongStep, IsStepFault, IsStepOf, StepsMet, due_step}
 use Rattle.imposter.specs.Writes.{DoesWrite, IsLong, write_pages}
-use Rattle.imposter.proofs.Faults.{tree-then}
-use Rattle.imposter.proofs.Counts.{pages-less}
 use Rattle.imposter.proofs.RowsMet.{IsFound, found-rows, members-are, met-is, met-one, new-is, put-met, put-new, put-none}
 use Rattle.imposter.proofs.Short.{IsShort, members-short}
-
--- a record is not over the limit
-not-long : (name : List ℕ) (m : Member) → length m.payload ≤ greatest_payload → too_long name (Some m) ≡ None
-not-long name m le = by (nat_lt greatest_payload (length m.payload)) (let no : nat_lt greatest_payload (length m.payload) ≡ false = grind (arith, nat_tests) in no)
-  where
-    by : (t : Bool) → t ≡ false → (if t then Some (TargetRecord name m.rowid SizeOverLimit) else None) ≡ None
-    by true e = absurd (let h : ◌≡◌ {A = Bool} true false = e in let no : ⊥ = cc in no)
-    by false e = refl
-
--- one that is
-is-long : (name : List ℕ) (m : Member) → greatest_payload < length m.payload → too_long name (Some m) ≡ Some (TargetRecord name m.rowid SizeOverLimit)
-is-long name m less = by (nat_lt greatest_payload (length m.payload)) (let so : nat_lt greatest_payload (length m.payload) ≡ true = grind (arith, nat_tests) in so)
-  where
-    by : (t : Bool) → t ≡ true → (if t then Some (TargetRecord name m.rowid SizeOverLimit) else None) ≡ Some (TargetRecord name m.rowid SizeOverLimit)
-    by true e = refl
-    by false e = absurd (let h : ◌≡◌ {A = Bool} false true = e in let no : ⊥ = cc in no)
 
 module _ (sizes : Sizes) (target : Target) (taken : ℕ) (rowid : ℤ) (p : Prepared) (front : List Rooted) (tree : Rooted) (back : List Rooted) (trunks : List Trunk) (rows : List TableRow) (a : Paged)
     (due : IsDueIn sizes target taken rowid p front tree back trunks rows a) where

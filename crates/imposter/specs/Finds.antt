@@ -1,33 +1,18 @@
--- What is answered of the row that a prepared row meets, and of the schema format.
-use Rattle.std.specs.Prelude.{◌≡◌, ◌≢◌, ◌⊎◌, ◌==◌, if◌then◌else◌, ℕ, ℤ, List, length, Contains, Option, Some, None, Result, Ok, MatchResult}
-use Rattle.format_spec.specs.Header.{schema_format}
+-- What is answered of the row that a prepared row meets.
+use Rattle.std.specs.Prelude.{◌≡◌, ◌≢◌, ◌⊎◌, ℕ, ℤ, List, length, Contains, Option, Some, None, Result, Ok, MatchResult}
 use Rattle.rbu_value.specs.declared.value.Value.{Value}
 use Rattle.schema_spec.specs.declared.schema.Table.{Table}
 use Rattle.tree_spec.specs.declared.TreeKind.TheVariants.{Table as TableTree}
-use Rattle.tree_spec.specs.Faults.{IsOther}
 use Rattle.tree_spec.specs.Trees.{Member}
 use Rattle.tree_spec.specs.Standing.{Sizes, Paged, IsTree}
 use Rattle.tree_walk.specs.declared.cursor.Row.{Row}
-use Rattle.prepared_spec.specs.declared.input_fault.RecordCause.{RecordCause}
 use Rattle.prepared_spec.specs.PreparedRows.{HasCause}
 use Rattle.pass_fault.specs.declared.fault.PassFault.{PassFault}
-use Rattle.pass_fault.specs.Faults.{IsRecordFault, IsTreeFault}
+use Rattle.pass_fault.specs.Faults.{IsRecordFault, IsRecordOf, IsWanting}
 use Rattle.row_values.specs.declared.read.Unread.{Unread}
 use Rattle.row_values.specs.declared.read.Unread.TheVariants.{Cause, Memory}
 use Rattle.row_values.specs.Values.{HasValues, member_with}
 use Rattle.imposter.specs.declared.target.Target.{Target}
-
--- the schema format that page 1 says; 0 is read as 1 (Database File Format, section 1.3.10)
-abbrev pub format_in : List ℕ → ℕ
-format_in page = if schema_format page == 0 then 1 else schema_format page
-
--- refusal 96 with this name, rowid and cause
-abbrev pub IsRecordOf : {F : Type 0} → List ℕ → ℤ → RecordCause → PassFault F → Type 0
-IsRecordOf name rowid cause fault = IsRecordFault (λ table at why. (table ≡ name) × (at ≡ rowid) × (why ≡ cause)) fault
-
--- the store failed or memory is wanting
-abbrev pub IsWanting : {F : Type 0} → PassFault F → Type 0
-IsWanting fault = IsTreeFault IsOther fault
 
 -- a record is none of a row, for this cause, or memory is wanting
 abbrev pub RefusesUnread : {F : Type 0} → List ℕ → ℤ → Unread → PassFault F → Type 0

@@ -1,5 +1,5 @@
 -- What one step of a pass over a table leaves of a store, and what it refuses (The RBU Extension, section 2.1).
-use Rattle.std.specs.Prelude.{◌≡◌, ◌≢◌, ◌⊎◌, ℕ, ℤ, suc, ◌+◌, ◌≤◌, ◌&&◌, not, Bool, true, List, length, Contains, Option, Some, None, is_some, option_map, Result, IfErr}
+use Rattle.std.specs.Prelude.{◌≡◌, ◌≢◌, ◌⊎◌, ℕ, ℤ, suc, ◌+◌, ◌≤◌, ◌&&◌, not, true, List, length, Contains, Option, Some, None, is_some, option_map, Result, IfErr}
 use Rattle.std.specs.List.{AllByRecursion, AllZip}
 use Rattle.rbu_value.specs.declared.value.Value.{Value}
 use Rattle.page_spec.specs.Freelists.{Trunk}
@@ -27,7 +27,7 @@ use Rattle.prepared_spec.specs.StepRecords.{Step, put_row, too_long}
 use Rattle.prepared_spec.specs.Tables.{is_new, makes_row, new_rowid}
 use Rattle.pass_spec.specs.TableSteps.{AreStepped, MeetsRowid}
 use Rattle.pass_fault.specs.declared.fault.PassFault.{PassFault}
-use Rattle.pass_fault.specs.Faults.{IsRecordFault, IsTreeFault}
+use Rattle.pass_fault.specs.Faults.{IsFullFor, IsRecordFault, IsTreeFault, IsWanting, room_in}
 use Rattle.row_values.specs.Values.{member_with}
 use Rattle.row_writes.specs.declared.write.RowWrite.{RowWrite}
 use Rattle.row_writes.specs.RowWrites.{Writes}
@@ -36,8 +36,7 @@ use Rattle.whole_laws.specs.WholeWorlds.{IsWholeWorld}
 use Rattle.imposter.specs.declared.step.RowStep.{RowStep}
 use Rattle.imposter.specs.declared.step.RowStep.TheVariants.{Moved, Constraint}
 use Rattle.imposter.specs.declared.target.Target.{Target}
-use Rattle.imposter.specs.Finds.{IsWanting}
-use Rattle.imposter.specs.Writes.{DoesWrite, IsFullFor, IsWriteFault, room_in}
+use Rattle.imposter.specs.Writes.{DoesWrite, IsWriteFault}
 
 -- the step that is due: what it puts into a table of these rows, and its fault
 abbrev pub due_step : Target → ℕ → ℕ → List TableRow → Prepared → Step

@@ -1,12 +1,10 @@
 -- What writing what a step writes leaves of the pages, and what it refuses.
-use Rattle.std.specs.Prelude.{◌≡◌, ◌⊎◌, ℕ, ℤ, ◌+◌, ◌-◌, ◌<◌, ◌≤◌, List, length, Option, Some, Result, IfErr}
+use Rattle.std.specs.Prelude.{◌≡◌, ◌⊎◌, ℕ, ℤ, ◌+◌, ◌<◌, ◌≤◌, List, length, Option, Some, Result, IfErr}
 use Rattle.format_spec.specs.Cell.{payload_limit}
-use Rattle.page_spec.specs.Freelists.{Trunk, free_pages}
+use Rattle.page_spec.specs.Freelists.{Trunk}
 use Rattle.page_spec.specs.Pages.{Pages}
 use Rattle.page_store.specs.declared.store.PageRead.{Ghosts}
 use Rattle.tree_spec.specs.declared.TreeKind.TheVariants.{Table}
-use Rattle.tree_spec.specs.declared.fault.TreeFault.{TreeFault}
-use Rattle.tree_spec.specs.Faults.{IsFull, IsOther}
 use Rattle.tree_spec.specs.Trees.{Rooted, root_of}
 use Rattle.tree_spec.specs.Standing.{Sizes, Paged}
 use Rattle.tree_spec.specs.Worlds.{IsWorld, greatest_count, with_tree}
@@ -16,16 +14,11 @@ use Rattle.tree_table.specs.Needs.{put_pages}
 use Rattle.tree_table.specs.Puts.{PutsRow}
 use Rattle.prepared_spec.specs.declared.input_fault.RecordCause.TheVariants.{SizeOverLimit}
 use Rattle.pass_fault.specs.declared.fault.PassFault.{PassFault}
-use Rattle.pass_fault.specs.Faults.{IsTreeFault}
+use Rattle.pass_fault.specs.Faults.{IsFullFor, IsRecordOf, IsTreeFault, room_in}
 use Rattle.row_values.specs.Values.{member_with}
 use Rattle.row_writes.specs.declared.write.RowWrite.{RowWrite}
 use Rattle.row_writes.specs.declared.write.RowWrite.TheVariants.{Nothing, Put, Delete}
 use Rattle.imposter.specs.declared.target.Target.{Target}
-use Rattle.imposter.specs.Finds.{IsRecordOf, IsWanting}
-
--- refusal 96 of a record that is too long, or memory is wanting
-abbrev pub RefusesLong : {F : Type 0} → List ℕ → ℤ → PassFault F → Type 0
-RefusesLong name rowid fault = IsWanting fault ⊎ IsRecordOf name rowid SizeOverLimit fault
 
 -- refusal 96 comes of a record that is too long alone
 abbrev pub IsTreeOrLong : {F : Type 0} → Target → ℤ → PassFault F → Type 0
@@ -61,14 +54,6 @@ pub record DoesWrite (sizes : Sizes) (root : ℕ) (rowid : ℤ) (write : RowWrit
   pub fits : FitsCell write
   pub grows : old.count ≤ new.count
   pub rises : new.count ≤ old.count + write_pages sizes.usable write
-
--- the store failed or memory is wanting; or it is refusal 51, with the pages that there are then, and fewer than so many pages could be taken
-abbrev pub IsFullFor : {F : Type 0} → ℕ → ℕ → ℕ → TreeFault F → Type 0
-IsFullFor most room count fault = IsOther fault ⊎ (IsFull count greatest_count fault × (room < most))
-
--- the pages that could be taken: the free ones, and those up to the limit
-abbrev pub room_in : Paged → List Trunk → ℕ
-room_in base trunks = length (free_pages trunks) + (greatest_count - base.count)
 
 -- what writing may refuse
 abbrev pub IsWriteFault : {F : Type 0} → ℕ → Target → ℤ → RowWrite → ℕ → ℕ → PassFault F → Type 0

@@ -6,7 +6,6 @@
 #![tactic(auto)]
 
 mod finding;
-mod format;
 mod laws;
 mod pass;
 mod step;

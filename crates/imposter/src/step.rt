@@ -8,12 +8,11 @@ ghost use Rattle.imposter.specs.Writes.{IsTreeOrLong};
 ghost use Rattle.imposter.specs.Steps.{IsFaultOf, RefusesMet, RefusesRecords, RefusesStep, RefusesWriting, StepsMet, StepsRow, WritesStep};
 
 use crate::finding::find_met;
-use crate::format::read_format;
 use crate::target::Target;
 use crate::writing::write_row;
 use owned_list::OwnedList;
 use page_store::PageWrite;
-use pass_fault::PassFault;
+use pass_fault::{PassFault, read_format};
 use prepared_spec::Violation;
 use rbu_rows::Prepared;
 use rbu_value::Value;

@@ -2,18 +2,15 @@
 ghost use Rattle.std.specs.Prelude.{◌≡◌, ◌≤◌, IfErr, None, OnOk};
 ghost use Rattle.page_store.specs.Store.{HasSizes, OwesBy};
 ghost use Rattle.tree_pages.specs.Writers.{Becomes, sizes_of};
-ghost use Rattle.pass_fault.specs.Faults.{fault_in};
+ghost use Rattle.pass_fault.specs.Faults.{RefusesLong, fault_in};
 ghost use Rattle.row_writes.specs.declared.write.RowWrite.TheVariants.{Put, Delete};
-ghost use Rattle.imposter.specs.Writes.{DoesWrite, IsTreeOrLong, RefusesLong, RefusesWrite};
+ghost use Rattle.imposter.specs.Writes.{DoesWrite, IsTreeOrLong, RefusesWrite};
 
 use crate::target::Target;
 use page_store::PageWrite;
-use pass_fault::PassFault;
-use prepared_spec::RecordCause;
-use rbu_value::Bytes;
+use pass_fault::{PassFault, refuse_long};
 use row_writes::RowWrite;
 use std::alloc::Global;
-use tree_spec::TreeFault;
 use tree_table::{delete, put};
 
 // The most bytes of a payload.
@@ -21,21 +18,6 @@ const MOST_BYTES: usize = 2_147_483_647;
 
 // The most pages of a database.
 const MOST_PAGES: u32 = 16_777_216;
-
-// The refusal of a record that is too long, unless memory is wanting.
-fn refuse_long<F>(alloc: Global, target: &Target, rowid: i64) -> PassFault<F>
-    ensures refuses { RefusesLong target.now.name rowid result }
-    ensures cause { fault_in result ≡ None }
-{
-    match Bytes::of(alloc, target.name.as_slice()) {
-        Ok(table) => PassFault::TargetRecord {
-            table,
-            rowid,
-            cause: RecordCause::SizeOverLimit,
-        },
-        Err(error) => PassFault::Tree(TreeFault::Memory(error)),
-    }
-}
 
 // Puts a row with a record into the table.
 fn put_record<S: PageWrite>(
@@ -55,7 +37,7 @@ fn put_record<S: PageWrite>(
     ensures owes { OwesBy S.PageRead fault_in store.old store.new result }
 {
     if payload.len() > MOST_BYTES {
-        return Err(refuse_long(alloc, target, rowid));
+        return Err(refuse_long(alloc, target.name.as_slice(), rowid));
     }
     match put(alloc, store, target.root, rowid, payload, MOST_PAGES) {
         Ok(()) => Ok(()),

@@ -1,1 +1,4 @@
 pub mod Faults
+pub mod FaultsLaws
+pub mod Formats
+pub mod NeedsLaws

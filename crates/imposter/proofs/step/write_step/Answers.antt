@@ -1,15 +1,15 @@
-use Rattle.std.proofs.Common.{◌≡◌, ℕ, ℤ, OnOk, IfErr, of_z, subst, sym, to_z, inl, inr}
+use Rattle.std.proofs.Common.{◌≡◌, ℕ, ℤ, OnOk, IfErr, of_z, subst, to_z, inl, inr}
 use Rattle.std.proofs.lemmas.Int.{to_z-of_z}
 use Rattle.std.proofs.lemmas.Result.{IfErr-weaker, on_ok_weaker}
 use Rattle.std.specs.Int.{w64}
 use Rattle.page_spec.specs.Pages.{Pages}
 use Rattle.page_store.specs.StoreLaws.{IfSome-told}
-use Rattle.tree_pages.specs.Writers.{Becomes, paged, sizes_of}
+use Rattle.tree_pages.specs.Writers.{Becomes, sizes_of}
 use Rattle.tree_pages.specs.WritersLaws.{becomes-read, sizes-same}
 use Rattle.row_writes.specs.RowWrites.{Writes}
-use Rattle.imposter.specs.Finds.{format_in}
-use Rattle.imposter.specs.Writes.{DoesWrite, IsTreeOrLong, RefusesWrite}
-use Rattle.imposter.proofs.Faults.{tree-then}
+use Rattle.pass_fault.specs.Formats.{format_in}
+use Rattle.imposter.specs.Writes.{DoesWrite, IsTreeOrLong}
+use Rattle.pass_fault.specs.FaultsLaws.{tree-then}
 use Rattle.imposter.proofs.ReadWrites.{write-read}
 use Rattle.imposter.proofs.step.write_step.Goals as goal
 

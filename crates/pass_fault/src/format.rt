@@ -3,11 +3,11 @@ ghost use Rattle.std.specs.Prelude.{◌≡◌, ◌≤◌, IfErr, IfOk, None, len
 ghost use Rattle.page_store.specs.Store.{HasSizes, Looks, OwesBy};
 ghost use Rattle.tree_spec.specs.Faults.{IsOther};
 ghost use Rattle.pass_fault.specs.Faults.{IsTreeFault, fault_in};
-ghost use Rattle.imposter.specs.Finds.{format_in};
+ghost use Rattle.pass_fault.specs.Formats.{format_in};
 
+use crate::fault::PassFault;
 use byte_fields::u32_at;
 use page_store::{PageRead, page_buffer};
-use pass_fault::PassFault;
 use std::alloc::Global;
 use tree_spec::TreeFault;
 
@@ -38,11 +38,8 @@ fn format_of(page: &[u8]) -> u32
     format
 }
 
-/// The schema format of the database that a store has, under which records are written.
-pub(crate) fn read_format<S: PageRead>(
-    alloc: Global,
-    store: &mut S,
-) -> Result<u32, PassFault<S::Fault>>
+/// The schema format of the database that a store has, from 1 on, under which records are written. Fails where the store does, or memory runs out.
+pub fn read_format<S: PageRead>(alloc: Global, store: &mut S) -> Result<u32, PassFault<S::Fault>>
     requires sizes { HasSizes S.PageRead store.old }
     requires some { 1 ≤ S.count store.old }
     ensures pages { Looks S.PageRead store.old store.new result (λ format m. format ≡ format_in (m 1)) }

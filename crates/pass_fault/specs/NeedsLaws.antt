@@ -1,10 +1,14 @@
--- More bytes fill no fewer pages.
-use Rattle.std.proofs.Common.{◌≡◌, ℕ, zero, suc, ◌+◌, ◌-◌, ◌*◌, ◌/◌, ◌%◌, ◌<◌, ◌≤◌, ◌==◌, ◌⊎◌, Bool, true, false, if◌then◌else◌, refl, ap, inl, inr, arith}
+-- How many pages a record needs, and which record no cell can have: crates above cite these facts in their proofs.
+use Rattle.std.proofs.Common.{◌≡◌, ℕ, zero, suc, ◌+◌, ◌-◌, ◌*◌, ◌/◌, ◌%◌, ◌<◌, ◌≤◌, ◌==◌, ◌⊎◌, Bool, true, false, List, length, Some, None, nat_lt, if◌then◌else◌, refl, ap, inl, inr, arith}
 use Rattle.std.proofs.Math.Nat.{div-mul-le_self, div-zero, mod-zero}
 use Rattle.std.proofs.lemmas.Bool.{cases_lt}
 use Rattle.std.proofs.lemmas.Bool.Decides.{nat_tests}
 use Rattle.std.proofs.lemmas.Nat.{le-div}
 use Rattle.page_spec.specs.Chains.{pages_for}
+use Rattle.tree_spec.specs.Trees.{Member}
+use Rattle.prepared_spec.specs.declared.input_fault.InputFault.TheVariants.{TargetRecord}
+use Rattle.prepared_spec.specs.declared.input_fault.RecordCause.TheVariants.{SizeOverLimit}
+use Rattle.prepared_spec.specs.StepRecords.{greatest_payload, too_long}
 
 abbrev some_of : ℕ → ℕ
 some_of n = if n == 0 then 0 else 1
@@ -39,5 +43,22 @@ parts-less (suc d) a b le =
     let n = suc d in
     joined-less (a / n) (b / n) (a % n) (b % n) (some_of (a % n)) (some_of (b % n)) (front-less n a b (omega arith) le) (rest-less n a b (omega arith) le) (some-cases (a % n)) (some-cases (b % n))
 
+-- more bytes fill no fewer pages
 pub pages-less : (usable a b : ℕ) → a ≤ b → pages_for usable a ≤ pages_for usable b
 pages-less usable a b le = parts-less (usable - 4) a b le
+
+-- a record is not over the limit
+pub not-long : (name : List ℕ) (m : Member) → length m.payload ≤ greatest_payload → too_long name (Some m) ≡ None
+not-long name m le = by (nat_lt greatest_payload (length m.payload)) (let no : nat_lt greatest_payload (length m.payload) ≡ false = grind (arith, nat_tests) in no)
+  where
+    by : (t : Bool) → t ≡ false → (if t then Some (TargetRecord name m.rowid SizeOverLimit) else None) ≡ None
+    by true e = absurd (let h : ◌≡◌ {A = Bool} true false = e in let no : ⊥ = cc in no)
+    by false e = refl
+
+-- one that is
+pub is-long : (name : List ℕ) (m : Member) → greatest_payload < length m.payload → too_long name (Some m) ≡ Some (TargetRecord name m.rowid SizeOverLimit)
+is-long name m less = by (nat_lt greatest_payload (length m.payload)) (let so : nat_lt greatest_payload (length m.payload) ≡ true = grind (arith, nat_tests) in so)
+  where
+    by : (t : Bool) → t ≡ true → (if t then Some (TargetRecord name m.rowid SizeOverLimit) else None) ≡ Some (TargetRecord name m.rowid SizeOverLimit)
+    by true e = refl
+    by false e = absurd (let h : ◌≡◌ {A = Bool} false true = e in let no : ⊥ = cc in no)

@@ -1,0 +1,3 @@
+mod Midway
+mod Reading
+mod Stepping
